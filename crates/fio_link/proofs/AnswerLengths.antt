@@ -6,7 +6,7 @@ use Rattle.fio_message.specs.Octets.{entry_octets}
 use Rattle.fio_message.specs.declared.commands.Command.TheVariants.{Poll}
 use Rattle.fio_message.specs.declared.commands.Command.TheVariants as commands
 use Rattle.fio_link.specs.declared.event.Event.TheVariants as events
-use Rattle.fio_link.specs.Rate.{frame_length, answer_length}
+use Rattle.fio_link.specs.Rate.{frame_length, octets_answered}
 use Rattle.fio_link.proofs.Events.{frame_at_place}
 use Rattle.fio_link.proofs.Kept.{after_frame, after_poll}
 use Rattle.fio_link.proofs.Places.{get_push}
@@ -63,7 +63,7 @@ length_sent sending =
 pub answer_is_sent : (settings : Settings) (first round : ℕ) (machine : Machine) (place : ℕ)
     → slice_get machine.to_module place ≡ Some (poll_frame first round)
     → (sending : Sending) × (latest_sending settings (Commanded (Poll (number_of first round)) ∷ life_of machine.history) ≡ Some sending)
-    × (answer_length settings first machine (place + 1) ≡ 8 + 3 * length sending.entries)
+    × (octets_answered settings first machine (place + 1) ≡ 8 + 3 * length sending.entries)
 answer_is_sent settings first round machine place at =
     let number = number_of first round in
     let frame = poll_frame first round in

@@ -7,13 +7,13 @@ use Rattle.fio_module.proofs.ExactBounds.{kept_up_keeps_up_exactly}
 use Rattle.fio_module.proofs.Pace.{each_before}
 use Rattle.fio_module.proofs.Polling.{kept_up_keeps_up}
 use Rattle.fio_link.specs.declared.event.Event.TheVariants as events
-use Rattle.fio_link.specs.declared.line.Line.{Line}
+use Rattle.fio_link.specs.declared.line.TimedLine.{TimedLine}
 use Rattle.fio_link.specs.declared.line.Traffic.{Traffic}
 use Rattle.fio_link.specs.Delivery.{IsCleanRound, IsWithinRound}
 use Rattle.fio_link.proofs.MadeBlocks.{each-append}
 use Rattle.fio_link.specs.KeptUp.{scans_of_pause, receipts_of, RoundsAfter, IsRoundAfter}
 use Rattle.fio_link.specs.Pace.{IsPace, traffic_of, clean_pace, most_behind, most_entries, poll_scans, answer_scans, round_scans}
-use Rattle.fio_link.specs.Rate.{IsNextRound, IsRoundOnLine, answer_length}
+use Rattle.fio_link.specs.Rate.{IsNextRound, IsRoundOnLine, octets_answered}
 use Rattle.fio_link.proofs.AnswerLengths.{TakesFew, few_since, answer_is_sent}
 use Rattle.fio_link.proofs.Grown.{grows, scans_grown, leads_on-then}
 use Rattle.fio_link.proofs.KeptUp.{Reached, reached}
@@ -44,7 +44,7 @@ round_leads_on settings first begin receipt last c =
     )
 
 -- so does the next round on a line
-pub next_leads_on : (settings : Settings) (first : ℕ) (line : Line) (pace lost : ℕ) (earlier done begin receipt last : Machine)
+pub next_leads_on : (settings : Settings) (first : ℕ) (line : TimedLine) (pace lost : ℕ) (earlier done begin receipt last : Machine)
     → IsNextRound settings first line pace lost earlier done begin receipt last → LeadsOn settings first done last
 next_leads_on settings first line pace lost earlier done begin receipt last n =
     let r = round_leads_on settings first begin receipt last n.round.round in
@@ -57,7 +57,7 @@ each-both P Q R both [] p q = both [] p q
 each-both P Q R both (occurrence ∷ l) p q = (both (occurrence ∷ l) p.0 q.0, each-both P Q R both l p.1 q.1)
 
 module _ (settings : Settings) (range : AreInRange settings) (first : ℕ) (machine : Machine) (o : IsOpen settings range first machine)
-    (line : Line) (opened filter pace : ℕ) (p : IsPace line (traffic_of settings opened filter) pace) (some_wait : 1 ≤ settings.waiting)
+    (line : TimedLine) (opened filter pace : ℕ) (p : IsPace line (traffic_of settings opened filter) pace) (some_wait : 1 ≤ settings.waiting)
     (some : 1 ≤ filter) (settled : IsSettled settings first machine) where
   abbrev life : Life
   life = life_of machine.history
@@ -240,7 +240,7 @@ module _ (settings : Settings) (range : AreInRange settings) (first : ℕ) (mach
         omega (arith, count, newest, same, at_begin.since.started)
 
     -- so the answer is no longer than it may be, and the round ends in time
-    few_octets : answer_length settings first receipt (length begin.to_module + 1) ≤ 8 + 3 * most_entries line traffic pace
+    few_octets : octets_answered settings first receipt (length begin.to_module + 1) ≤ 8 + 3 * most_entries line traffic pace
     few_octets =
         let sent = answer_is_sent settings first begin.round receipt (length begin.to_module)
         (poll_stays settings range first begin receipt last at_begin.is_open.always clean) in
@@ -256,7 +256,7 @@ module _ (settings : Settings) (range : AreInRange settings) (first : ℕ) (mach
           near = (near_now, so_far.near);
           left = left_now;
           ends =
-              let scans_more = more_scans line (answer_length settings first receipt (length begin.to_module + 1)) (8 + 3 * most_entries line traffic pace) p.some_rate few_octets in
+              let scans_more = more_scans line (octets_answered settings first receipt (length begin.to_module + 1)) (8 + 3 * most_entries line traffic pace) p.some_rate few_octets in
               omega (arith, n.round.answer);
           order = no_fewer settings first receipt last (round_leads_on settings first begin receipt last clean).1;
         }

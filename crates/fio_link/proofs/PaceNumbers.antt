@@ -6,7 +6,7 @@ use Rattle.std.proofs.Math.Nat.{div-lt_iff_lt-mul, div-mul-le_self, le-div_iff_m
 use Rattle.fio_wire.specs.Lengths.{most_bits}
 use Rattle.fio_wire.specs.declared.line_kind.LineKind.{LineKind}
 use Rattle.fio_wire.specs.declared.line_kind.LineKind.TheVariants.{Asynchronous, Synchronous}
-use Rattle.fio_link.specs.declared.line.Line.{Line}
+use Rattle.fio_link.specs.declared.line.TimedLine.{TimedLine}
 use Rattle.fio_link.specs.declared.line.Traffic.{Traffic}
 use Rattle.fio_link.specs.Pace.{HasNoPaceBelow, IsPace, answer_scans, clean_pace, most_entries, scans_on_line}
 
@@ -19,7 +19,7 @@ div-more : (a b k : ℕ) → 1 ≤ k → a ≤ b → a / k ≤ b / k
 div-more a b k some le = let low = div-mul-le_self a k in (le-div_iff_mul-le {k = k} {x = a / k} {y = b} some).1 (omega arith)
 
 -- and no fewer scans
-pub more_scans : (line : Line) (few many : ℕ) → 1 ≤ line.rate → few ≤ many → answer_scans line few ≤ answer_scans line many
+pub more_scans : (line : TimedLine) (few many : ℕ) → 1 ≤ line.rate → few ≤ many → answer_scans line few ≤ answer_scans line many
 more_scans line few many some le =
     let bits = more_bits line.kind few many le in
     let scans = div-more (1000 * (most_bits line.kind 2 + most_bits line.kind few + line.other) + (line.rate - 1))
@@ -73,7 +73,7 @@ no_more_scans opened filter per_block scans blocks some_open some takes =
     omega arith
 
 -- no slower pace is one, if blocks do not make up for all scans at this one
-none_slower : (line : Line) (traffic : Traffic) (pace n : ℕ) → pace ≤ n → traffic.per_block * traffic.filter < traffic.opened * clean_pace line pace
+none_slower : (line : TimedLine) (traffic : Traffic) (pace n : ℕ) → pace ≤ n → traffic.per_block * traffic.filter < traffic.opened * clean_pace line pace
     → IsPace line traffic n → ⊥
 none_slower line traffic pace n le many p =
     let apart : (line.lost + 1) * pace ≤ (line.lost + 1) * n = mul-le-mul_left (line.lost + 1) le in
@@ -81,7 +81,7 @@ none_slower line traffic pace n le many p =
     omega (arith, p.enough)
 
 -- so there is none, if none is below it
-pub none_at_all : (line : Line) (traffic : Traffic) (pace : ℕ) → HasNoPaceBelow line traffic pace
+pub none_at_all : (line : TimedLine) (traffic : Traffic) (pace : ℕ) → HasNoPaceBelow line traffic pace
     → traffic.per_block * traffic.filter < traffic.opened * clean_pace line pace → (n : ℕ) → IsPace line traffic n → ⊥
 none_at_all line traffic pace below many n p =
     elim (cases_lt n pace) as (λ _. ⊥) [
@@ -90,7 +90,7 @@ none_at_all line traffic pace below many n p =
     ]
 
 -- blocks never make up for so many scans
-pub most_are_too_many : (line : Line) (traffic : Traffic) → 1 ≤ traffic.opened → traffic.per_block ≤ 255 → traffic.filter ≤ 255
+pub most_are_too_many : (line : TimedLine) (traffic : Traffic) → 1 ≤ traffic.opened → traffic.per_block ≤ 255 → traffic.filter ≤ 255
     → traffic.per_block * traffic.filter < traffic.opened * clean_pace line (255 * 255 + 1)
 most_are_too_many line traffic some few_entries few_samples =
     let more : 1 ≤ line.lost + 1 = omega arith in
@@ -100,7 +100,7 @@ most_are_too_many line traffic some few_entries few_samples =
     omega arith
 
 -- one number more is no pace
-pub none_below_more : (line : Line) (traffic : Traffic) (pace : ℕ) → HasNoPaceBelow line traffic pace → (IsPace line traffic pace → ⊥)
+pub none_below_more : (line : TimedLine) (traffic : Traffic) (pace : ℕ) → HasNoPaceBelow line traffic pace → (IsPace line traffic pace → ⊥)
     → HasNoPaceBelow line traffic (pace + 1)
 none_below_more line traffic pace below none n less p =
     elim (cases_lt n pace) as (λ _. ⊥) [
@@ -113,7 +113,7 @@ some_bits : (kind : LineKind) → 1 ≤ most_bits kind 2
 some_bits (Asynchronous stop) = omega arith
 some_bits Synchronous = omega arith
 
-pub none_below_one : (line : Line) (traffic : Traffic) → HasNoPaceBelow line traffic 1
+pub none_below_one : (line : TimedLine) (traffic : Traffic) → HasNoPaceBelow line traffic 1
 none_below_one line traffic zero less p =
     let bits = some_bits line.kind in
     let all = most_bits line.kind 2 + most_bits line.kind (8 + 3 * most_entries line traffic 0) + line.other in

@@ -2,7 +2,7 @@
 use Rattle.fio_link.proofs.Names.{◌≡◌, ℕ, ◌+◌, ◌-◌, ◌*◌, ◌≤◌, Bool, true, false, List, [], ◌∷◌, ◌++◌, drop, refl, ap, sym, subst, ◌∙◌, arith, append_assoc, append_cancel_right, AllByRecursion, HasFewOpen, if◌then◌else◌, nat_lt, nat_tests, Settings, AreInRange, Life, life_of, scans_of, filter_events, log_of, Machine, end_recorded, IsSettled, LeadsInTime, LeadsOn, IsWithin, left_behind}
 use Rattle.std.proofs.Common.{◌/◌}
 use Rattle.fio_module.proofs.Pace.{each_before}
-use Rattle.fio_link.specs.declared.line.Line.{Line}
+use Rattle.fio_link.specs.declared.line.TimedLine.{TimedLine}
 use Rattle.fio_link.specs.KeptUp.{Arrives, IsLateBy}
 use Rattle.fio_link.specs.Pace.{IsPace, traffic_of, clean_pace, most_behind, most_changes, round_scans}
 use Rattle.fio_link.specs.Rate.{ArrivesAtRate, ArrivesInTimeAtARate, IsNoLater, IsPolledAtAPace, RoundsOnLine}
@@ -16,7 +16,7 @@ use Rattle.fio_link.proofs.Promises.{opens}
 use Rattle.fio_link.proofs.Settled.{IsOpen}
 
 module _ (settings : Settings) (range : AreInRange settings) (first : ℕ) (machine : Machine) (o : IsOpen settings range first machine)
-    (line : Line) (opened filter pace : ℕ) (p : IsPace line (traffic_of settings opened filter) pace) (some_wait : 1 ≤ settings.waiting)
+    (line : TimedLine) (opened filter pace : ℕ) (p : IsPace line (traffic_of settings opened filter) pace) (some_wait : 1 ≤ settings.waiting)
     (some : 1 ≤ filter) (settled : IsSettled settings first machine) where
   abbrev life : Life
   life = life_of machine.history

@@ -8,13 +8,13 @@ use Rattle.fio_module.specs.Log.{transitions_below}
 use Rattle.fio_module.proofs.Densest.{items_below}
 use Rattle.fio_wire.specs.declared.line_kind.LineKind.TheVariants.{Synchronous}
 use Rattle.fio_link.specs.declared.event.Event.TheVariants as events
-use Rattle.fio_link.specs.declared.line.Line.{Line}
+use Rattle.fio_link.specs.declared.line.TimedLine.{TimedLine}
 use Rattle.fio_link.specs.Sharpness.{IsAsLateAtARate}
 use Rattle.fio_link.proofs.DenseRuns.{done, dense, leads_scans, no_restart}
 use Rattle.fio_link.proofs.Sharpness.{standard, beginning, machine0, run0, taken0, waits0, life0, filters0, polls0}
 use Rattle.fio_link.proofs.WithinRounds.{nothing_between_is_clean}
 
-abbrev pub fast : Line
+abbrev pub fast : TimedLine
 fast = record { kind = Synchronous; rate = 614400; answer = 0; other = 0; lost = 0 }
 
 -- one round in which nothing is taken, and 8 scans, the last 4 of them while the next round goes on

@@ -10,16 +10,16 @@ use Rattle.fio_module.proofs.Densest.{items_below, densest, filters_of_1}
 use Rattle.fio_cpu.specs.declared.record.Item.TheVariants as items
 use Rattle.fio_wire.specs.declared.line_kind.LineKind.TheVariants.{Synchronous}
 use Rattle.fio_link.specs.declared.event.Event.TheVariants as events
-use Rattle.fio_link.specs.declared.line.Line.{Line}
+use Rattle.fio_link.specs.declared.line.TimedLine.{TimedLine}
 use Rattle.fio_link.specs.Pace.{answer_scans}
-use Rattle.fio_link.specs.Rate.{IsNextRound, answer_length}
+use Rattle.fio_link.specs.Rate.{IsNextRound, octets_answered}
 use Rattle.fio_link.specs.Sharpness.{LosesWhereARoundIsLonger}
 use Rattle.fio_link.proofs.DenseRuns.{done, dense}
 
 abbrev pub settings : Settings
 settings = record { id = 0; per_block = 64; waiting = 128 }
 
-abbrev pub slow : Line
+abbrev pub slow : TimedLine
 slow = record { kind = Synchronous; rate = 2000000; answer = 0; other = 1900; lost = 0 }
 
 abbrev beginning : List Event
@@ -126,7 +126,7 @@ stays machine = record { events = []; no_restart = tt; leads = refl }
 next_round_now : (earlier begin last : Machine) → next_round begin.polls ≡ begin.round
     → IsCleanRound settings 0 begin (after settings 0 begin events.Poll) last
     → scans_of (life_of last.history) ≡ scans_of (life_of begin.history) + 2
-    → 2 ≤ answer_scans slow (answer_length settings 0 (after settings 0 begin events.Poll) (length begin.to_module + 1))
+    → 2 ≤ answer_scans slow (octets_answered settings 0 (after settings 0 begin events.Poll) (length begin.to_module + 1))
     → IsNextRound settings 0 slow 1 0 earlier begin begin (after settings 0 begin events.Poll) last
 next_round_now earlier begin last taken clean scans slow_answer =
     record {
@@ -140,15 +140,15 @@ next_round_now earlier begin last taken clean scans slow_answer =
     }
 
 -- blocks of 64 entries take 2 scans, and so does one without entries, of 8 octets
-slow1 : 2 ≤ answer_scans slow (answer_length settings 0 receipt1 (length machine0.to_module + 1))
+slow1 : 2 ≤ answer_scans slow (octets_answered settings 0 receipt1 (length machine0.to_module + 1))
 unfolding machine0 done dense items_below message_in is_set transitions_below
 slow1 = omega arith
 
-slow2 : 2 ≤ answer_scans slow (answer_length settings 0 receipt2 (length machine1.to_module + 1))
+slow2 : 2 ≤ answer_scans slow (octets_answered settings 0 receipt2 (length machine1.to_module + 1))
 unfolding machine0 machine1 done dense items_below message_in is_set transitions_below
 slow2 = omega arith
 
-slow3 : 2 ≤ answer_scans slow (answer_length settings 0 receipt3 (length machine2.to_module + 1))
+slow3 : 2 ≤ answer_scans slow (octets_answered settings 0 receipt3 (length machine2.to_module + 1))
 unfolding machine0 machine1 machine2 done dense items_below message_in is_set transitions_below
 slow3 = omega arith
 

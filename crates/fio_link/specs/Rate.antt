@@ -7,7 +7,7 @@ use Rattle.fio_module.specs.Settings.{Settings}
 use Rattle.fio_module.specs.Life.{Life, life_of, scans_of, filter_events}
 use Rattle.fio_module.specs.Log.{log_of}
 use Rattle.fio_link.specs.declared.event.Event.TheVariants.{ToModule}
-use Rattle.fio_link.specs.declared.line.Line.{Line}
+use Rattle.fio_link.specs.declared.line.TimedLine.{TimedLine}
 use Rattle.fio_link.specs.Link.{SentFrame, Machine, after, item_numbered}
 use Rattle.fio_link.specs.Rounds.{next_round}
 use Rattle.fio_link.specs.Delivery.{IsCleanRound}
@@ -20,20 +20,20 @@ frame_length None = 0
 frame_length (Some frame) = length frame.octets
 
 -- how many octets the answer has that the module gives when it receives the frame with this number
-abbrev pub answer_length : Settings → ℕ → Machine → ℕ → ℕ
-answer_length settings first receipt index =
+abbrev pub octets_answered : Settings → ℕ → Machine → ℕ → ℕ
+octets_answered settings first receipt index =
     frame_length (item_numbered (after settings first receipt (ToModule index)).to_cpu (length receipt.to_cpu + 1))
 
 -- A clean round on a line: the poll arrives as soon as its bits and those of other traffic have been on the line, and so
 -- does the answer, which the module begins in time.
-pub record IsRoundOnLine (settings : Settings) (first : ℕ) (line : Line) (begin receipt last : Machine) : Type 0 where
+pub record IsRoundOnLine (settings : Settings) (first : ℕ) (line : TimedLine) (begin receipt last : Machine) : Type 0 where
   pub round : IsCleanRound settings first begin receipt last
   pub poll : IsWithin (poll_scans line) begin receipt
   pub answer :
-      IsWithin (answer_scans line (answer_length settings first receipt (length begin.to_module + 1))) begin last
+      IsWithin (answer_scans line (octets_answered settings first receipt (length begin.to_module + 1))) begin last
 
 -- The next clean round, after one that began at `earlier` and ended at `done`. `lost` rounds between them are lost.
-pub record IsNextRound (settings : Settings) (first : ℕ) (line : Line) (pace lost : ℕ)
+pub record IsNextRound (settings : Settings) (first : ℕ) (line : TimedLine) (pace lost : ℕ)
     (earlier done begin receipt last : Machine) : Type 0 where
   -- the CPU polls again `pace` scans after the poll before, or as soon as it has heard the answer, if that is later; until
   -- then the module receives no other poll
@@ -50,7 +50,7 @@ pub record IsNextRound (settings : Settings) (first : ℕ) (line : Line) (pace l
 
 -- Clean rounds on a line since a machine, given newest first by how many rounds were lost before each. The newest began at
 -- `begin`, the module received its poll at `receipt`, and it ended at `last`.
-abbrev pub RoundsOnLine : Settings → ℕ → Line → ℕ → Machine → List ℕ → Machine → Machine → Machine → Type 0
+abbrev pub RoundsOnLine : Settings → ℕ → TimedLine → ℕ → Machine → List ℕ → Machine → Machine → Machine → Type 0
 RoundsOnLine settings first line pace machine [] begin receipt last =
     (begin ≡ machine) × (receipt ≡ machine) × (last ≡ machine)
 RoundsOnLine settings first line pace machine (lost ∷ losses) begin receipt last =
@@ -60,7 +60,7 @@ RoundsOnLine settings first line pace machine (lost ∷ losses) begin receipt la
 
 -- Polled at a pace over a line, from a settled point on: no more rounds in a row are lost than the line may lose, and few
 -- inputs stay open.
-pub record IsPolledAtAPace (settings : Settings) (first : ℕ) (line : Line) (opened filter pace : ℕ)
+pub record IsPolledAtAPace (settings : Settings) (first : ℕ) (line : TimedLine) (opened filter pace : ℕ)
     (machine : Machine) (losses : List ℕ) (begin receipt last : Machine) (later : Life) : Type 0 where
   pub some_wait : 1 ≤ settings.waiting
   pub some : 1 ≤ filter
@@ -78,7 +78,7 @@ IsNoLater settings late now =
     (drop (end_recorded settings now) (log_of (life_of now.history)))
 
 -- What arrives at a rate: the round ends before the next one, nothing is lost, and no transition is late.
-pub record ArrivesAtRate (settings : Settings) (first : ℕ) (line : Line) (opened filter pace : ℕ)
+pub record ArrivesAtRate (settings : Settings) (first : ℕ) (line : TimedLine) (opened filter pace : ℕ)
     (machine begin last : Machine) : Type 0 where
   pub ends : IsWithin (round_scans line (traffic_of settings opened filter) pace) begin last
   pub whole : HasGainedAll settings machine last
@@ -92,7 +92,7 @@ pub record ArrivesAtRate (settings : Settings) (first : ℕ) (line : Line) (open
 -- polled at a pace of its line, a link loses nothing and is never late
 abbrev pub ArrivesInTimeAtARate : Settings → ℕ → Machine → Type 0
 ArrivesInTimeAtARate settings first machine =
-    (line : Line) (opened filter pace : ℕ) (losses : List ℕ) (begin receipt last : Machine) (later : Life) →
+    (line : TimedLine) (opened filter pace : ℕ) (losses : List ℕ) (begin receipt last : Machine) (later : Life) →
     IsPace line (traffic_of settings opened filter) pace →
     IsPolledAtAPace settings first line opened filter pace machine losses begin receipt last later →
     ArrivesAtRate settings first line opened filter pace machine begin last

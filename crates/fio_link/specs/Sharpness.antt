@@ -13,7 +13,7 @@ use Rattle.fio_link.specs.Delivery.{HasNothingBetween}
 use Rattle.fio_link.specs.Settled.{IsSettled, end_recorded, IsWithin, LeadsInTime, LeadsOn}
 use Rattle.fio_link.specs.KeptUp.{Pause, scans_of_pause, RoundsAfter, AreInTime}
 use Rattle.fio_link.specs.StandardLinks.{IsStandardLink}
-use Rattle.fio_link.specs.declared.line.Line.{Line}
+use Rattle.fio_link.specs.declared.line.TimedLine.{TimedLine}
 use Rattle.fio_link.specs.Pace.{IsPace, clean_pace, most_behind, most_late, round_scans, traffic_of}
 use Rattle.fio_link.specs.Rate.{IsPolledAtAPace}
 
@@ -84,7 +84,7 @@ pub record LosesWhereAScanLater (settings : Settings) (filter scans : ℕ) : Typ
 
 -- A link without restarts that is polled at a pace of its line, at its edge: a round takes the whole pace. Before the next
 -- clean round ends it lacks a transition that is as old as the bound says.
-pub record IsAsLateAtARate (line : Line) (opened filter pace late : ℕ) : Type 0 where
+pub record IsAsLateAtARate (line : TimedLine) (opened filter pace late : ℕ) : Type 0 where
   pub id : ℕ
   pub first : ℕ
   pub events : List Event
@@ -110,7 +110,7 @@ pub record IsAsLateAtARate (line : Line) (opened filter pace late : ℕ) : Type 
   pub old : scans_of (life_of now.history) ≡ transition.scans + late
 
 -- A link whose rounds take one scan more than its pace, at which all else is as for a pace. Its record has a gap mark.
-pub record LosesWhereARoundIsLonger (settings : Settings) (line : Line) (opened filter pace : ℕ) : Type 0 where
+pub record LosesWhereARoundIsLonger (settings : Settings) (line : TimedLine) (opened filter pace : ℕ) : Type 0 where
   pub in_range : AreInRange settings
   pub first : ℕ
   pub events : List Event

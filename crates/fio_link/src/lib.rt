@@ -19,5 +19,5 @@ mod line;
 mod planning;
 
 pub use event::Event;
-pub use line::{Line, Traffic};
+pub use line::{TimedLine, Traffic};
 pub use planning::{Pace, plan};

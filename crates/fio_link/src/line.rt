@@ -3,7 +3,7 @@ use fio_wire::LineKind;
 
 /// The line between the two ends.
 #[derive(Clone, Copy, Debug, PartialEq, Eq)]
-pub struct Line {
+pub struct TimedLine {
     pub kind: LineKind,
     /// How many bits it carries in 1,000 scans.
     pub rate: u32,

@@ -4,7 +4,7 @@ ghost use Rattle.fio_wire.specs.Lengths.{most_bits};
 ghost use Rattle.fio_link.specs.declared.planning.Pace.{Pace};
 ghost use Rattle.fio_link.specs.Pace.{HasNoPaceBelow, IsPace, answer_scans, clean_pace, held_over, most_behind, most_changes, most_entries, most_late, most_load, poll_scans, round_scans, scans_on_line};
 
-use crate::line::{Line, Traffic};
+use crate::line::{TimedLine, Traffic};
 
 // More scans than a block makes up for: 255 entries, at filters of 255.
 const MORE_THAN_ANY: u32 = 255 * 255 + 1;
@@ -34,7 +34,7 @@ fn scans_on_line(rate: u32, bits: u64) -> u64
 }
 
 /// Returns how many scans come at most until the module has a poll.
-fn poll_scans(line: Line) -> u64
+fn poll_scans(line: TimedLine) -> u64
     requires { 1 ≤ line.rate }
     ensures value { result ≡ poll_scans line }
     ensures within { result < 2 ^ 45 }
@@ -43,7 +43,7 @@ fn poll_scans(line: Line) -> u64
 }
 
 /// Returns how many bits a round takes at most, if the answer is of this number of octets.
-fn round_bits(line: Line, octets: u16) -> u64
+fn round_bits(line: TimedLine, octets: u16) -> u64
     ensures value { result ≡ most_bits line.kind 2 + most_bits line.kind octets + line.other }
     ensures within { result < 2 ^ 33 }
 {
@@ -51,7 +51,7 @@ fn round_bits(line: Line, octets: u16) -> u64
 }
 
 /// Returns how many scans come at most until the CPU has an answer of this number of octets.
-fn answer_scans(line: Line, octets: u16) -> u64
+fn answer_scans(line: TimedLine, octets: u16) -> u64
     requires { 1 ≤ line.rate }
     ensures value { result ≡ answer_scans line octets }
     ensures within { result < 2 ^ 46 }
@@ -69,7 +69,7 @@ fn times(a: u32, b: u32) -> u64
 }
 
 /// Returns how many scans the blocks are behind at most when the module receives a clean round's poll.
-fn most_behind(line: Line, pace: u32) -> u64
+fn most_behind(line: TimedLine, pace: u32) -> u64
     requires some { 1 ≤ line.rate }
     ensures value { result ≡ most_behind line pace }
     ensures within { result < 2 ^ 51 }
@@ -97,7 +97,7 @@ fn most_changes(traffic: Traffic, scans: u64) -> u64
 }
 
 /// Returns the most octets of an answer.
-fn most_octets(line: Line, traffic: Traffic, pace: u32) -> u16
+fn most_octets(line: TimedLine, traffic: Traffic, pace: u32) -> u16
     requires some_rate { 1 ≤ line.rate }
     requires some { 1 ≤ traffic.filter }
     ensures value { result ≡ 8 + 3 * most_entries line traffic pace }
@@ -112,7 +112,7 @@ fn most_octets(line: Line, traffic: Traffic, pace: u32) -> u16
 }
 
 /// Returns how many scans a round takes at most.
-fn round_scans(line: Line, traffic: Traffic, pace: u32) -> u64
+fn round_scans(line: TimedLine, traffic: Traffic, pace: u32) -> u64
     requires some_rate { 1 ≤ line.rate }
     requires some { 1 ≤ traffic.filter }
     ensures value { result ≡ round_scans line traffic pace }
@@ -122,7 +122,7 @@ fn round_scans(line: Line, traffic: Traffic, pace: u32) -> u64
 }
 
 /// Returns whether blocks make up for all scans at this pace.
-fn is_enough(line: Line, traffic: Traffic, pace: u32) -> bool
+fn is_enough(line: TimedLine, traffic: Traffic, pace: u32) -> bool
     ensures yes { result ≡ true → traffic.opened * clean_pace line pace ≤ traffic.per_block * traffic.filter }
     ensures no { result ≡ false → traffic.per_block * traffic.filter < traffic.opened * clean_pace line pace }
 {
@@ -131,7 +131,7 @@ fn is_enough(line: Line, traffic: Traffic, pace: u32) -> bool
 }
 
 /// Returns whether the buffer has room for what comes between two blocks at this pace.
-fn has_room(line: Line, traffic: Traffic, pace: u32) -> bool
+fn has_room(line: TimedLine, traffic: Traffic, pace: u32) -> bool
     requires some_rate { 1 ≤ line.rate }
     requires some { 1 ≤ traffic.filter }
     ensures yes { result ≡ true → traffic.opened * (most_behind line pace + (traffic.filter - 1)) ≤ traffic.waiting * traffic.filter }
@@ -142,7 +142,7 @@ fn has_room(line: Line, traffic: Traffic, pace: u32) -> bool
 }
 
 /// Returns whether this is a pace of the line.
-fn is_pace(line: Line, traffic: Traffic, pace: u32) -> bool
+fn is_pace(line: TimedLine, traffic: Traffic, pace: u32) -> bool
     requires some_rate { 1 ≤ line.rate }
     requires some { 1 ≤ traffic.filter }
     ensures yes { result ≡ true → IsPace line traffic pace }
@@ -154,7 +154,7 @@ fn is_pace(line: Line, traffic: Traffic, pace: u32) -> bool
 }
 
 /// Returns how many scans a change that waits for the block after the next can be older.
-fn held_over(line: Line, traffic: Traffic, pace: u32) -> u64
+fn held_over(line: TimedLine, traffic: Traffic, pace: u32) -> u64
     requires some { 1 ≤ traffic.filter }
     ensures value { result ≡ held_over line traffic pace }
     ensures within { result < 2 ^ 8 }
@@ -168,7 +168,7 @@ fn held_over(line: Line, traffic: Traffic, pace: u32) -> u64
 }
 
 /// Returns how much of the line's time a round's bits take at most.
-fn most_load(line: Line, traffic: Traffic, pace: u32) -> u64
+fn most_load(line: TimedLine, traffic: Traffic, pace: u32) -> u64
     requires some_rate { 1 ≤ line.rate }
     requires some { 1 ≤ traffic.filter }
     requires some_pace { 1 ≤ pace }
@@ -181,7 +181,7 @@ fn most_load(line: Line, traffic: Traffic, pace: u32) -> u64
 }
 
 /// Returns this pace, with what holds at it.
-fn at_pace(line: Line, traffic: Traffic, pace: u32) -> Pace
+fn at_pace(line: TimedLine, traffic: Traffic, pace: u32) -> Pace
     requires some_rate { 1 ≤ line.rate }
     requires some { 1 ≤ traffic.filter }
     requires some_pace { 1 ≤ pace }
@@ -204,7 +204,7 @@ fn at_pace(line: Line, traffic: Traffic, pace: u32) -> Pace
 
 /// Returns the least pace of a line, or `None` if it has none: then no pace is slow enough for the line and fast enough for
 /// what comes.
-pub fn plan(line: Line, traffic: Traffic) -> Option<Pace>
+pub fn plan(line: TimedLine, traffic: Traffic) -> Option<Pace>
     requires some_rate { 1 ≤ line.rate }
     requires some_open { 1 ≤ traffic.opened }
     requires some { 1 ≤ traffic.filter }
