@@ -466,6 +466,71 @@ size_t fio2070_wire_bits_message_length(const struct fio2070_wire_bits *bits);
 
 /** @} */
 
+/** @defgroup plan How often to poll over a line (own profile)
+ * Between its poll and its answer a line carries the bits of both, with flags, stuffing and frame check, and takes its time. A
+ * CPU that polls at a pace sends a poll so many scans after the one before, or as soon as it has heard the answer, if that is
+ * later. Over a line as in a struct fio2070_line, at a pace that fio2070_plan finds, each round ends before the next one, no
+ * transition is lost, and none is later than `late` scans.
+ * @code
+ * struct fio2070_line line = {0};
+ * struct fio2070_pace pace;
+ * line.rate = 614400; // bit/s, with a scan each millisecond
+ * line.waiting = FIO2070_STANDARD_WAITING, line.per_block = FIO2070_MOST_ENTRIES;
+ * line.inputs = 64, line.filter = 5;
+ * if (fio2070_plan(&line, &pace) == FIO2070_PACE_FOUND) printf("poll every %d ms\n", (int)pace.scans); // poll every 4 ms
+ * @endcode
+ * @{ */
+
+/** What fio2070_plan finds. */
+enum fio2070_planned {
+    FIO2070_PACE_FOUND = 0, /**< the least pace */
+    FIO2070_NO_PACE = 1,    /**< the line has none: it is too slow for what its inputs may report */
+    FIO2070_NO_LINE = 2     /**< the rate is 0, or no inputs or more than 64 may be open */
+};
+
+/** A line between the two ends, and what may have to be reported over it. */
+struct fio2070_line {
+    /** How many bits the line carries in 1,000 scans: in a second, if a scan is a millisecond. 1 or more. */
+    uint32_t rate;
+    /** Within how many scans of its receipt of a poll the module begins its answer. */
+    uint32_t answer;
+    /** At most how many bits of other traffic the line carries between a poll and its answer. */
+    uint32_t other;
+    /** At most how many rounds in a row the line loses. */
+    uint16_t lost;
+    /** How many entries may wait. */
+    uint16_t waiting;
+    /** How many entries a block takes. */
+    uint8_t per_block;
+    /** How many inputs may be open, 1 to 64. */
+    uint8_t inputs;
+    /** How many samples their filters have at least; 0 acts as 1. */
+    uint8_t filter;
+    /** How many stop bits an octet has on an asynchronous line; 0 for a synchronous line. */
+    uint8_t stop_bits;
+    /** Not read. */
+    uint8_t reserved[4];
+};
+
+/** A pace of a line, in scans. */
+struct fio2070_pace {
+    /** How many scans apart polls are sent. */
+    uint64_t scans;
+    /** How many scans a round takes at most. */
+    uint64_t round;
+    /** How many scans a transition is late at most, until it is in the record. */
+    uint64_t late;
+    /** How much of the line's time a round's bits take at most, in thousandths. */
+    uint64_t load;
+};
+
+/** Finds the least pace at which a line can be polled, so that each round ends before the next one and nothing is lost.
+ * Returns FIO2070_PACE_FOUND; otherwise FIO2070_NO_PACE or FIO2070_NO_LINE, and `pace` is unchanged. */
+FIO2070_MUST_USE
+uint8_t fio2070_plan(const struct fio2070_line *line, struct fio2070_pace *pace);
+
+/** @} */
+
 /** @defgroup poller The CPU's end (own profile)
  * A struct fio2070_poller says for which block to poll, and takes each block once. The caller sends the poll, waits for the
  * answer, and keeps the record: the list of the items that were taken.
@@ -1760,6 +1825,22 @@ FIO2070_SAME(sized_module, sizeof(struct fio2070_sized_module) == 1056);
 
 FIO2070_SAME(error_counts, sizeof(struct fio2070_error_counts) == 2 &&
              offsetof(struct fio2070_error_counts, transmit) == 1);
+
+FIO2070_SAME(line, sizeof(struct fio2070_line) == 24 &&
+             offsetof(struct fio2070_line, answer) == 4 &&
+             offsetof(struct fio2070_line, other) == 8 &&
+             offsetof(struct fio2070_line, lost) == 12 &&
+             offsetof(struct fio2070_line, waiting) == 14 &&
+             offsetof(struct fio2070_line, per_block) == 16 &&
+             offsetof(struct fio2070_line, inputs) == 17 &&
+             offsetof(struct fio2070_line, filter) == 18 &&
+             offsetof(struct fio2070_line, stop_bits) == 19 &&
+             offsetof(struct fio2070_line, reserved) == 20);
+
+FIO2070_SAME(pace, sizeof(struct fio2070_pace) == 32 &&
+             offsetof(struct fio2070_pace, round) == 8 &&
+             offsetof(struct fio2070_pace, late) == 16 &&
+             offsetof(struct fio2070_pace, load) == 24);
 
 FIO2070_SAME(poller, sizeof(struct fio2070_poller) == 1);
 

@@ -189,6 +189,13 @@ inline std::string content_rule_text(std::uint8_t rule) {
     return text_of([rule](char *text, std::size_t room) { return ::fio2070_content_rule_text(rule, text, room); });
 }
 
+/// Returns the least pace at which a line can be polled, or nothing if it has none or its numbers are out of range.
+inline std::optional<::fio2070_pace> plan(const ::fio2070_line &line) {
+    ::fio2070_pace pace;
+    if (::fio2070_plan(&line, &pace) != FIO2070_PACE_FOUND) return std::nullopt;
+    return pace;
+}
+
 inline std::uint32_t widen(std::uint32_t answer_stamp, std::uint16_t stamp) {
     return ::fio2070_widen(answer_stamp, stamp);
 }

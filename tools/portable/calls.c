@@ -198,6 +198,33 @@ uint32_t fio2070_widen(uint32_t answer_stamp, uint16_t stamp) {
     return call_fio2070_widen(&machine, answer_stamp, stamp);
 }
 
+/* ---- How often to poll over a line ---- */
+
+uint8_t fio2070_plan(const struct fio2070_line *line, struct fio2070_pace *pace) {
+    uint8_t from[24] = {0}, into[32] = {0}, planned;
+    MACHINE(fio2070_plan);
+    put32(from, line->rate);
+    put32(from + 4, line->answer);
+    put32(from + 8, line->other);
+    put16(from + 12, line->lost);
+    put16(from + 14, line->waiting);
+    from[16] = line->per_block;
+    from[17] = line->inputs;
+    from[18] = line->filter;
+    from[19] = line->stop_bits;
+    {
+        uint64_t a = READS(from, 24), b = WRITES(into, 32);
+        planned = (uint8_t)call_fio2070_plan(&machine, a, b);
+    }
+    if (planned == FIO2070_PACE_FOUND) {
+        pace->scans = get64(into);
+        pace->round = get64(into + 8);
+        pace->late = get64(into + 16);
+        pace->load = get64(into + 24);
+    }
+    return planned;
+}
+
 /* ---- Any message ---- */
 
 static void settle_command(struct fio2070_command *command, const uint8_t *into) {

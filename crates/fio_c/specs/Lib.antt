@@ -9,6 +9,7 @@ pub mod BatchItems
 pub mod LogCounts
 pub mod LogJudges
 pub mod LogSigns
+pub mod Plans
 pub mod Texts
 pub mod Version
 pub mod Wires

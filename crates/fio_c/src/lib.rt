@@ -20,13 +20,14 @@
 //! | be the CPU's end | `fio2070_poller_..` |
 //! | be the module | `fio2070_sized_module_..`; `fio2070_module_..` are these, in the header alone |
 //! | frame messages on a line, and read its octets or bits | `fio2070_wire_..` |
+//! | find how often to poll over a line | `fio2070_plan` |
 //! | say which library it is | `fio2070_version` |
 //! | use its parts | `fio2070_counter_..`, `fio2070_filters_..`, `fio2070_widen` |
 //!
 //! The definitions are in `specs/`: flat forms of commands, answers and blocks (`Flat`), what C gives to write a message
 //! (`Given`, whose laws are the contracts of the module `laws`), checkers (`Checkers`), the judge of a
 //! link (`Judges`), the judge of a log (`LogJudges`), logs (`Logs`, `Told`), batches of the reader (`BatchItems`), counts
-//! (`LogCounts`), texts (`Texts`), versions (`Version`), lines (`Wires`). `fio_flat` has the other structs, and what calls do to
+//! (`LogCounts`), texts (`Texts`), versions (`Version`), lines (`Wires`), paces (`Plans`). `fio_flat` has the other structs, and what calls do to
 //! them and to the caller's arrays.
 //!
 //! # What is proved
@@ -76,6 +77,7 @@ mod log_judge_batch;
 mod log_signs;
 mod log_verdicts;
 mod parts;
+mod plan;
 mod poller;
 mod show;
 mod sized_module;

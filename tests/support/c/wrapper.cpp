@@ -165,6 +165,11 @@ static void has_texts() {
     CHECK(fio2070::content_rule_text(FIO2070_CONTENT_FRESH) == "fresh" && fio2070::content_rule_text(0).empty());
     CHECK(fio2070::show({0x36, 5}) == "poll block 5\n" && fio2070::show({7}) == "unknown type 7\n");
     CHECK(fio2070::widen(0x10002, 65534) == 65534 && fio2070::widen(0x10002, 2) == 0x10002);
+    fio2070_line line{};
+    line.rate = 614400, line.waiting = 1024, line.per_block = 255, line.inputs = 64, line.filter = 5;
+    CHECK(fio2070::plan(line)->scans == 4 && fio2070::plan(line)->late == 7);
+    line.rate = 153600;
+    CHECK(!fio2070::plan(line));
     CHECK(fio2070::wire_check({'1', '2', '3', '4', '5', '6', '7', '8', '9'}) == 0x906e);
 }
 
