@@ -179,10 +179,9 @@ def check_numbers(check):
     rows = [[int(cell.replace(',', '')) for cell in re.findall(r'[\d,]+', line)]
             for line in re.findall(r'^\| \d.*', text_of('docs/PLANNING.md'), re.M)]
     for row in rows[::5]:
-        names = ['poll every', 'entries that wait, at most', 'late, at most', 'entries that wait, at most, answers lost',
-                 'late, at most, answers lost', 'outage without loss, at most']
+        names = ['poll every', 'late, at most', 'late, at most, answers lost']
         plan = planned('--inputs %d --filter %d' % tuple(row[:2]))
-        check.equal('plan for %d inputs with filters of %d' % tuple(row[:2]), row[2:8], [plan[name] for name in names])
+        check.equal('plan for %d inputs with filters of %d' % tuple(row[:2]), row[2:5], [plan[name] for name in names])
     rounds = fiolog('plan', '--inputs', '64', '--filter', '5', '--outage', '80')
     check.equal('a round every 12 ms with 5 of each 100 lost, none later than 71', ['12', '71'],
                 rounds.found(r'5 of each 100 rounds lost +(\d+) ms'))

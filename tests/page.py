@@ -275,7 +275,8 @@ def check_plan(check, browser, _):
         it.value = arguments[0][place] ?? it.value; it.dispatchEvent(new Event("input")); });
         return [...document.querySelectorAll(arguments[1])].map((it) => it.textContent)'''
     for row in rows:
-        check.equal('the row of %s inputs with filters of %s' % (row[0], row[1]), row, browser.run(move, row[:2], '#plan-row td'))
+        found = browser.run(move, row[:2], '#plan-row td')
+        check.equal('the row of %s inputs with filters of %s' % (row[0], row[1]), row[:5], [*found[:3], found[4], found[6]])
     check.equal('the number of rows', 24, len(rows))
     for waiting, lost, every in ((1024, 0, 159), (71, 0, 40), (70, 0, 39), (71, 1, 10), (7, 0, 0)):
         check.equal('the pace if %d may wait, with %d lost' % (waiting, lost), '%d ms' % every,

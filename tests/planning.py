@@ -4,7 +4,8 @@ alone, that it reaches each bound, and that one scan more loses a transition; an
 states, that the bounds are exact. Runs the densest traffic by `simulate`: what arrives at the end of each clean round, how
 late it is, outages of the length in the table and of one scan more, rounds as far apart as the table says and one scan
 further, restarts, and configurations that open other inputs; and by `libfio2070` over rings with exactly the room that the
-page asks for, and one slot less. Last line: `N passed, M failed`."""
+page asks for, and one slot less. Compares the paces at a rate that `fiolog plan` and `libfio2070` find with a calculation of its
+own, and plays both ends at each over a line that takes its time. Last line: `N passed, M failed`."""
 
 import itertools
 import random
@@ -13,6 +14,7 @@ from typing import NamedTuple
 
 from support.check import Check
 from support.fiolog import use_library
+from support.paced import Line, Traffic, check_paces, least
 from support.pages import text_of
 from support.tables import MOST_WAITING, output_of
 
@@ -63,13 +65,20 @@ def planned(inputs, filter_length):
 ROWS = [planned(inputs, filter_length) for inputs in INPUTS for filter_length in FILTERS]
 
 
+def at_rate(row, rate):
+    """The cell of a row for a synchronous line of this rate."""
+    found = least(Line(rate, 0, 0, 0, 0), Traffic(row.inputs, row.filter, PER_BLOCK, WAITING[0]))
+    return '%d/%d' % (found[0], found[2]) if found else 'none'
+
+
 def check_table(check):
     """The rows of the table in the document are the computed ones."""
-    found = [[int(cell.replace(',', '')) for cell in re.findall(r'[\d,]+', line)]
+    found = [[cell.strip().replace(',', '') for cell in line.strip('| ').split('|')]
              for line in text_of('docs/PLANNING.md').splitlines() if re.match(r'\| \d', line)]
     check.equal('the number of rows of docs/PLANNING.md', len(ROWS), len(found))
     for row, cells in zip(ROWS, found):
-        check.equal('the row of docs/PLANNING.md for ' + row.name, [*row[:3], *row.kept, *row.lost, *row.outages], cells)
+        check.equal('the row of docs/PLANNING.md for ' + row.name,
+                    [*map(str, (*row[:3], row.kept[1], row.lost[1])), *(at_rate(row, rate) for rate in (153_600, 614_400))], cells)
 
 
 def logged_in(inputs, filter_length, scans):
@@ -468,6 +477,7 @@ def main():
         check_rounds(check, row, True, Configured)
         check_outage(check, row, traffic=Configured)
     check_small_rings(check)
+    check_paces(check)
     check.end()
 
 

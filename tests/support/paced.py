@@ -1,11 +1,17 @@
 """Paces of a line that takes its time, by a plain calculation, and both ends at such a pace: the module's buffer and blocks, the
 CPU that polls, and a line on which a message takes the time of its bits."""
 
+import ctypes
 import math
 import random
-from collections import deque
+from collections import deque, namedtuple
 from fractions import Fraction
 
+from support import c_header
+from support.fiolog import LIBRARY
+
+Line = namedtuple('Line', 'rate stop_bits answer other lost')
+Traffic = namedtuple('Traffic', 'inputs filter per_block waiting')
 RATES = (57_600, 115_200, 153_600, 614_400, 1_000_000)
 
 
@@ -45,11 +51,11 @@ def least(line, traffic):
     return None
 
 
-def setting(choose, make_line, make_traffic):
+def setting(choose):
     """A line and traffic by chance."""
-    line = make_line(choose.choice((*RATES, choose.randint(1, 3_000_000))), choose.choice((0, 0, 1, 2)), choose.choice((0, 0, 1, 3, choose.randrange(20))),
+    line = Line(choose.choice((*RATES, choose.randint(1, 3_000_000))), choose.choice((0, 0, 1, 2)), choose.choice((0, 0, 1, 3, choose.randrange(20))),
                      choose.choice((0, 0, 300, choose.randrange(2000))), choose.choice((0, 0, 0, 1, 2)))
-    traffic = make_traffic(choose.choice((1, 2, 8, 16, 32, 64, choose.randint(1, 64))), choose.choice((1, 2, 5, 10, 20, 50, choose.randint(1, 255))),
+    traffic = Traffic(choose.choice((1, 2, 8, 16, 32, 64, choose.randint(1, 64))), choose.choice((1, 2, 5, 10, 20, 50, choose.randint(1, 255))),
                            choose.choice((255, 255, 64, choose.randint(1, 255))), choose.choice((1024, 1024, 8192, choose.randint(1, 2000))))
     return line, traffic
 
@@ -121,3 +127,32 @@ class Played:
             row = row + 1 if row < self.line.lost and self.choose.random() < 0.6 else 0
             self.round(row > 0)
         return self.lost, self.late, self.longest
+
+
+def found_by(library, line, traffic):
+    """The least pace that `fio2070_plan` finds and what holds at it, or None."""
+    struct, pace = c_header.STRUCTS['line'](), c_header.STRUCTS['pace']()
+    for name, number in {**line._asdict(), **traffic._asdict()}.items():
+        setattr(struct, name, number)
+    if library.fio2070_plan(ctypes.byref(struct), ctypes.byref(pace)) != c_header.NUMBERS['PACE_FOUND']:
+        return None
+    return pace.scans, pace.round, pace.late, pace.load
+
+
+def check_paces(check):
+    """The least pace of a line that `fiolog plan` and `libfio2070` find is that of a plain calculation. Both ends at it lose nothing,
+    no round is longer than it says, and no transition later; in some runs one is as late."""
+    from fiolog import rate
+    library, choose, reached, paces = ctypes.CDLL(LIBRARY), random.Random(1), 0, 0
+    library.fio2070_plan.restype = ctypes.c_uint8
+    count = 10_000 if check.whole('paces of %d lines' % 10_000) else 500
+    for seed in range(count):
+        line, traffic = setting(choose)
+        name, known = 'a pace over %s for %s' % (line, traffic), least(line, traffic)
+        check.equal(name, [known, known], [found_by(library, line, traffic), rate.least_pace(rate.Line(*line), rate.Traffic(*traffic))])
+        if known:
+            every, longest, latest, _ = known
+            lost, late, taken = Played(line, traffic, every, seed).play(6 if every > 60 else 12)
+            check.holds(name + ' is kept', lost == 0 and late <= latest and taken <= longest, (lost, late, taken))
+            paces, reached = paces + 1, reached + (late == latest)
+    check.holds('of %d lines with a pace some are as late as it says' % paces, reached > paces // 20, reached)

@@ -6,6 +6,7 @@ from . import terminal
 from .options import counted, number_in
 from .output import Refused
 from .protocol import BLOCK_ENTRIES, INPUTS, MOST_WAITING, STANDARD_WAITING
+from .rate import MOST_RATE, Line, Traffic, rows as rows_at_rate
 
 WAITING = {'standard': STANDARD_WAITING, 'largest': MOST_WAITING}
 COMPUTED = 'computed, not proved'
@@ -33,6 +34,13 @@ def add_arguments(parser):
     parser.add_argument('--outage', type=number_in(0, MOST_SCANS), metavar='MS', help='the link is down so long')
     parser.add_argument('--lost', type=number_in(0, 1000), default=0, metavar='N', help='rounds lost in a row')
     parser.add_argument('--every', type=number_in(1, MOST_SCANS), metavar='MS', help='a poll comes so often')
+    parser.add_argument('--rate', type=number_in(1, MOST_RATE), metavar='BITS', help='the line carries so many bits in a second')
+    kind = parser.add_mutually_exclusive_group()
+    kind.add_argument('--sync', action='store_true', help='the line is synchronous (SDLC)')
+    kind.add_argument('--async', dest='stop_bits', type=number_in(1, 2), nargs='?', const=1, metavar='STOP',
+                      help='it is asynchronous, with 1 or 2 stop bits')
+    parser.add_argument('--answer-time', type=number_in(0, MOST_SCANS), default=0, metavar='MS',
+                        help='the module begins its answer so late')
     parser.add_argument('-v', '--verbose', action='store_true', help='also the clause that each number is from')
     parser.add_argument('--json', action='store_true', help='a list of objects')
 
@@ -115,6 +123,9 @@ def row(option, per_block, waiting):
         yield 'a poll every %d ms' % option.every, fits, pace if option.every <= every else COMPUTED
     if option.outage is not None:
         yield from outage(option, inputs, length, per_block, waiting, ridden_out)
+    if option.rate:
+        yield from rows_at_rate(Line(option.rate, option.stop_bits or 0, option.answer_time, lost=option.lost),
+                                Traffic(inputs, length, per_block, waiting))
 
 
 def bounds(inputs, length, per_block, every, every_lost):
@@ -163,6 +174,10 @@ def run(option):
         raise Refused('the groups have more than %d inputs' % INPUTS)
     if option.group and (option.inputs, option.filter, option.outage, option.every, option.lost) != (None, None, None, None, 0):
         raise Refused('--group goes with --limits, --block, --waiting and --json alone')
+    if (option.rate is None) != (not option.sync and option.stop_bits is None):
+        raise Refused('--rate goes with --sync or --async')
+    if option.group and option.rate:
+        raise Refused('--group goes without --rate')
     if not option.group and (option.inputs is None or option.filter is None):
         raise Refused('plan wants --inputs and --filter, or --group')
     waiting = option.waiting or WAITING[option.limits]
