@@ -86,6 +86,10 @@ _fiolog() {
             '--outage[the link is down so long]:ms:'
             '--lost[rounds lost in a row]:n:'
             '--every[a poll comes so often]:ms:'
+            '--rate[the line carries so many bits in a second]:bits:'
+            '--sync[the line is synchronous (SDLC)]'
+            '--async[it is asynchronous, with 1 or 2 stop bits]:stop:'
+            '--answer-time[the module begins its answer so late]:ms:'
             {-v,--verbose}'[also the clause that each number is from]'
             '--json[a list of objects]') ;|
     convert)
