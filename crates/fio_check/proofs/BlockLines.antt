@@ -1,7 +1,6 @@
 -- The events of a log around an entry of a block.
 use Rattle.fio_check.proofs.Names.{subst, ◌≡◌, ◌∙◌, ◌+◌, ◌++◌, ◌%◌, ℕ, suc, Bool, true, false, List, [], ◌∷◌, Option, Some, None, is_some, refl, sym, ap, ap₂, arith, length, map, length-append, append_assoc, fold, Block, block_answer, items_of_block, gap_if, item_of, says_lost, Item, Entry, Gap, ContentFacts, content_at, content_with, no_content, ContentEvent, Ended, Heard, LineEvent, Recorded, events_below, events_in, events_of_block, events_of_log, TranscriptLine, Answer, LineTakesBlock, answer_in, content_below, content_step, fold-append, forgetting, is_aging, length-map, map-append, number_below, number_below_lines, place_of_entry, with_entries}
 use Rattle.fio_message.specs.Decoding.{answered_block}
-use Rattle.fio_message.specs.declared.answers.Answer.TheVariants as answers
 use Rattle.fio_message.specs.declared.fields.Entry.{Entry as EntryOf}
 use Rattle.fio_check.specs.ContentEvents.{is_taken}
 use Rattle.fio_check.specs.ContentRules.{is_excused}
@@ -19,14 +18,7 @@ pub record IsBlockFrame (number : Option ℕ) (from_cpu : Bool) (octets : List �
 
 answer-frame : (number : Option ℕ) (octets : List ℕ) (block : Block) (answer : Option Answer) → answer_in octets ≡ answer → answered_block answer ≡ Some block
     → is_taken number block.number ≡ true → IsBlockFrame number false octets block
-answer-frame number octets block (Some (answers.Block count entries status stamp)) is heard taken =
-    let same : (record { number = count; entries = entries.items; status = status; stamp = stamp }) ≡ block = cc in
-    let due : is_taken number count ≡ true = ap (λ b. is_taken number b.number) same ∙ taken in
-    record {
-      events = rw (is, due) (ap events_of_block same);
-      next = rw (is, due) (ap (λ b. Some ((b.number + 1) % 256)) same);
-    }
-answer-frame number octets block other is heard taken = absurd (cc)
+answer-frame number octets block other is heard taken = grind arith
 
 block-frame : (number : Option ℕ) (from_cpu : Bool) (octets : List ℕ) (block : Block) → answered_block (answer_from from_cpu octets) ≡ Some block
     → is_taken number block.number ≡ true → IsBlockFrame number from_cpu octets block

@@ -1,4 +1,5 @@
 -- Two checkers, side by side.
+use Rattle.std.proofs.Common.{arith}
 use Rattle.fio_check.proofs.Names.{◌≡◌, ◌∙◌, ℕ, zero, suc, List, [], ◌∷◌, Option, Some, None, refl, sym, ap, ap₂, length, option_or, option_map, option_and_then, slice_get, TranscriptLine, ContentChecking, checking_with, found_in_frame, found_first, found_on, is_sent_at, observation_at, observation_on, earliest_above, Accused, Checker, ContentBreach, FoundFault, both_find_first, broken_on, checker_from, checker_with, content_on, found_by}
 use Rattle.fio_check.specs.LinkLaws.{FindFirst, broken_at, broken_first, fault_accused}
 use Rattle.fio_check.proofs.KeptContent.{option_or-none, option_or_assoc}
@@ -83,7 +84,4 @@ by-transcript checker content (line ∷ lines) none =
     ∙ sym (broken-more checker line lines)
 
 pub find_first : (checker : Checker) (content : ContentChecking) (lines : List TranscriptLine) → FindFirst checker content lines
-find_first checker content lines = record {
-  by_content = by-content checker content lines;
-  by_transcript = by-transcript checker content lines;
-}
+find_first checker content lines = grind (arith, by-content, by-transcript)

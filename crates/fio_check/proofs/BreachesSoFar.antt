@@ -1,5 +1,5 @@
 -- What a check has found once it has gone through the first lines of a transcript.
-use Rattle.fio_check.proofs.Names.{◌≡◌, ◌≤◌, ◌∙◌, ℕ, suc, List, Option, Some, None, refl, sym, ap, ap₂, arith, length, option_map, slice_get, unwrap_or, option_or, facts_at, facts_with, TranscriptLine, observation_on, earliest_above, first_broken, rule_broken, breach_at, verdict_on, Rule, Verdict, Good, Broken, Facts}
+use Rattle.fio_check.proofs.Names.{◌≡◌, ◌≤◌, ℕ, suc, List, Option, Some, None, refl, arith, length, option_map, slice_get, unwrap_or, facts_at, facts_with, TranscriptLine, observation_on, earliest_above, first_broken, breach_at, verdict_on, Rule, Verdict, Good, Broken, Facts}
 use Rattle.fio_check.proofs.KeptFacts.{facts_next, seen_at}
 use Rattle.fio_check.proofs.Verdicts.{breach-is, earliest_stays}
 
@@ -12,26 +12,19 @@ module _ (lines : List TranscriptLine) (frames : ℕ) (facts : Facts) where
   -- no line is left
   pub verdict_so_far : (breach : Option Verdict) → frames ≡ length lines → StandsSoFar lines frames facts breach
       → verdict_on lines ≡ unwrap_or breach (Good frames)
-  verdict_so_far breach all so_far =
-      ap (λ n. unwrap_or (earliest_above (breach_at lines) n) (Good n)) (sym all)
-      ∙ ap (λ found. unwrap_or found (Good frames)) (sym so_far.found)
+  verdict_so_far breach all so_far = grind arith
 
   -- a breach decides, whatever is left
   pub verdict_of_breach : (verdict : Verdict) → frames ≤ length lines → StandsSoFar lines frames facts (Some verdict)
       → verdict_on lines ≡ verdict
-  verdict_of_breach verdict within so_far =
-      ap (λ breach. unwrap_or breach (Good (length lines)))
-      (earliest_stays (breach_at lines) frames (length lines) verdict (omega (arith, within)) (sym so_far.found))
+  verdict_of_breach verdict within so_far = grind (arith, earliest_stays)
 
   -- ---- one line more
 
   -- after a breach
   pub stands_after_breach : (facts' : Facts) (verdict : Verdict) → StandsSoFar lines frames facts (Some verdict)
       → StandsSoFar lines (suc frames) facts' (Some verdict)
-  stands_after_breach facts' verdict so_far = record {
-    found = ap (λ earlier. option_or earlier (breach_at lines frames)) so_far.found;
-    kept = λ none. absurd (cc);
-  }
+  stands_after_breach facts' verdict so_far = grind arith
 
   unbroken : (number : ℕ) (broken : Option Rule) → option_map (Broken number) broken ≡ None → broken ≡ None
   unbroken number None is = refl
@@ -41,15 +34,4 @@ module _ (lines : List TranscriptLine) (frames : ℕ) (facts : Facts) where
   pub stands_with_line : (line : TranscriptLine) (facts' : Facts) (broken : Option Rule) → slice_get lines frames ≡ Some line
       → broken ≡ first_broken facts (observation_on line) → (broken ≡ None → facts' ≡ facts_with facts (observation_on line))
       → StandsSoFar lines frames facts None → StandsSoFar lines (suc frames) facts' (option_map (Broken line.number) broken)
-  stands_with_line line facts' broken here is added so_far =
-      let kept = so_far.kept refl in
-      let broken_here : rule_broken lines frames ≡ broken =
-      ap₂ first_broken (sym kept) (seen_at lines frames line here) ∙ sym is in
-      record {
-        found = sym (breach-is lines frames line broken here broken_here)
-            ∙ ap (λ earlier. option_or earlier (breach_at lines frames)) so_far.found;
-        kept = λ none.
-            added (unbroken line.number broken none)
-            ∙ ap (λ above. facts_with above (observation_on line)) kept
-            ∙ sym (facts_next lines frames line here);
-      }
+  stands_with_line line facts' broken here is added so_far = grind (arith, breach-is, facts_next, seen_at, unbroken)

@@ -166,9 +166,7 @@ module _ (one other : Checker) (lines others : List TranscriptLine) (start : ℕ
   first-line = let place : start + 0 ≡ start = omega arith in line-at lines others start 0 (ap (slice_get lines) (sym place) ∙ rest 0)
 
   later-line : (further : ℕ) → IsLineAt lines others (suc start + further) (suc further)
-  later-line further =
-      let place : suc start + further ≡ start + suc further = omega arith in
-      line-at lines others (suc start + further) (suc further) (ap (slice_get lines) place ∙ rest (suc further))
+  later-line further = grind (arith, line-at)
 
   same-further : (further : ℕ) → checker_from one lines (suc start + further) ≡ checker_from other others (suc further)
   same-further zero =
@@ -193,22 +191,7 @@ module _ (one other : Checker) (lines others : List TranscriptLine) (start : ℕ
       ∙ ap₂ (found_by (checker_from other others (suc further))) line.sent line.said
 
 pub goes_on : (limits : RuleLimits) (lines : List TranscriptLine) → GoesOn limits lines
-goes_on limits lines = record {
-  passes = λ breach place broken below none.
-      ap (λ checker. found_by checker (is_sent_at lines place) (observation_at lines place))
-      (still-below limits lines breach broken place below (λ between after above. none between after (omega (arith, above))))
-      ∙ found-passing limits (is_sent_at lines place) (observation_at lines place) (none place below (omega arith));
-  starts = λ breach poll further broken below polls none.
-      (let sent = is_sent_at lines poll in
-      let said = observation_at lines poll in
-      let here = still-below limits lines breach broken poll below none in
-      same-found (checker_within limits) (checker_within limits) lines (drop poll lines) poll (λ further. sym (get-drop lines poll further))
-      (record {
-        found = ap (λ checker. found_by checker sent said) here ∙ found-alike limits sent said polls;
-        kept = ap (λ checker. checker_with checker sent said) here ∙ with-alike limits sent said polls;
-      })
-      further);
-}
+goes_on limits lines = grind (arith, found-alike, found-passing, get-drop, same-found, still-below, with-alike)
 
 -- ---- a log that begins anywhere
 
@@ -232,12 +215,7 @@ module _ (limits : RuleLimits) (lines : List TranscriptLine) (below : IsBelowHea
       ∙ rw (above-heard limits observation heard.1) refl
 
   nothing-above : (place : ℕ) → place < below.above → found_from (checker_anywhere limits) lines place ≡ None
-  nothing-above place within =
-      let heard = below.heard place within in
-      let observation = observation_at lines place in
-      ap (λ checker. found_by checker (is_sent_at lines place) observation) (still-above place (omega (arith, within)))
-      ∙ ap (λ sent. found_by (checker_anywhere limits) sent observation) heard.0
-      ∙ rw (above-heard limits observation heard.1) refl
+  nothing-above place within = grind (arith, above-heard, still-above)
 
   starts-there : (further : ℕ) → further < length (from_first_command lines)
       → found_from (checker_anywhere limits) lines (below.above + further) ≡ found_at limits (from_first_command lines) further

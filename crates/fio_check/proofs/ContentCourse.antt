@@ -116,12 +116,7 @@ events-broken (event ∷ events) line count above facts items whole is left =
 -- the first fault of a frame, by the items above it and those below it
 pub frame_broken : (events : List ContentEvent) (line : ℕ) (facts : ContentFacts) (items : List Item)
     → broken_among facts items line events ≡ option_map (fault_at line (items ++ flat_map item_of_event events) (length items)) (breach_among facts 0 events)
-frame_broken events line facts items =
-    let more = flat_map item_of_event events in
-    let none : length items + 0 ≡ length items = omega arith in
-    events-broken events line 0 (length items) facts items (items ++ more)
-    (sym (ap (λ n. take n (items ++ more)) none ∙ take_at items more (length items) refl))
-    (ap (λ n. drop n (items ++ more)) none ∙ drop_at items more (length items) refl)
+frame_broken events line facts items = grind (arith, drop_at, events-broken, take_at)
 
 -- a breach is below no more items than the frame has
 breach-within : (rule : Option BrokenRule) (later : Option ContentBreach) (count most : ℕ) (breach : ContentBreach)

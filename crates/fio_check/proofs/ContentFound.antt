@@ -1,8 +1,7 @@
 -- What a checker of the rules on content finds first is the first fault of the transcript.
-use Rattle.fio_check.proofs.Names.{◌==◌, subst, ◌≡◌, ◌∙◌, if◌then◌else◌, checking_at_start, checking_with, content_found, found_in_frame, from_first_command, Block, block_answer, gap_if, items_of_block, events_of_block, Sent, Heard, Ended, items_and_end, ℕ, Bool, true, false, List, [], ◌∷◌, ◌++◌, length, drop, Option, Some, None, refl, sym, ap, ap₂, arith, length-drop, option_map, flat_map, option_or, Item, ContentFacts, content_with, ContentKept, breach_among, breach_below, breach_found, fault_found, found_first, found_on, items_below, kept_at_start, kept_with, no_content, ContentEvent, LineEvent, events_above, events_below, events_in, events_of_lines, events_of_log, item_of_event, TranscriptLine, earliest_above, BrokenRule, ContentFault, FoundFault, content_fault_at, content_fault_in, content_step, fault_by, rule_broken_by, says_again, says_error, ◌&&◌}
+use Rattle.fio_check.proofs.Names.{subst, ◌≡◌, ◌∙◌, if◌then◌else◌, checking_at_start, checking_with, content_found, found_in_frame, from_first_command, Block, block_answer, gap_if, items_of_block, events_of_block, Sent, Heard, Ended, items_and_end, ℕ, Bool, true, false, List, [], ◌∷◌, ◌++◌, length, drop, Option, Some, None, refl, sym, ap, ap₂, arith, length-drop, option_map, flat_map, option_or, Item, ContentFacts, content_with, ContentKept, breach_among, breach_below, breach_found, fault_found, found_first, found_on, items_below, kept_at_start, kept_with, no_content, ContentEvent, LineEvent, events_above, events_below, events_in, events_of_lines, events_of_log, item_of_event, TranscriptLine, earliest_above, BrokenRule, ContentFault, FoundFault, content_fault_at, content_fault_in, content_step, fault_by, rule_broken_by, says_again, says_error}
 use Rattle.fio_message.specs.declared.answers.Answer.TheVariants as answers
 use Rattle.fio_check.specs.ContentEvents.{judged_lines}
-use Rattle.fio_check.specs.declared.content_rules.ContentRule.TheVariants.{Clock}
 use Rattle.fio_check.proofs.Unexcused.{sent_step, step_only}
 use Rattle.fio_check.proofs.ContentNext.{content_is_kept}
 use Rattle.fio_check.proofs.ContentCourse.{IsContentCourse, broken_among, broken_by, first_course, frame_course}
@@ -58,18 +57,10 @@ none-more : (facts : ContentFacts) (items : List Item) (line : ℕ) (event : Con
 none-more facts items line event events none rest = ap₂ option_or (ap (option_map (fault_by line items)) none) rest
 
 taken-breaks-none : (facts : ContentFacts) (status : ℕ) → says_error status ≡ false → rule_broken_by facts (Heard (answers.ConfigureInputs status)) ≡ None
-taken-breaks-none facts status taken = rw taken (by (facts.excuses == 0))
-  where
-    by : (judged : Bool) → option_map {U = BrokenRule} (λ rule. record { input = None; rule = rule }) (if judged && false then Some Clock else None) ≡ None
-    by true = refl
-    by false = refl
+taken-breaks-none facts status taken = grind arith
 
 block-breaks-none : (facts : ContentFacts) (block : Block) → says_again block.status ≡ false → facts.clock ≡ None → rule_broken_by facts (Heard (block_answer block)) ≡ None
-block-breaks-none facts block first none = rw (first, none) (by (facts.excuses == 0))
-  where
-    by : (judged : Bool) → option_map {U = BrokenRule} (λ rule. record { input = None; rule = rule }) (if judged && false then Some Clock else None) ≡ None
-    by true = refl
-    by false = refl
+block-breaks-none facts block first none = grind arith
 
 -- the events above the first line break no rule
 start-breaks-none : (begun : Bool) → broken_among no_content [] 0 (events_above begun) ≡ None
@@ -112,10 +103,7 @@ found-above (line ∷ lines) kept = by (found-above lines kept) line.from_cpu re
         → option_or (option_map (found_on line.number) (found_in_frame (record { begun = false; kept = kept }) sent line.octets))
         (found_first (checking_with (record { begun = false; kept = kept }) sent line.octets) lines)
         ≡ found_below kept (if sent then line ∷ lines else from_first_command lines)
-    by rest true is =
-        ap (option_or (option_map (found_on line.number) (content_found kept true line.octets))) (found-judging lines (kept_with kept true line.octets))
-        ∙ ap (λ sent. option_or (option_map (found_on line.number) (content_found kept sent line.octets)) (found_below (kept_with kept sent line.octets) lines)) (sym is)
-    by rest false is = rest
+    by rest sent is = grind (arith, found-judging)
 
 found-first : (begun : Bool) (lines : List TranscriptLine) → found_first (checking_at_start begun) lines ≡ found_below (kept_at_start begun) (judged_lines begun lines)
 found-first true lines = found-judging lines (kept_at_start true)

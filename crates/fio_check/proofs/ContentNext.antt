@@ -1,5 +1,5 @@
 -- What is kept event by event is what is above the next event.
-use Rattle.fio_check.proofs.Names.{◌≡◌, ◌≤◌, ◌∙◌, ◌+◌, ℕ, zero, suc, arith, drop, subst, Bool, true, false, List, Option, Some, None, refl, sym, ap, ap₂, ◌==◌, if◌then◌else◌, nat_lt, slice_get, option_or, option_and_then, option_map, is_some, Entry, Gap, ContentEvent, Sent, Heard, Recorded, Ended, ContentFacts, LineEvent, Seen, content_at, content_with, content_event_at, INPUTS, below_clear, block_stamp, coming, content_step, floor_known, floor_of, forgetting, full_above, full_end, fun_ext, input_coming, input_ended, is_aging, is_clear_end, is_loading, is_timely, is_touched, latest_said, one_excuse_more, said_if, says_more, seen_at, seen_below, seen_with, settles, states_heard, ◌&&◌, ◌-◌, ◌||◌}
+use Rattle.fio_check.proofs.Names.{◌≡◌, ◌≤◌, ◌∙◌, ◌+◌, ℕ, zero, suc, arith, drop, subst, Bool, true, false, List, Option, Some, None, refl, sym, ap, ◌==◌, if◌then◌else◌, nat_lt, slice_get, option_or, option_and_then, option_map, is_some, Entry, Gap, ContentEvent, Sent, Heard, Recorded, Ended, ContentFacts, LineEvent, Seen, content_at, content_with, content_event_at, INPUTS, below_clear, block_stamp, coming, content_step, floor_known, floor_of, forgetting, full_above, full_end, fun_ext, input_coming, input_ended, is_aging, is_clear_end, is_loading, is_timely, is_touched, latest_said, one_excuse_more, said_if, seen_at, seen_below, seen_with, settles, states_heard, ◌&&◌, ◌-◌, ◌||◌}
 use Rattle.fio_check.specs.ContentAbove.{Excuses, content_above, content_from, excuses_at, excuses_below, one_excuse_less}
 use Rattle.fio_check.specs.ContentRules.{is_excused}
 use Rattle.fio_check.specs.ContentSaid.{is_set_dog, stamp_heard}
@@ -15,33 +15,16 @@ use Rattle.fio_check.proofs.InputNext.{input-end, input-entry, input-gap, input-
 same-facts : (a b : ContentFacts) → a.excuses ≡ b.excuses → a.watchdog_set ≡ b.watchdog_set → a.clearing ≡ b.clearing → a.absent_named ≡ b.absent_named
     → a.clear ≡ b.clear → a.polled ≡ b.polled → ((input : ℕ) → a.since_poll input ≡ b.since_poll input) → a.clock ≡ b.clock → a.block_heard ≡ b.block_heard → a.timely ≡ b.timely → a.full ≡ b.full → a.aged ≡ b.aged → a.floor ≡ b.floor → a.seen ≡ b.seen
     → ((input : ℕ) → a.inputs input ≡ b.inputs input) → a ≡ b
-same-facts a b excuses dog clearing absent clear polled since clock heard timely full aged floor seen inputs =
-    ap₂ (λ l d. record a { excuses = l; watchdog_set = d }) excuses dog
-    ∙ ap₂ (λ c n. record a { excuses = b.excuses; watchdog_set = b.watchdog_set; clearing = c; absent_named = n }) clearing absent
-    ∙ ap₂ (λ p s. record b { clear = a.clear; polled = p; since_poll = s; clock = a.clock; block_heard = a.block_heard; timely = a.timely; full = a.full; aged = a.aged; floor = a.floor; seen = a.seen; inputs = a.inputs }) polled (fun_ext since)
-    ∙ ap₂ (λ c n. record b { clear = c; clock = n; block_heard = a.block_heard; timely = a.timely; full = a.full; aged = a.aged; floor = a.floor; seen = a.seen; inputs = a.inputs }) clear clock
-    ∙ ap₂ (λ h t. record b { block_heard = h; timely = t; full = a.full; aged = a.aged; floor = a.floor; seen = a.seen; inputs = a.inputs }) heard timely
-    ∙ ap₂ (λ u g. record b { full = u; aged = g; floor = a.floor; seen = a.seen; inputs = a.inputs }) full aged
-    ∙ ap₂ (λ f s. record b { floor = f; seen = s; inputs = a.inputs }) floor seen
-    ∙ ap (λ i. record b { inputs = i }) (fun_ext inputs)
+same-facts a b excuses dog clearing absent clear polled since clock heard timely full aged floor seen inputs = grind (arith, fun_ext)
 
 -- a clear block has no C
 full-of-clear : (status stamp : ℕ) → is_clear_end (Ended status stamp) ≡ true → full_end (Ended status stamp) ≡ Some stamp
-full-of-clear status stamp clear = by (says_more status) refl
-  where
-    by : (more : Bool) → says_more status ≡ more → full_end (Ended status stamp) ≡ Some stamp
-    by true is = absurd (cc (rw is at clear))
-    by false is = rw is refl
+full-of-clear status stamp clear = grind arith
 
 -- the end of a block, as the floor
 floor-ended : (events : List LineEvent) (place status stamp : ℕ) → content_event_at events place ≡ Some (Ended status stamp)
     → option_and_then (floor_known events) (latest_said floor_of events (suc place)) ≡ option_or (floor_of (Ended status stamp)) (option_and_then (floor_known events) (latest_said floor_of events place))
-floor-ended events place status stamp is = by (says_more status) refl
-  where
-    by : (more : Bool) → says_more status ≡ more
-        → option_and_then (floor_known events) (latest_said floor_of events (suc place)) ≡ option_or (floor_of (Ended status stamp)) (option_and_then (floor_known events) (latest_said floor_of events place))
-    by true more = floor_next events place (Ended status stamp) is (rw more refl) ∙ rw more refl
-    by false more = floor_here events place (Ended status stamp) is (record { time = stamp; input = None }) (rw more refl) ∙ rw more refl
+floor-ended events place status stamp is = grind (arith, floor_here, floor_next)
 
 -- one excuse more at a load
 abbrev excuses_with : ℕ → ContentEvent → ℕ
@@ -162,14 +145,7 @@ unfolding excuses_at
 excuses-first events = refl
 
 from-below : (excuses : Excuses) (facts : ContentFacts) (place : ℕ) (event : Option ContentEvent) → excuses.from ≤ place → (excuses_below excuses facts place event).from ≤ suc place
-from-below excuses facts place None low = omega (arith, low)
-from-below excuses facts place (Some event) low = by (is_excused facts event) (is_some (is_loading event))
-  where
-    by : (excused loads : Bool) → (if excused then record { left = one_excuse_less excuses.left; from = suc place }
-        else (if loads then record excuses { left = one_excuse_more excuses.left } else excuses)).from ≤ suc place
-    by true loads = omega arith
-    by false true = omega (arith, low)
-    by false false = omega (arith, low)
+from-below excuses facts place event low = grind arith
 
 -- times are read from above
 from-within : (events : List LineEvent) (place : ℕ) → (excuses_at events place).from ≤ place

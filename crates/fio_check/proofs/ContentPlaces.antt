@@ -1,6 +1,6 @@
 -- What is above the place below an event, by what is above the event.
-use Rattle.fio_check.proofs.Names.{content_at, ◌≡◌, ◌<◌, ◌∙◌, ℕ, suc, Bool, true, false, List, Option, Some, None, refl, sym, ap, ap₂, arith, if◌then◌else◌, is_some, nat_lt, not, option_map, option_and_then, unwrap_or, option_or, nat_tests, ContentEvent, LineEvent, SentItem, content_event_at, IsLatestAbove, Placed, is_some_and, latest_above, TimedState, WatchedState, entry_recorded, floor_known, floor_of, ignoring, is_gap, is_polled, is_since_poll, is_timely, item_of_input, latest_said, opening, polling, said_if, settled_at, settles, ◌&&◌, ◌||◌}
-use Rattle.fio_check.specs.ContentAbove.{hiding_at, is_aged, is_at, is_clear_above, is_hidden, is_reopened, is_reopened_for, is_said_between, is_shaded, is_shut_by, is_taken_above, last_said, reopening_at, reopens_for, settled, since_poll_at, taking_at, timed_below, watched_state}
+use Rattle.fio_check.proofs.Names.{content_at, ◌≡◌, ◌<◌, ◌∙◌, ℕ, suc, Bool, true, false, List, Option, Some, None, refl, ap, ap₂, arith, if◌then◌else◌, is_some, nat_lt, not, option_map, option_and_then, unwrap_or, option_or, nat_tests, ContentEvent, LineEvent, SentItem, content_event_at, IsLatestAbove, Placed, is_some_and, latest_above, TimedState, WatchedState, entry_recorded, floor_known, floor_of, ignoring, is_gap, is_polled, is_since_poll, is_timely, item_of_input, latest_said, opening, polling, said_if, settled_at, settles, ◌&&◌, ◌||◌}
+use Rattle.fio_check.specs.ContentAbove.{hiding_at, is_aged, is_clear_above, is_hidden, is_reopened, is_reopened_for, is_said_between, is_shaded, is_shut_by, is_taken_above, last_said, reopening_at, settled, taking_at, timed_below, watched_state}
 use Rattle.fio_check.specs.ContentSaid.{Floor, is_end}
 use Rattle.fio_check.proofs.Places.{is_the_latest}
 
@@ -77,10 +77,7 @@ none-before x y some = grind arith
 watch-more : (is_open opens ignores gap reopened gaps shaded level : Bool)
     → ◌≡◌ {A = Option WatchedState} (if is_open && not (((opens && shaded) || reopened) || (gap || gaps)) then Some (record { level = level; shaded = ignores || shaded }) else None)
     (option_and_then (watched_after opens ignores gap) (if is_open && not (reopened || gaps) then Some (record { level = level; shaded = shaded }) else None))
-watch-more true opens ignores gap true gaps shaded level = reopened-before (opens && shaded) (gap || gaps) _
-watch-more true opens ignores gap false true shaded level = gap-before (opens && shaded) gap _
-watch-more true opens ignores gap false false shaded level = none-before (opens && shaded) gap _
-watch-more false opens ignores gap reopened gaps shaded level = refl
+watch-more is_open opens ignores gap reopened gaps shaded level = grind (arith, gap-before, none-before, reopened-before)
 
 shade-more : (hidden now earlier : Bool) → (hidden || (now || earlier)) ≡ (now || (hidden || earlier))
 shade-more hidden now earlier = grind arith
@@ -114,15 +111,10 @@ module _ (events : List LineEvent) (place : ℕ) (event : ContentEvent) (is : co
 
   pub between_next : {A : Type 0} (says : ContentEvent → Option A) (above : ℕ) → above < place
       → is_said_between says events above (suc place) ≡ (is_some (says event) || is_said_between says events above place)
-  between_next says above below =
-      ap (λ latest. is_some_and latest (λ found. nat_lt above found.place)) (latest_next says)
-      ∙ between-more place above (says event) (latest_said says events place) (less-true above place below)
+  between_next says above below = grind (arith, between-more, latest_next, less-true)
 
   pub between_here : {A : Type 0} (says : ContentEvent → Option A) → says event ≡ None → is_said_between says events place (suc place) ≡ false
-  between_here says none =
-      ap (λ latest. is_some_and latest (λ found. nat_lt place found.place)) (latest_next says)
-      ∙ ap (λ now. is_some_and (option_or (placed place now) (latest_said says events place)) (λ found. nat_lt place found.place)) none
-      ∙ none-between place (latest_said says events place) (λ found found_is. latest_below says events place found found_is)
+  between_here says none = grind (arith, latest_below, latest_next, none-between)
 
   -- ---- of one input
 
@@ -131,13 +123,7 @@ module _ (events : List LineEvent) (place : ℕ) (event : ContentEvent) (is : co
 
   pub since_next : (input : ℕ)
       → is_since_poll events input (suc place) ≡ (if is_end event then false else (is_some (item_of_input input event) && is_polled events place) || is_since_poll events input place)
-  since_next input =
-      turn-more place (since_poll_at events input place) (latest_above (since_poll_at events input) place)
-      ∙ ap (λ e. unwrap_or (if is_some_and e is_end then Some false else said_if (is_some_and e (λ e. is_some (item_of_input input e)) && is_polled events place)) (is_since_poll events input place)) is
-      ∙ by (is_end event) (is_some (item_of_input input event) && is_polled events place)
-    where
-      by : (ends sent : Bool) → unwrap_or (if ends then Some false else said_if sent) (is_since_poll events input place) ≡ (if ends then false else sent || is_since_poll events input place)
-      by ends sent = grind arith
+  since_next input = grind (arith, turn-more)
 
   pub hidden_next : (input : ℕ)
       → is_hidden events input (suc place) ≡ unwrap_or (if settles (content_at events place) input event then Some false else ignoring input event) (is_hidden events input place)
@@ -151,17 +137,11 @@ module _ (events : List LineEvent) (place : ℕ) (event : ContentEvent) (is : co
 
   -- its latest entry stays, by what is found
   shaded-more : (input from : ℕ) → from < place → is_shaded events input from (suc place) ≡ (is_some (ignoring input event) || is_shaded events input from place)
-  shaded-more input from below =
-      ap (λ b. is_hidden events input from || b) (between_next (ignoring input) from below)
-      ∙ shade-more (is_hidden events input from) (is_some (ignoring input event)) (is_said_between (ignoring input) events from place)
+  shaded-more input from below = grind (arith, between_next, shade-more)
 
   reopened-more : (input from : ℕ) → from < place
       → is_reopened_for events input from (suc place) ≡ ((is_some (opening input event) && is_shaded events input from place) || is_reopened_for events input from place)
-  reopened-more input from below =
-      between-more place from (reopens_for events input from place) (latest_above (reopens_for events input from) place) (less-true from place below)
-      ∙ ap (λ b. b || is_reopened_for events input from place)
-      (said (is_at (λ e. is_some (opening input e)) events place && is_shaded events input from place)
-      ∙ ap (λ e. is_some_and e (λ e. is_some (opening input e)) && is_shaded events input from place) is)
+  reopened-more input from below = grind (arith, between-more, less-true, said)
 
   watched-stays : (input : ℕ) (found : Option (Placed TimedState)) → latest_said (entry_recorded input) events place ≡ found
       → option_and_then (watched_state events input (suc place)) found
@@ -182,57 +162,34 @@ module _ (events : List LineEvent) (place : ℕ) (event : ContentEvent) (is : co
       → option_and_then (watched_state events input (suc place)) (latest_said (entry_recorded input) events (suc place))
       ≡ option_and_then (watched_after (is_some (opening input event)) (is_some (ignoring input event)) (is_some (is_gap event)))
       (option_and_then (watched_state events input place) (latest_said (entry_recorded input) events place))
-  watched_next input none =
-      ap (option_and_then (watched_state events input (suc place))) (latest_next (entry_recorded input))
-      ∙ ap (λ now. option_and_then (watched_state events input (suc place)) (option_or (placed place now) (latest_said (entry_recorded input) events place))) none
-      ∙ watched-stays input (latest_said (entry_recorded input) events place) refl
+  watched_next input none = grind (arith, latest_next, watched-stays)
 
   -- it is this event's
   reopened-here : (input : ℕ) → opening input event ≡ None → is_reopened_for events input place (suc place) ≡ false
-  reopened-here input closed =
-      ap (λ now. is_some_and (option_or (placed place now) (latest_above (reopens_for events input place) place)) (λ found. nat_lt place found.place))
-      (ap (λ e. said_if (is_some_and e (λ e. is_some (opening input e)) && is_shaded events input place place)) is
-      ∙ ap (λ o. said_if (is_some o && is_shaded events input place place)) closed)
-      ∙ none-between place (latest_above (reopens_for events input place) place)
-      (λ found found_is. (latest-here (reopens_for events input place) place found found_is).above)
+  reopened-here input closed = grind (arith, latest-here, none-between)
 
   pub watched_here : (input : ℕ) (entry : TimedState) → entry_recorded input event ≡ Some entry → is_gap event ≡ None → opening input event ≡ None → ignoring input event ≡ None
       → option_and_then (watched_state events input (suc place)) (latest_said (entry_recorded input) events (suc place))
       ≡ (if is_clear_above events place && not (is_reopened events input place) then Some (record { level = entry.level; shaded = is_hidden events input place }) else None)
-  watched_here input entry here shown closed unhidden =
-      let base = is_clear_above events place && not (is_reopened events input place) in
-      ap (option_and_then (watched_state events input (suc place))) (latest_next (entry_recorded input))
-      ∙ ap (λ now. option_and_then (watched_state events input (suc place)) (option_or (placed place now) (latest_said (entry_recorded input) events place))) here
-      ∙ ap₂ (λ reopened gaps. if base && not (reopened || gaps) then Some (record { level = entry.level; shaded = is_shaded events input place (suc place) }) else None)
-      (reopened-here input closed) (between_here is_gap shown)
-      ∙ ap₂ (λ opened between. if opened then Some (record { level = entry.level; shaded = is_hidden events input place || between }) else None) (and-true base) (between_here (ignoring input) unhidden)
-      ∙ ap (λ shaded. if base then Some (record { level = entry.level; shaded = shaded }) else None) (or-none (is_hidden events input place))
+  watched_here input entry here shown closed unhidden = grind (arith, and-true, between_here, latest_next, or-none, reopened-here)
 
   pub timed_next : (input : ℕ) → entry_recorded input event ≡ None
       → option_and_then (timed_below events) (latest_said (entry_recorded input) events (suc place)) ≡ option_and_then (timed_below events) (latest_said (entry_recorded input) events place)
-  timed_next input none =
-      ap (option_and_then (timed_below events)) (latest_next (entry_recorded input))
-      ∙ ap (λ now. option_and_then (timed_below events) (option_or (placed place now) (latest_said (entry_recorded input) events place))) none
+  timed_next input none = grind (arith, latest_next)
 
   pub timed_here : (input : ℕ) (entry : TimedState) → entry_recorded input event ≡ Some entry
       → option_and_then (timed_below events) (latest_said (entry_recorded input) events (suc place)) ≡ (if is_timely events place && not (is_aged events place) then Some entry.wide else None)
-  timed_here input entry here =
-      ap (option_and_then (timed_below events)) (latest_next (entry_recorded input))
-      ∙ ap (λ now. option_and_then (timed_below events) (option_or (placed place now) (latest_said (entry_recorded input) events place))) here
+  timed_here input entry here = grind (arith, latest_next)
 
   -- ---- the floor
 
   pub floor_next : floor_of event ≡ None
       → option_and_then (floor_known events) (latest_said floor_of events (suc place)) ≡ option_and_then (floor_known events) (latest_said floor_of events place)
-  floor_next none =
-      ap (option_and_then (floor_known events)) (latest_next floor_of)
-      ∙ ap (λ now. option_and_then (floor_known events) (option_or (placed place now) (latest_said floor_of events place))) none
+  floor_next none = grind (arith, latest_next)
 
   pub floor_here : (floor : Floor) → floor_of event ≡ Some floor
       → option_and_then (floor_known events) (latest_said floor_of events (suc place)) ≡ (if is_some floor.input && is_aged events place then None else Some floor)
-  floor_here floor here =
-      ap (option_and_then (floor_known events)) (latest_next floor_of)
-      ∙ ap (λ now. option_and_then (floor_known events) (option_or (placed place now) (latest_said floor_of events place))) here
+  floor_here floor here = grind (arith, latest_next)
 
   -- ---- the item that is settled
 
@@ -244,19 +201,12 @@ module _ (events : List LineEvent) (place : ℕ) (event : ContentEvent) (is : co
 
   shut-stays : (input : ℕ) (found : Option (Placed SentItem)) → settled events input place ≡ found
       → is_some_and found (is_shut_by events input (suc place)) ≡ (not (is_some (opening input event)) && is_some_and found (is_shut_by events input place))
-  shut-stays input None at = sym (and-none (not (is_some (opening input event))))
-  shut-stays input (Some item) at =
-      ap (λ between. item.value.ignore && not between) (between_next (opening input) item.place (settled-below input item at))
-      ∙ open-more item.value.ignore (is_some (opening input event)) (is_said_between (opening input) events item.place place)
+  shut-stays input found at = grind (arith, and-none, between_next, open-more, settled-below)
 
   pub shut_next : (input : ℕ) → settled_at events input place ≡ None
       → is_some_and (settled events input (suc place)) (is_shut_by events input (suc place)) ≡ (not (is_some (opening input event)) && is_some_and (settled events input place) (is_shut_by events input place))
-  shut_next input none =
-      ap (λ found. is_some_and found (is_shut_by events input (suc place))) (settled-more input None none)
-      ∙ shut-stays input (settled events input place) refl
+  shut_next input none = grind (arith, settled-more, shut-stays)
 
   pub shut_here : (input : ℕ) (item : SentItem) → settled_at events input place ≡ Some item → opening input event ≡ None
       → is_some_and (settled events input (suc place)) (is_shut_by events input (suc place)) ≡ item.ignore
-  shut_here input item here closed =
-      ap (λ found. is_some_and found (is_shut_by events input (suc place))) (settled-more input (Some item) here)
-      ∙ ap (λ between. item.ignore && not between) (between_here (opening input) closed) ∙ and-true item.ignore
+  shut_here input item here closed = grind (arith, and-true, between_here, settled-more)

@@ -1,6 +1,5 @@
 -- Lines from the first command on: what is above it is heard.
-use Rattle.fio_check.proofs.Names.{◌≡◌, ◌<◌, ◌∙◌, ◌+◌, ◌++◌, ◌⊎◌, inl, inr, ℕ, zero, suc, Bool, true, false, List, [], ◌∷◌, Option, Some, None, refl, sym, ap, arith, length, fold, slice_get, if◌then◌else◌, TranscriptLine, from_first_command, is_sent_at, number_polled, observation_at, observation_on, Answer, answer_in, number_below}
-use Rattle.fio_message.specs.declared.answers.Answer.TheVariants as answers
+use Rattle.fio_check.proofs.Names.{◌≡◌, ◌<◌, ◌∙◌, ◌+◌, ◌++◌, ◌⊎◌, inr, ℕ, zero, suc, Bool, true, false, List, [], ◌∷◌, Option, None, refl, sym, ap, arith, length, fold, slice_get, if◌then◌else◌, TranscriptLine, from_first_command, is_sent_at, number_polled, observation_at, observation_on, Answer, answer_in, number_below}
 use Rattle.fio_check.specs.ContentEvents.{number_after}
 use Rattle.fio_check.specs.Observations.{observation_of}
 
@@ -10,9 +9,7 @@ record IsUnpolled (answer : Option Answer) : Type 0 where
   pub number : number_after None None answer ≡ None
 
 unpolled : (answer : Option Answer) → IsUnpolled answer
-unpolled None = record { polled = refl; number = refl }
-unpolled (Some (answers.Block block entries status stamp)) = record { polled = refl; number = refl }
-unpolled (Some other) = record { polled = refl; number = refl }
+unpolled answer = grind arith
 
 -- a line that is heard is no poll, and leaves the CPU without a number
 pub heard_unpolled : (line : TranscriptLine) → line.from_cpu ≡ false → number_polled (observation_on line) ≡ None
@@ -89,18 +86,7 @@ with_or_without (line ∷ lines) below = by (with_or_without lines below) line.f
         → (sent : Bool) → line.from_cpu ≡ sent
         → HasCommand (line ∷ lines) below (if sent then line ∷ (lines ++ below) else from_first_command (lines ++ below))
         ⊎ HasNoCommand (line ∷ lines) below (if sent then line ∷ (lines ++ below) else from_first_command (lines ++ below))
-    by further true is =
-        let whole : from_first_command (line ∷ lines) ≡ line ∷ lines = ap (λ sent. if sent then line ∷ lines else from_first_command lines) is in
-        inl (record { rest_is = ap (λ all. all ++ below) (sym whole); number = ap (number_through None) (sym whole) })
-    by further false is =
-        let above : number_through None (line ∷ lines) ≡ number_through None lines = ap (λ number. number_through number lines) (heard_number line is) in
-        elim further as (λ _. HasCommand (line ∷ lines) below (from_first_command (lines ++ below)) ⊎ HasNoCommand (line ∷ lines) below (from_first_command (lines ++ below))) [
-          | inl has ↦ inl (record { rest_is = has.rest_is ∙ ap (λ all. all ++ below) (sym (passed is)); number = above ∙ has.number ∙ ap (number_through None) (sym (passed is)) })
-          | inr none ↦ inr (record { none = passed is ∙ none.none; rest_is = none.rest_is; number = above ∙ none.number })
-        ]
-      where
-        passed : line.from_cpu ≡ false → from_first_command (line ∷ lines) ≡ from_first_command lines
-        passed is = ap (λ sent. if sent then line ∷ lines else from_first_command lines) is
+    by further sent is = grind (arith, heard_number)
 
 -- ---- lines that are the ones from the first command on
 

@@ -29,12 +29,7 @@ compared-state facts stamp entry (Some watched) is some none =
 -- the same entry turned
 turned-breaks : (facts : ContentFacts) (stamp : ℕ) (entry : EntryOf) (shaded : Bool) → (facts.inputs entry.input).watched ≡ Some (record { level = not entry.level; shaded = shaded })
     → is_some (rule_broken_by facts (recorded stamp (turned entry))) ≡ true
-turned-breaks facts stamp entry shaded is =
-    breaks_alternate facts entry.input entry.stamp (wide_time_of stamp entry.stamp) (not entry.level) (rw is (alike (not entry.level)))
-  where
-    alike : (b : Bool) → beq b b ≡ true
-    alike true = refl
-    alike false = refl
+turned-breaks facts stamp entry shaded is = grind (arith, breaks_alternate)
 
 -- what is compared is watched
 watched-some : (seen : Option Seen) (input : ℕ) (event : Option ContentEvent) (watched : Option WatchedState)
@@ -61,15 +56,7 @@ finds_turned begun above line octets block front back entry none changes compare
 
 -- an entry of an input up to 63 has that input's event
 entry-within : (stamp input : ℕ) (entry : EntryOf) → is_some (entry_recorded input (recorded stamp entry)) ≡ true → input < INPUTS
-entry-within stamp input entry some = by-test (input == entry.input) (nat_lt input INPUTS) refl some
-  where
-    by-test : (own within : Bool) → nat_lt input INPUTS ≡ within → is_some (if own && within then Some (timed entry.level (wide_time_of stamp entry.stamp)) else None) ≡ true → input < INPUTS
-    by-test true true within is = below input INPUTS within
-      where
-        below : (a b : ℕ) → nat_lt a b ≡ true → a < b
-        below a b is = grind (arith, nat_tests)
-    by-test true false within is = absurd (cc)
-    by-test false within test is = absurd (cc)
+entry-within stamp input entry some = grind (arith, nat_tests, timed)
 
 -- what is above of the input of an entry, where the record comes to states with it, or not
 abbrev above-entry : ContentFacts → ℕ → EntryOf → InputAbove
@@ -182,11 +169,7 @@ steady-some (Some watched) some = (watched.level, ap (λ shaded. Some (record { 
 
 both-states : (watched : Option WatchedState) (level shaded other : Bool) → watched ≡ Some (record { level = level; shaded = shaded })
     → watched ≡ Some (record { level = other; shaded = false }) → watched ≡ Some (record { level = level; shaded = false })
-both-states watched level shaded other is steady =
-    is ∙ ap (λ s. Some (record { level = level; shaded = s })) (shades (same_Some _ _ (sym is ∙ steady)))
-  where
-    shades : ◌≡◌ {A = WatchedState} (record { level = level; shaded = shaded }) (record { level = other; shaded = false }) → shaded ≡ false
-    shades same = ap (λ (w : WatchedState). w.shaded) same
+both-states watched level shaded other is steady = grind (arith, same_Some)
 
 pub finds_dropped : (begun : Bool) → FindsDropped begun
 finds_dropped begun above below line octets block front back entry place none changes compared_there compared =

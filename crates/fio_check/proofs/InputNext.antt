@@ -1,6 +1,5 @@
 -- What is known of one input below an event, by what is known of it above.
-use Rattle.fio_check.proofs.Names.{◌≡◌, ◌∙◌, ℕ, suc, arith, Bool, true, false, List, Option, Some, None, refl, sym, ap, ap₂, ◌==◌, if◌then◌else◌, nat_lt, not, slice_get, unwrap_or, option_and_then, is_some, Entry, Gap, ContentEvent, Sent, Heard, Recorded, Ended, ContentFacts, LineEvent, Seen, SentItem, content_event_at, Answer, Command, INPUTS, InputAbove, InputItem, coming, content_step, ends_shown, if_comes, ignores, input_below_clear, input_coming, input_ended, input_with_answer, input_with_entry, input_with_item, is_polled, is_since_poll, is_timely, is_touched, is_unlogged, item_for, item_of_input, items_sent, opens, polling, said_if, seen_at, settled_at, settled_now, settles, state_shown, shows_other, shown_at, unnamed, ◌&&◌, ◌||◌}
-use Rattle.fio_message.specs.declared.commands.Command.TheVariants as commands
+use Rattle.fio_check.proofs.Names.{◌≡◌, ◌∙◌, ℕ, suc, arith, Bool, true, false, List, Option, Some, None, refl, sym, ap, ap₂, ◌==◌, if◌then◌else◌, nat_lt, not, slice_get, option_and_then, is_some, Entry, Gap, ContentEvent, Sent, Heard, Recorded, Ended, ContentFacts, LineEvent, Seen, SentItem, content_event_at, Answer, Command, INPUTS, InputAbove, coming, content_step, ends_shown, if_comes, ignores, input_below_clear, input_coming, input_ended, input_with_answer, input_with_entry, input_with_item, is_since_poll, is_timely, is_touched, is_unlogged, item_for, item_of_input, items_sent, opens, said_if, seen_at, settled_at, settled_now, settles, shows_other, shown_at, unnamed, ◌&&◌, ◌||◌}
 use Rattle.fio_check.specs.ContentAbove.{awaited_command, content_above, input_at, item_named}
 use Rattle.fio_check.specs.ContentSaid.{accepts_items, item_sent}
 use Rattle.fio_check.specs.ContentFacts.{unwatched}
@@ -23,20 +22,7 @@ module _ (timed : List LineEvent) (at : ℕ) (events : List LineEvent) (place : 
   -- what states tell of the input
   shown-next : (event : ContentEvent) → content_event_at events place ≡ Some event
       → shown_at timed input (suc at) ≡ (if ends_shown input event then None else shown_after input (option_and_then (if_comes event) (seen_at timed at)) now)
-  shown-next event is =
-      shown_next timed at event (same ∙ is) input
-      ∙ ap (λ shown. if ends_shown input event then None else shown) (by (seen_at timed at) refl)
-    where
-      with-states : (comes : Option Seen) → is_touched timed input at ≡ is_touched events input place
-          → shown_within timed at event (same ∙ is) input (nat_lt input INPUTS) (is_touched timed input at) comes ≡ shown_after input comes now
-      with-states None alike = refl
-      with-states (Some seen) alike = ap (λ t. if nat_lt input INPUTS then state_shown input t seen else shown_at timed input at) alike
-
-      by : (seen : Option Seen) → seen_at timed at ≡ seen
-          → shown_within timed at event (same ∙ is) input (nat_lt input INPUTS) (is_touched timed input at) (option_and_then (if_comes event) seen)
-          ≡ shown_after input (option_and_then (if_comes event) seen) now
-      by None none = refl
-      by (Some seen) some = with-states (if_comes event seen) (touched input (seen_timely timed at seen some))
+  shown-next event is = grind (arith, seen_timely, shown_next, shown_within)
 
   unlogged-next : (event : ContentEvent) → content_event_at events place ≡ Some event
       → is_unlogged timed input (suc at) ≡ (if is_some (item_of_input input event) then false else unlogged_after input (option_and_then (if_comes event) (seen_at timed at)) now)
@@ -232,19 +218,4 @@ module _ (timed : List LineEvent) (at : ℕ) (events : List LineEvent) (place : 
   -- an item that is sent below a poll
   pub since-sent : (command : Command) → content_event_at events place ≡ Some (Sent command)
       → is_since_poll events input (suc place) ≡ (content_step here_above (Sent command)).since_poll input
-  since-sent command is =
-      since_next events place (Sent command) is input
-      ∙ ap (λ b. b || is_since_poll events input place)
-      (swapped command ∙ ap (λ b. unwrap_or (polling (Sent command)) (is_polled events place) && b) (sym (item_parts (input_at timed at events input place) (item_for input (items_sent command))).named))
-    where
-      none-sent : (within polled : Bool) → (is_some (if within then (let none : Option InputItem = None in none) else None) && polled) ≡ is_some (if within then (let none : Option InputItem = None in none) else None)
-      none-sent true polled = refl
-      none-sent false polled = refl
-
-      both-ways : (a b : Bool) → (a && b) ≡ (b && a)
-      both-ways a b = grind arith
-
-      swapped : (command : Command) → (is_some (item_for input (items_sent command)) && is_polled events place)
-          ≡ (unwrap_or (polling (Sent command)) (is_polled events place) && is_some (item_for input (items_sent command)))
-      swapped (commands.Poll number) = none-sent (nat_lt input INPUTS) (is_polled events place)
-      swapped other = both-ways (is_some (item_for input (items_sent other))) (is_polled events place)
+  since-sent command is = grind (arith, item_parts, since_next)

@@ -1,5 +1,6 @@
 -- The parts of an input below an item, by their tests.
-use Rattle.fio_check.proofs.Names.{◌≡◌, Bool, true, false, Option, Some, None, refl, if◌then◌else◌, not, unwrap_or, option_or, option_and_then, option_map, is_some, InputAbove, InputItem, WatchedState, ignores, input_with_item, least_with, opens, said_if, shaded, unless_shaded, unnamed, ◌&&◌, ◌||◌}
+use Rattle.std.proofs.Common.{arith}
+use Rattle.fio_check.proofs.Names.{◌≡◌, Bool, true, false, Option, Some, None, refl, if◌then◌else◌, not, unwrap_or, option_or, option_and_then, option_map, is_some, InputAbove, InputItem, WatchedState, ignores, input_with_item, least_with, opens, said_if, unnamed, ◌&&◌, ◌||◌}
 use Rattle.fio_check.specs.ContentSaid.{item_kept}
 use Rattle.fio_check.proofs.ContentPlaces.{watched_after}
 
@@ -33,64 +34,10 @@ watched_same None = refl
 watched_same (Some state) = refl
 
 parts-ignore : (now : InputAbove) (item : InputItem) (ignore : Bool) → item.ignore ≡ ignore → ItemParts now (Some item)
-parts-ignore now item true is = record {
-  named = refl;
-  taken = refl;
-  hidden = rw is refl;
-  reopened = rw is refl;
-  watched = rw is (by now.watched);
-  touched = refl;
-  shown = refl;
-  unlogged = refl;
-  shut = rw is refl;
-  item = rw is refl;
-  timed = rw is refl;
-  least = refl;
-}
-  where
-    by : (watched : Option WatchedState) → option_map shaded watched ≡ option_and_then (watched_after false true false) watched
-    by None = refl
-    by (Some state) = refl
-parts-ignore now item false is = record {
-  named = refl;
-  taken = refl;
-  hidden = rw is refl;
-  reopened = rw is refl;
-  watched = rw is (by now.watched);
-  touched = refl;
-  shown = refl;
-  unlogged = refl;
-  shut = rw is refl;
-  item = rw is refl;
-  timed = rw is refl;
-  least = refl;
-}
-  where
-    by-shade : (level shaded : Bool)
-        → ◌≡◌ {A = Option WatchedState} (if shaded then None else Some (record { level = level; shaded = shaded })) (if (true && shaded) || false then None else Some (record { level = level; shaded = false || shaded }))
-    by-shade level true = refl
-    by-shade level false = refl
-
-    by : (watched : Option WatchedState) → option_and_then unless_shaded watched ≡ option_and_then (watched_after true false false) watched
-    by None = refl
-    by (Some state) = by-shade state.level state.shaded
+parts-ignore now item ignore is = grind (arith, watched_after)
 
 pub item_parts : (now : InputAbove) (item : Option InputItem) → ItemParts now item
-item_parts now None = record {
-  named = refl;
-  taken = refl;
-  hidden = refl;
-  reopened = refl;
-  watched = watched_same now.watched;
-  touched = refl;
-  shown = refl;
-  unlogged = refl;
-  shut = refl;
-  item = refl;
-  timed = refl;
-  least = refl;
-}
-item_parts now (Some item) = parts-ignore now item item.ignore refl
+item_parts now item = grind (arith, parts-ignore, watched_same)
 
 pub unwatched_none : (watched : Option WatchedState) → option_and_then (watched_after false false true) watched ≡ None
 unwatched_none None = refl

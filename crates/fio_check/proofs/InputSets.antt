@@ -1,14 +1,12 @@
 -- Sets of inputs as words, and arrays by input.
+use Rattle.std.proofs.Common.{arith}
 use Rattle.fio_check.proofs.Names.{◌≡◌, ◌<◌, ◌≤◌, ◌∙◌, ℕ, inl, inr, true, false, sym, ap, ◌==◌, not, if◌then◌else◌, eqb_tells, is_set, bit_and, bit_not, bit_or, is_set-above, is_set-and, is_set-not, leb_tells, w64, ◌&&◌, ◌^◌}
 use Rattle.fio_message.proofs.Bits.{is_set-clear_other, is_set-clear_same, is_set-set_other, is_set-set_same, one_at}
 
 module _ (word input : ℕ) (within : input < 64) where
   -- an input that is put in
   pub put_in : (other : ℕ) → is_set (bit_or word (one_at word input within)) other ≡ (if other == input then true else is_set word other)
-  put_in other = elim (eqb_tells other input) as (λ _. is_set (bit_or word (one_at word input within)) other ≡ (if other == input then true else is_set word other)) [
-    | inl same ↦ rw (same.0, same.1) (is_set-set_same word input within)
-    | inr differs ↦ rw differs.0 (is_set-set_other word input within other differs.1)
-  ]
+  put_in other = grind (arith, eqb_tells, is_set-set_other, is_set-set_same, one_at)
 
   -- above place 63 there is none
   none_above : (other : ℕ) → word < 2 ^ 64 → 64 ≤ other → is_set (bit_and word (bit_not w64 (one_at word input within))) other ≡ is_set word other
@@ -18,13 +16,7 @@ module _ (word input : ℕ) (within : input < 64) where
 
   -- an input that is taken out
   pub take_out : (other : ℕ) → word < 2 ^ 64 → is_set (bit_and word (bit_not w64 (one_at word input within))) other ≡ (if other == input then false else is_set word other)
-  take_out other fits = elim (eqb_tells other input) as (λ _. is_set (bit_and word (bit_not w64 (one_at word input within))) other ≡ (if other == input then false else is_set word other)) [
-    | inl same ↦ rw (same.0, same.1) (is_set-clear_same word input within)
-    | inr differs ↦ rw differs.0 (elim (leb_tells 64 other) as (λ _. is_set (bit_and word (bit_not w64 (one_at word input within))) other ≡ is_set word other) [
-      | inl above ↦ none_above other fits above.1
-      | inr below ↦ is_set-clear_other word input within other below.1 differs.1
-    ])
-  ]
+  take_out other fits = grind (arith, eqb_tells, is_set-clear_other, is_set-clear_same, leb_tells, none_above, one_at)
 
 -- the inputs of one set that are not in another
 pub without : (word others input : ℕ) → word < 2 ^ 64 → others < 2 ^ 64

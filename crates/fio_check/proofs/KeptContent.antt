@@ -1,5 +1,5 @@
 -- The events of a block, and the number of a CPU's end, as the checker of the rules on content takes them.
-use Rattle.fio_check.proofs.Names.{◌≡◌, ◌∙◌, ◌+◌, ◌++◌, ℕ, Bool, true, false, List, [], ◌∷◌, Option, Some, None, refl, sym, ap, ap₂, arith, length, map, fold, option_or, option_and_then, gap_if, Item, if◌then◌else◌, ◌==◌, not, is_set, InputAbove, Seen, ContentFacts, content_with, breach_among, breach_found, ContentEvent, Recorded, Ended, items_and_end, ContentBreach, below_clear, coming, content_step, fun_ext, if_comes, input_coming, input_ended, is_clear_end, is_set-zero, says_again, says_more, seen_below, settles, ◌||◌}
+use Rattle.fio_check.proofs.Names.{◌≡◌, ◌∙◌, ◌+◌, ◌++◌, ℕ, Bool, true, false, List, [], ◌∷◌, Option, Some, None, refl, sym, ap, ap₂, arith, length, map, fold, option_or, gap_if, Item, if◌then◌else◌, not, is_set, InputAbove, ContentFacts, content_with, breach_among, breach_found, ContentEvent, Recorded, Ended, items_and_end, ContentBreach, coming, content_step, fun_ext, input_coming, input_ended, is_set-zero, says_again, says_more, seen_below, settles, ◌||◌}
 use Rattle.fio_check.specs.ContentFacts.{timely_below}
 use Rattle.fio_check.specs.ContentKept.{flagged_number, is_flagged}
 
@@ -52,19 +52,11 @@ block_found facts below lost entries status stamp items found in_entries in_end 
 -- an input below it
 pub ended_input : (facts : ContentFacts) (status stamp input : ℕ)
     → (content_step facts (Ended status stamp)).inputs input ≡ input_ended (settles facts input (Ended status stamp)) (input_coming input (coming facts (Ended status stamp)) (facts.inputs input))
-ended_input facts status stamp input = by (is_clear_end (Ended status stamp)) _
-  where
-    by : (clear : Bool) (ended : ContentFacts) → (if clear then below_clear ended stamp else ended).inputs input ≡ ended.inputs input
-    by true ended = refl
-    by false ended = refl
+ended_input facts status stamp input = grind arith
 
 -- no poll is sent since
 pub ended_unpolled : (facts : ContentFacts) (status stamp : ℕ) → (content_step facts (Ended status stamp)).polled ≡ false
-ended_unpolled facts status stamp = by (is_clear_end (Ended status stamp)) _ refl
-  where
-    by : (clear : Bool) (ended : ContentFacts) → ended.polled ≡ false → (if clear then below_clear ended stamp else ended).polled ≡ false
-    by true ended none = none
-    by false ended none = none
+ended_unpolled facts status stamp = grind arith
 
 -- one without C settles inputs, and keeps its stamp
 pub ended_full : (old mid settled full : ContentFacts) (status stamp : ℕ) → says_more status ≡ false
@@ -80,63 +72,12 @@ pub ended_full : (old mid settled full : ContentFacts) (status stamp : ℕ) → 
       floor = Some (record { time = stamp; input = None });
     })
     → (record full { polled = false; since_poll = λ input. false }) ≡ content_step old (Ended status stamp)
-ended_full old mid settled full status stamp whole comes settles_is full_is =
-    ap {A = ContentFacts} (λ facts. record facts { polled = false; since_poll = λ input. false }) full_is
-    ∙ ap {A = ContentFacts} (λ facts. record facts {
-      clear = not (says_again status) || facts.clear;
-      timely = timely_below (not (says_again status)) facts;
-      full = if timely_below (not (says_again status)) facts then Some stamp else None;
-      floor = Some (record { time = stamp; input = None });
-      polled = false;
-      since_poll = λ input. false;
-    }) settles_is
-    ∙ ap {A = ContentFacts} (λ facts. record facts {
-      clear = not (says_again status) || facts.clear;
-      timely = timely_below (not (says_again status)) facts;
-      full = if timely_below (not (says_again status)) facts then Some stamp else None;
-      floor = Some (record { time = stamp; input = None });
-      polled = false;
-      since_poll = λ input. false;
-      inputs = λ input. input_ended (settles facts input (Ended status stamp)) (facts.inputs input);
-    }) comes
-    ∙ by (says_again status) refl
-  where
-    below : Bool → ContentFacts
-    below again = record old {
-      clear = not again || old.clear;
-      timely = timely_below (not again) old;
-      full = if timely_below (not again) old then Some stamp else None;
-      floor = Some (record { time = stamp; input = None });
-      seen = seen_below (Ended status stamp) old.seen;
-      polled = false;
-      since_poll = λ input. false;
-      inputs = λ input. input_ended (settles old input (Ended status stamp)) (input_coming input (coming old (Ended status stamp)) (old.inputs input));
-    }
-
-    by : (again : Bool) → says_again status ≡ again → below (says_again status) ≡ content_step old (Ended status stamp)
-    by true again = rw (whole, again) refl
-    by false first = rw (whole, first) refl
+ended_full old mid settled full status stamp whole comes settles_is full_is = grind arith
 
 -- one with C does neither
 pub ended_more : (old : ContentFacts) (status stamp : ℕ) → says_more status ≡ true → old.full ≡ (if old.timely then old.full else None)
     → (record old { polled = false; since_poll = λ input. false }) ≡ content_step old (Ended status stamp)
-ended_more old status stamp more known = rw more
-    (ap (λ full. record old { full = full; polled = false; since_poll = λ input. false }) known
-    ∙ ap₂ (λ seen comes. record old {
-      full = if old.timely then old.full else None;
-      seen = seen;
-      polled = false;
-      since_poll = λ input. false;
-      inputs = λ input. input_coming input comes (old.inputs input);
-    }) (sym (still-seen old.seen)) (sym (none-comes old.seen)))
-  where
-    still-seen : (seen : Option Seen) → seen_below (Ended status stamp) seen ≡ seen
-    still-seen None = refl
-    still-seen (Some seen) = rw more refl
-
-    none-comes : (seen : Option Seen) → option_and_then (if_comes (Ended status stamp)) seen ≡ None
-    none-comes None = refl
-    none-comes (Some seen) = rw more refl
+ended_more old status stamp more known = grind arith
 
 -- the inputs that a clear block settles
 pub settled_clear : (old : ContentFacts) (inputs : ℕ → InputAbove) (status stamp : ℕ) → says_more status ≡ false → says_again status ≡ false
@@ -147,8 +88,4 @@ settled_clear old inputs status stamp whole first settled = rw (whole, first)
 
 -- the stamp of a block is kept only where times are known
 pub flagged_if : (clear full : ℕ) → flagged_number clear full ≡ (if is_flagged clear then flagged_number clear full else None)
-flagged_if clear full = by (clear == 0)
-  where
-    by : (none : Bool) → (if none then None else Some full) ≡ (if not none then (if none then None else Some full) else None)
-    by true = refl
-    by false = refl
+flagged_if clear full = grind arith

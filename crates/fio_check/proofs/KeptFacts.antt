@@ -1,17 +1,12 @@
 -- What is kept line by line is what is above the next line.
-use Rattle.fio_check.proofs.Names.{◌≡◌, ℕ, suc, List, Some, refl, ◌==◌, not, slice_get, facts_at, facts_with, latest_poll, KeepsFacts, TranscriptLine, observation_at, observation_on, Observation, Poll, Unreadable}
-use Rattle.fio_check.specs.declared.observation.Observation.TheVariants.{Command, Block, Answer}
+use Rattle.std.proofs.Common.{arith}
+use Rattle.fio_check.proofs.Names.{◌≡◌, ℕ, suc, List, Some, refl, slice_get, facts_at, facts_with, KeepsFacts, TranscriptLine, observation_at, observation_on, Observation}
 use Rattle.fio_check.proofs.Places.{is_some_and-map}
 
 -- the facts with a line more, by what it says
 facts-next : (lines : List TranscriptLine) (place : ℕ) (observation : Observation) → observation_at lines place ≡ observation
     → facts_at lines (suc place) ≡ facts_with (facts_at lines place) observation
-facts-next lines place (Poll number) is =
-    rw (is, is_some_and-map (λ poll. poll.value) (λ polled. not (number == polled)) (latest_poll lines place)) refl
-facts-next lines place (Command answer absent) is = rw is refl
-facts-next lines place (Block number status entries absent) is = rw is refl
-facts-next lines place (Answer code accepted) is = rw is refl
-facts-next lines place Unreadable is = rw is refl
+facts-next lines place observation is = grind (arith, is_some_and-map)
 
 -- the line at a place says this
 pub seen_at : (lines : List TranscriptLine) (place : ℕ) (line : TranscriptLine) → slice_get lines place ≡ Some line

@@ -1,5 +1,5 @@
 -- What the fields of the checker of the rules on content stand for of one input, with one thing more.
-use Rattle.fio_check.proofs.Names.{◌≡◌, ◌<◌, ℕ, zero, suc, inl, inr, Bool, true, false, List, [], ◌∷◌, Option, Some, None, option_or, refl, sym, arith, get_or, replicate, ◌==◌, nat_lt, nat_tests, if◌then◌else◌, eqb_tells, DEFAULT_FILTER, FilterPair, INPUTS, InputAbove, InputItem, bit_or, input_begun, input_kept, input_with_answer, input_with_earlier, is_set-above, is_set-or, is_set-zero, item_for, leb_tells, no_input, ◌&&◌, ◌-◌, ◌^◌}
+use Rattle.fio_check.proofs.Names.{◌≡◌, ◌<◌, ℕ, zero, suc, Bool, true, false, List, [], ◌∷◌, Option, Some, None, refl, arith, get_or, replicate, ◌==◌, nat_lt, nat_tests, if◌then◌else◌, eqb_tells, DEFAULT_FILTER, FilterPair, INPUTS, InputAbove, InputItem, bit_or, input_begun, input_kept, input_with_answer, input_with_earlier, is_set-above, is_set-or, is_set-zero, item_for, leb_tells, no_input, ◌&&◌, ◌-◌, ◌^◌}
 use Rattle.std.specs.Prelude.{◌≤◌, ◌⊎◌}
 use Rattle.fio_message.proofs.Bits.{is_set-ones}
 use Rattle.fio_check.specs.ContentAbove.{lesser}
@@ -11,29 +11,14 @@ use Rattle.fio_check.specs.declared.content_inputs.ContentInputs.{ContentInputs}
 
 -- the input that an item names
 pub is_place : (place input : ℕ) → place < 64 → (place == input && nat_lt input 64) ≡ (input == place)
-is_place place input within = elim (eqb_tells place input) as (λ _. (place == input && nat_lt input 64) ≡ (input == place)) [
-  | inl same ↦ rw (← same.1) (is_own place within)
-  | inr other ↦ rw other.0 (sym (is_other input place (λ e. other.1 (sym e))))
-]
-  where
-    is_own : (n : ℕ) → n < 64 → (n == n && nat_lt n 64) ≡ (n == n)
-    is_own n within = grind (arith, nat_tests)
-
-    is_other : (a b : ℕ) → (a ≡ b → ⊥) → (a == b) ≡ false
-    is_other a b different = grind (arith, nat_tests)
+is_place place input within = grind (arith, eqb_tells, nat_tests)
 
 -- none of another input
 item-none : (item : InputItem) (input : ℕ) → (item.input == input && nat_lt input 64) ≡ false → item_for input (item ∷ []) ≡ None
-item-none item input other = by (item.input == input) (nat_lt input 64) other
-  where
-    by : (same within : Bool) → (same && within) ≡ false → (if within then option_or None (if same then Some item else None) else None) ≡ None
-    by same within is = grind arith
+item-none item input other = grind arith
 
 item-some : (item : InputItem) (input : ℕ) → (item.input == input && nat_lt input 64) ≡ true → item_for input (item ∷ []) ≡ Some item
-item-some item input own = by (item.input == input) (nat_lt input 64) own
-  where
-    by : (same within : Bool) → (same && within) ≡ true → (if within then option_or None (if same then Some item else None) else None) ≡ Some item
-    by same within is = grind arith
+item-some item input own = grind arith
 
 earlier-none : (above : InputAbove) (named : Bool) → (if named then above else above) ≡ above
 earlier-none above true = refl
@@ -45,10 +30,7 @@ item-here : (old : InputAbove) (item : InputItem) (ignore same : Bool) (found : 
     let set = (if same then record filtered { named = true; item = Some (record { ignore = ignore; filters = filters_of item }); taken = false; touched = true; shown = None; unlogged = false } else filtered) in
     (if same then turned_by ignore set else set)
     ≡ input_with_earlier old found)
-item-here old item true true found is (inl unnamed) at = rw (at, unnamed, ← is) refl
-item-here old item false true found is (inl unnamed) at = rw (at, unnamed, ← is) refl
-item-here old item ignore true found is (inr never) at = absurd (cc)
-item-here old item ignore false found is which at = rw at (sym (earlier-none old old.named))
+item-here old item ignore same found is which at = grind (arith, earlier-none)
 
 -- an item is added
 pub item_added : (old filtered set new : InputAbove) (item : InputItem) (filters : FilterPair) (place input : ℕ) → place ≡ item.input → place < 64 → filters ≡ filters_of item
@@ -57,23 +39,7 @@ pub item_added : (old filtered set new : InputAbove) (item : InputItem) (filters
     → set ≡ (if input == place then record filtered { named = true; item = Some (record { ignore = item.ignore; filters = filters }); taken = false; touched = true; shown = None; unlogged = false } else filtered)
     → new ≡ (if input == place then turned_by item.ignore set else set)
     → new ≡ input_with_earlier old (item_for input (item ∷ []))
-item_added old filtered set new item filters place input named within in_force unnamed a b d =
-    let within_item : item.input < 64 = omega (arith, named, within) in
-    let own = is_place item.input input within_item in
-    rw (d, b, a, in_force, named)
-    (item-here old item item.ignore (input == item.input) (item_for input (item ∷ [])) refl
-    (by-place (input == item.input) refl) (found-is (input == item.input) own))
-  where
-    by-place : (same : Bool) → (input == item.input) ≡ same → (old.named ≡ false) ⊎ (same ≡ false)
-    by-place true is = inl (unnamed (sames input place item.input is named))
-      where
-        sames : (a b c : ℕ) → (a == c) ≡ true → b ≡ c → a ≡ b
-        sames a b c is same = grind (arith, nat_tests)
-    by-place false is = inr refl
-
-    found-is : (same : Bool) → (item.input == input && nat_lt input 64) ≡ same → item_for input (item ∷ []) ≡ (if same then Some item else None)
-    found-is true is = item-some item input is
-    found-is false is = item-none item input is
+item_added old filtered set new item filters place input named within in_force unnamed a b d = grind (arith, is_place, item-here, item-none, item-some, nat_tests)
 
 -- ---- nothing, and whole sets
 
@@ -149,16 +115,7 @@ module _ (times : List ℕ) (filter input : ℕ) (filter_is : filter ≡ DEFAULT
   begun-above above = rw (is_set-zero input, is_set-above (2 ^ 64 - 1) 64 input (omega arith) above, replicated 64 1 input) refl
 
   pub begun_kept : input_kept begun input ≡ (if nat_lt input INPUTS then input_begun else no_input)
-  begun_kept = elim (leb_tells 64 input) as (λ _. input_kept begun input ≡ (if nat_lt input INPUTS then input_begun else no_input)) [
-    | inl above ↦ rw (not-below input 64 above.1) (begun-above above.1)
-    | inr below ↦ rw (is-below input 64 below.1) (begun-below below.1)
-  ]
-    where
-      is-below : (a b : ℕ) → a < b → nat_lt a b ≡ true
-      is-below a b within = grind (arith, nat_tests)
-
-      not-below : (a b : ℕ) → b ≤ a → nat_lt a b ≡ false
-      not-below a b above = grind (arith, nat_tests)
+  begun_kept = grind (arith, begun-above, begun-below, leb_tells, nat_tests)
 
 -- an answer that a configuration was taken
 pub answer_taken : (old : ContentInputs) (input : ℕ)

@@ -1,5 +1,5 @@
 -- The facts of all inputs, kept in words: a block that settles inputs, items one after another, and states that the record comes to.
-use Rattle.fio_check.proofs.Names.{◌≡◌, ◌<◌, ◌∙◌, ℕ, inl, inr, Bool, true, false, List, [], ◌∷◌, Option, Some, None, option_or, refl, ap, ap₂, arith, ◌==◌, not, nat_lt, nat_tests, if◌then◌else◌, is_set, is_some_and, ContentFacts, INPUTS, InputAbove, InputItem, SentItem, beq, bit_and, bit_not, bit_or, fun_ext, input_coming, input_ended, input_kept, input_with_earlier, input_with_item, is_set-above, is_set-and, is_set-not, is_set-or, item_for, last_item_of, leb_tells, w64, with_items, ◌&&◌, ◌^◌, ◌||◌}
+use Rattle.fio_check.proofs.Names.{◌≡◌, ◌<◌, ◌∙◌, ℕ, inl, inr, Bool, true, false, List, [], ◌∷◌, Option, Some, None, option_or, refl, ap, ap₂, arith, not, nat_lt, nat_tests, if◌then◌else◌, is_set, is_some_and, ContentFacts, InputAbove, InputItem, SentItem, beq, bit_and, bit_not, bit_or, fun_ext, input_coming, input_ended, input_kept, input_with_earlier, input_with_item, is_set-above, is_set-and, is_set-not, is_set-or, item_for, leb_tells, w64, with_items, ◌&&◌, ◌^◌, ◌||◌}
 use Rattle.std.specs.Prelude.{◌≤◌}
 use Rattle.std.specs.Int.Bits.{bit_xor}
 use Rattle.fio_message.proofs.Bits.{is_set-xor}
@@ -89,13 +89,7 @@ or-swap a b = grind arith
 -- two are the same if each part is
 pub same-input : (a b : InputAbove) → a.named ≡ b.named → a.taken ≡ b.taken → a.hidden ≡ b.hidden → a.reopened ≡ b.reopened → a.watched ≡ b.watched
     → a.touched ≡ b.touched → a.shown ≡ b.shown → a.unlogged ≡ b.unlogged → a.shut ≡ b.shut → a.item ≡ b.item → a.timed ≡ b.timed → a.least ≡ b.least → a ≡ b
-same-input a b named taken hidden reopened watched touched shown unlogged shut item timed least =
-    ap₂ (λ n t. record a { named = n; taken = t }) named taken
-    ∙ ap₂ (λ h r. record a { named = b.named; taken = b.taken; hidden = h; reopened = r }) hidden reopened
-    ∙ ap₂ (λ w s. record a { named = b.named; taken = b.taken; hidden = b.hidden; reopened = b.reopened; watched = w; shut = s }) watched shut
-    ∙ ap₂ (λ i t. record b { item = i; timed = t; least = a.least; touched = a.touched; shown = a.shown; unlogged = a.unlogged }) item timed
-    ∙ ap₂ (λ l t. record b { least = l; touched = t; shown = a.shown; unlogged = a.unlogged }) least touched
-    ∙ ap₂ (λ t u. record b { shown = t; unlogged = u }) shown unlogged
+same-input a b named taken hidden reopened watched touched shown unlogged shut item timed least = grind arith
 
 -- ---- the record comes to states
 
@@ -103,10 +97,7 @@ shown-case : (old : InputAbove) (shown touched level bit unlogged : Bool)
     → (record old { touched = touched; shown = if not touched then Some bit else None; unlogged = unlogged || ((shown && not touched) && not (beq level bit)) })
     ≡ (let above = record old { touched = touched; shown = if shown then Some level else None; unlogged = unlogged } in
     record above { shown = if touched then None else Some bit; unlogged = (not touched && is_some_and above.shown (λ l. not (beq l bit))) || unlogged })
-shown-case old true true level bit unlogged = ap (λ u. record old { touched = true; shown = None; unlogged = u }) (or-false unlogged)
-shown-case old true false level bit unlogged = ap (λ u. record old { touched = false; shown = Some bit; unlogged = u }) (or-swap unlogged (not (beq level bit)))
-shown-case old false true level bit unlogged = ap (λ u. record old { touched = true; shown = None; unlogged = u }) (or-false unlogged)
-shown-case old false false level bit unlogged = ap (λ u. record old { touched = false; shown = Some bit; unlogged = u }) (or-false unlogged)
+shown-case old shown touched level bit unlogged = grind (arith, or-false, or-swap)
 
 pub come_kept : (old : ContentInputs) (levels stamp input : ℕ) → old.shown < 2 ^ 64 → old.touched < 2 ^ 64 → old.unlogged < 2 ^ 64
     → input_kept (record old {
@@ -142,22 +133,14 @@ come_kept old levels stamp input shown_fits touched_fits unlogged_fits =
 item-more : (above : InputAbove) (item : InputItem) (found : Option InputItem) (same within : Bool) → above.named ≡ false
     → input_with_earlier (input_with_item above (if within then found else None)) (if within then option_or None (if same then Some item else None) else None)
     ≡ input_with_item above (if within then option_or found (if same then Some item else None) else None)
-item-more above item (Some later) same true unnamed = refl
-item-more above item None same true unnamed = rw unnamed refl
-item-more above item found same false unnamed = rw unnamed refl
+item-more above item found same within unnamed = grind arith
 
 -- the facts with the later items of a command, and then with one above them
 pub with_items_more : (facts : ContentFacts) (item : InputItem) (rest : List InputItem) (inputs : ℕ → InputAbove) → ((input : ℕ) → (facts.inputs input).named ≡ false)
     → ((input : ℕ) → inputs input ≡ input_with_earlier ((with_items facts rest).inputs input) (item_for input (item ∷ [])))
     → (record facts { inputs = inputs }) ≡ with_items facts (item ∷ rest)
-with_items_more facts item rest inputs unnamed added =
-    ap (λ inputs. record facts { inputs = inputs })
-    (fun_ext (λ input. added input ∙ item-more (facts.inputs input) item (last_item_of input rest) (item.input == input) (nat_lt input INPUTS) (unnamed input)))
+with_items_more facts item rest inputs unnamed added = grind (arith, fun_ext, item-more)
 
 -- without items
 pub no_items : (facts : ContentFacts) → facts ≡ with_items facts []
-no_items facts = ap (λ inputs. record facts { inputs = inputs }) (fun_ext (λ input. by (facts.inputs input) (nat_lt input INPUTS)))
-  where
-    by : (above : InputAbove) (within : Bool) → above ≡ input_with_item above (if within then None else None)
-    by above true = refl
-    by above false = refl
+no_items facts = grind (arith, fun_ext)

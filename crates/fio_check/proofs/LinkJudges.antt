@@ -1,5 +1,6 @@
 -- The judge of a link, one frame at a time.
-use Rattle.fio_check.proofs.Names.{◌≡◌, ◌∙◌, ℕ, Bool, true, false, List, Option, Some, None, refl, sym, ap, ap₂, Checker, Command, ContentBreach, ContentKept, Judging, Nothing, Skips, ToCommand, ToPoll, breach_among, checker_below_breach, checker_with, checking_above, checking_with, command_from, content_events, content_here, found_in_frame, loads_below, observation_in, place_lost}
+use Rattle.std.proofs.Common.{arith}
+use Rattle.fio_check.proofs.Names.{◌≡◌, ℕ, Bool, true, false, List, Option, Some, None, refl, Checker, Command, ContentBreach, ContentKept, Judging, Skips, breach_among, checker_with, checking_above, checking_with, command_from, content_events, content_here, found_in_frame, loads_below, observation_in, place_lost}
 use Rattle.fio_check.specs.LinkJudges.{checking_again}
 use Rattle.fio_check.proofs.Checkers.{limits-stay}
 
@@ -19,10 +20,7 @@ again-finds-nothing loads false octets = refl
 here-by : (judging : Judging) (skips : Skips) (from_cpu : Bool) (octets : List ℕ) (breach : ContentBreach)
     → found_in_frame (checking_above judging skips) from_cpu octets ≡ Some breach
     → checking_above judging skips ≡ judging.content
-here-by judging Nothing from_cpu octets breach found = refl
-here-by judging ToCommand from_cpu octets breach found = refl
-here-by judging ToPoll from_cpu octets breach found =
-    (let none : None ≡ Some breach = sym (again-finds-nothing judging.content.kept.facts.excuses from_cpu octets) ∙ found in absurd (cc))
+here-by judging skips from_cpu octets breach found = grind (arith, again-finds-nothing)
 
 -- so where a rule on content is broken, the checker is none that begins anew
 pub here-is : (judging : Judging) (from_cpu : Bool) (octets : List ℕ) (breach : ContentBreach)
@@ -37,12 +35,4 @@ pub restart-loses : (before : Judging) (checker : Checker) (asked stamp : Option
     → place_lost (record before { checker = checker; content = checking_with (content_here before) from_cpu octets; asked = asked; polls = polls })
     (checking_with (content_here before) from_cpu octets).kept.facts.excuses stamp
     ≡ place_lost before (loads_below before from_cpu octets) stamp
-restart-loses before checker asked stamp polls from_cpu octets breach is found =
-    ap₂ {C = Judging} (λ limits loads. record {
-      checker = checker_below_breach limits;
-      content = checking_again loads;
-      latest = stamp;
-      asked = None;
-      polls = 0;
-    }) (ap (λ (c : Checker). c.limits) is ∙ limits-stay before.checker from_cpu (observation_in from_cpu octets))
-    (ap (λ content. (checking_with content from_cpu octets).kept.facts.excuses) (here-is before from_cpu octets breach found))
+restart-loses before checker asked stamp polls from_cpu octets breach is found = grind (arith, here-is, limits-stay)

@@ -1,12 +1,10 @@
 -- Laws of the judge of a link.
-use Rattle.fio_check.proofs.Names.{◌≡◌, ◌∙◌, ℕ, suc, Bool, true, false, List, [], ◌∷◌, Option, Some, None, refl, sym, ap, ap₂, fold, map, list_any, is_some, if◌then◌else◌, is_some_and, facts_with, number_polled, ContentChecking, ContentFacts, checking_with, found_in_frame, content_with, Sent, Breach, Checker, Command, ContentBreach, ContentRule, Frame, FrameOutcome, Judging, LogLine, LogPlace, Nothing, Observation, Poll, RuleLimits, Skips, ToCommand, Unreadable, breach_of, checker_below_breach, checker_with, command_from, content_events, content_here, found_by, is_loading, is_unheard, judging_below, judging_with, loads_left, nat_lt, observation_in, one_excuse_more, outcome_found, outcome_in, outcomes_of, passes_over, ◌||◌, arith}
+use Rattle.fio_check.proofs.Names.{◌≡◌, ◌∙◌, ℕ, suc, Bool, true, false, List, [], ◌∷◌, Option, Some, None, refl, sym, ap, ap₂, fold, map, list_any, is_some, if◌then◌else◌, is_some_and, facts_with, number_polled, ContentChecking, ContentFacts, checking_with, found_in_frame, content_with, Sent, Breach, Checker, Command, ContentBreach, ContentRule, Frame, FrameOutcome, Judging, LogLine, LogPlace, Nothing, Observation, Poll, RuleLimits, Skips, ToCommand, breach_of, checker_below_breach, checker_with, command_from, content_events, content_here, found_by, is_loading, is_unheard, judging_below, judging_with, loads_left, nat_lt, observation_in, one_excuse_more, outcome_found, outcome_in, outcomes_of, passes_over, ◌||◌, arith}
 use Rattle.std.specs.Prelude.{filter, max}
-use Rattle.fio_check.specs.LinkJudges.{Lost, checker_below_lines, is_of_rest, is_set_back, judging_below_outcome, judging_kept, judging_lost, may_be_anew, outcome_anew, outcome_judged, outcome_of_content, outcome_set_back, unjudged_by, with_loads}
+use Rattle.fio_check.specs.LinkJudges.{Lost, checker_below_lines, is_set_back, judging_below_outcome, judging_kept, judging_lost, may_be_anew, outcome_anew, outcome_judged, outcome_of_content, outcome_set_back, unjudged_by, with_loads}
 use Rattle.fio_check.specs.LinkLaws.{HasOutcomes, IsLost, LinkGoesOn, LosesPlace, is_frame_line, is_poll, is_poll_line, judging_again, loads_below_lines, loads_with, loses_place}
-use Rattle.fio_check.specs.declared.observation.Observation.TheVariants.{Command as OtherCommand, Block, Answer}
-use Rattle.fio_check.specs.declared.outcome.Excuse.TheVariants.{Load, Unheard}
-use Rattle.fio_check.specs.declared.outcome.LogPlace.TheVariants.{Cpu, Module, Bus}
-use Rattle.fio_check.specs.declared.outcome.FrameOutcome.TheVariants.{Kept, Broken, BrokenContent, Excused, NotJudged, Restarted}
+use Rattle.fio_check.specs.declared.outcome.Excuse.TheVariants.{Load}
+use Rattle.fio_check.specs.declared.outcome.FrameOutcome.TheVariants.{Kept, Broken, Excused, NotJudged, Restarted}
 use Rattle.fio_check.specs.declared.outcome.Unjudged.{Unjudged}
 use Rattle.fio_check.specs.declared.outcome.Unjudged.TheVariants.{PlaceLost}
 use Rattle.fio_check.proofs.Checkers.{limits-stay, passes-it, with-breach}
@@ -62,10 +60,7 @@ module _ (limits : RuleLimits) (latest asked : Option ℕ) (polls : ℕ) where
       → is_poll from_cpu octets ≡ false
       → judging_with (lost_at limits content latest asked polls) at from_cpu octets
       ≡ lost_at limits (content-passed content from_cpu octets) latest asked polls
-  with-lost content at from_cpu octets other =
-      ap (λ outcome. judging_below_outcome outcome (lost_at limits content latest asked polls) from_cpu octets)
-      (outcome-lost content at from_cpu octets other)
-      ∙ passed-is content from_cpu octets
+  with-lost content at from_cpu octets other = grind (arith, outcome-lost, passed-is)
 
   passes_lines : (content : ContentChecking) (lines : List LogLine) → list_any is_poll_line lines ≡ false
       → outcomes_of (lost_at limits content latest asked polls) lines ≡ map (λ line. NotJudged PlaceLost) (filter is_frame_line lines)
@@ -117,11 +112,7 @@ module _ (limits : RuleLimits) (latest asked : Option ℕ) (polls : ℕ) where
 -- ---- the next poll
 
 poll-is : (observation : Observation) → is_some (number_polled observation) ≡ true → (number : ℕ) × (observation ≡ Poll number)
-poll-is (Poll number) is = (number, refl)
-poll-is (OtherCommand answer absent) is = absurd (cc)
-poll-is (Block number status entries absent) is = absurd (cc)
-poll-is (Answer code accepted) is = absurd (cc)
-poll-is Unreadable is = absurd (cc)
+poll-is observation is = grind arith
 
 module _ (limits : RuleLimits) (latest asked : Option ℕ) (polls : ℕ) (content : ContentChecking) where
   abbrev here : Judging
@@ -133,15 +124,11 @@ module _ (limits : RuleLimits) (latest asked : Option ℕ) (polls : ℕ) (conten
   -- the poll keeps all rules
   poll-kept : (at : LogPlace) (octets : List ℕ) (number : ℕ) → observation_in true octets ≡ Poll number
       → outcome_in here at true octets ≡ Kept
-  poll-kept Cpu octets number is = rw (is, again-finds-nothing content.kept.facts.excuses true octets) refl
-  poll-kept Module octets number is = rw (is, again-finds-nothing content.kept.facts.excuses true octets) refl
-  poll-kept Bus octets number is = rw (is, again-finds-nothing content.kept.facts.excuses true octets) refl
+  poll-kept at octets number is = grind (arith, again-finds-nothing)
 
   poll-kept-anew : (at : LogPlace) (octets : List ℕ) (number : ℕ) → observation_in true octets ≡ Poll number
       → outcome_in anew at true octets ≡ Kept
-  poll-kept-anew Cpu octets number is = rw (is, again-finds-nothing content.kept.facts.excuses true octets) refl
-  poll-kept-anew Module octets number is = rw (is, again-finds-nothing content.kept.facts.excuses true octets) refl
-  poll-kept-anew Bus octets number is = rw (is, again-finds-nothing content.kept.facts.excuses true octets) refl
+  poll-kept-anew at octets number is = grind (arith, again-finds-nothing)
 
   poll-same : (octets : List ℕ) (number : ℕ) → observation_in true octets ≡ Poll number
       → judging_kept here true octets ≡ judging_kept anew true octets
@@ -149,15 +136,7 @@ module _ (limits : RuleLimits) (latest asked : Option ℕ) (polls : ℕ) (conten
 
   starts-at : (at : LogPlace) (octets : List ℕ) (below : List LogLine) → is_poll true octets ≡ true
       → outcomes_of here (Frame at true octets ∷ below) ≡ outcomes_of anew (Frame at true octets ∷ below)
-  starts-at at octets below polls =
-      let poll = poll-is (observation_in true octets) polls in
-      let kept = poll-kept at octets poll.0 poll.1 in
-      let kept_anew = poll-kept-anew at octets poll.0 poll.1 in
-      ap₂ (◌∷◌) (kept ∙ sym kept_anew)
-      (ap (λ judging. outcomes_of judging below)
-      (ap (λ outcome. judging_below_outcome outcome here true octets) kept
-      ∙ poll-same octets poll.0 poll.1
-      ∙ sym (ap (λ outcome. judging_below_outcome outcome anew true octets) kept_anew)))
+  starts-at at octets below polls = grind (arith, poll-is, poll-kept, poll-kept-anew, poll-same)
 
 -- a judge where the place is lost, by its fields
 is-lost : (judging : Judging) → IsLost judging
@@ -197,23 +176,14 @@ rest-is true one breach is = absurd (cc)
 rest-is false one breach is = is
 
 anew-is : (anew : Bool) (judged : FrameOutcome) (breach : Breach) → outcome_anew anew judged ≡ Broken breach → judged ≡ Broken breach
-anew-is false judged breach is = is
-anew-is true Kept breach is = absurd (cc)
-anew-is true (BrokenContent content) breach is = absurd (cc)
-anew-is true (Broken one) breach is = rest-is (is_of_rest one.rule) one breach is
-anew-is true (Excused why) breach is = absurd (cc)
-anew-is true Restarted breach is = absurd (cc)
-anew-is true (NotJudged why) breach is = absurd (cc)
+anew-is anew judged breach is = grind (arith, rest-is)
 
 content-is : (content : ContentBreach) (rule : ContentRule) (breach : Breach) → outcome_of_content content rule ≡ Broken breach → ⊥
 content-is content rule breach is = grind arith
 
 found-is : (unheard : Bool) (found : Option Breach) (content : Option ContentBreach) (breach : Breach)
     → outcome_found unheard found content ≡ Broken breach → is_some found ≡ true
-found-is unheard (Some found) content breach is = refl
-found-is unheard None (Some content) breach is = absurd (content-is content content.rule breach is)
-found-is true None None breach is = absurd (cc)
-found-is false None None breach is = absurd (cc)
+found-is unheard found content breach is = grind (arith, content-is)
 
 in-is : (passes back : Bool) (reason : Unjudged) (set judged : FrameOutcome) (breach : Breach) → (set ≡ Broken breach → ⊥)
     → (if passes then NotJudged reason else (if back then set else judged)) ≡ Broken breach → judged ≡ Broken breach
@@ -238,14 +208,7 @@ module _ (judging : Judging) (at : LogPlace) (from_cpu : Bool) (octets : List �
 
   outcome-loses : (outcome : FrameOutcome) → outcome_in judging at from_cpu octets ≡ outcome → loses_place outcome ≡ true
       → IsLost (judging_below_outcome outcome judging from_cpu octets)
-  outcome-loses Kept is loses = absurd (cc)
-  outcome-loses (BrokenContent breach) is loses = absurd (cc)
-  outcome-loses (Broken breach) is loses =
-      broken-lost breach is ∙ ap checker_below_breach (sym (limits-stay judging.checker from_cpu says_it))
-  outcome-loses (Excused Load) is loses = refl
-  outcome-loses (Excused Unheard) is loses = absurd (cc)
-  outcome-loses Restarted is loses = refl
-  outcome-loses (NotJudged reason) is loses = absurd (cc)
+  outcome-loses outcome is loses = grind (arith, broken-lost, limits-stay)
 
 pub loses_the_place : (judging : Judging) → LosesPlace judging
 loses_the_place judging = record {

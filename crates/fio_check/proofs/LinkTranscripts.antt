@@ -1,12 +1,10 @@
 -- The judge of a link finds in a whole transcript what the checkers find.
-use Rattle.fio_check.proofs.Names.{◌≡◌, ◌⊎◌, ◌∙◌, ℕ, inl, inr, Bool, true, false, List, [], ◌∷◌, Option, Some, None, refl, sym, ap, ap₂, option_or, is_some, option_map, if◌then◌else◌, facts_with, TranscriptLine, checking_with, found_in_frame, Accused, Breach, Checker, ContentBreach, ContentRule, Judging, Nothing, Observation, Poll, RuleLimits, ToCommand, Unreadable, both_find_first, breach_of, broken_on, checker_below_breach, checker_with, checking_above, content_here, content_on, found_by, judging_with, loads_left, nat_lt, observation_in, outcome_found, outcome_in, passes_over, arith}
-use Rattle.fio_check.specs.Checkers.{skips_frame}
-use Rattle.fio_check.specs.LinkJudges.{is_of_rest, is_set_back, judging_anywhere, judging_at, judging_begun, judging_below_outcome, judging_taken, may_be_anew, outcome_anew, outcome_judged, outcome_of_content, outcome_set_back, stamp_in, unjudged_by}
+use Rattle.fio_check.proofs.Names.{◌≡◌, ◌⊎◌, ◌∙◌, ℕ, inl, inr, Bool, true, false, List, [], ◌∷◌, Option, Some, None, refl, sym, ap, ap₂, option_or, is_some, option_map, if◌then◌else◌, facts_with, TranscriptLine, checking_with, found_in_frame, Accused, Breach, Checker, ContentBreach, ContentRule, Judging, Nothing, Observation, RuleLimits, ToCommand, both_find_first, breach_of, broken_on, checker_below_breach, checker_with, checking_above, content_here, content_on, found_by, judging_with, loads_left, nat_lt, observation_in, outcome_found, outcome_in, passes_over, arith}
+use Rattle.fio_check.specs.LinkJudges.{is_set_back, judging_at, judging_below_outcome, judging_taken, may_be_anew, outcome_anew, outcome_judged, outcome_of_content, outcome_set_back, stamp_in}
 use Rattle.fio_check.specs.LinkLaws.{RunsOn, SaysTheSame, accused, accused_first, is_set_anew}
-use Rattle.fio_check.specs.declared.observation.Observation.TheVariants.{Command as OtherCommand, Block, Answer}
 use Rattle.fio_check.specs.declared.outcome.Excuse.TheVariants.{Load}
 use Rattle.fio_check.specs.declared.outcome.LogPlace.TheVariants.{Cpu}
-use Rattle.fio_check.specs.declared.outcome.FrameOutcome.TheVariants.{Kept, Broken, BrokenContent, Excused, NotJudged, Restarted}
+use Rattle.fio_check.specs.declared.outcome.FrameOutcome.TheVariants.{Kept, Broken, BrokenContent, Excused, Restarted}
 
 -- ---- a whole transcript
 
@@ -22,20 +20,12 @@ unfolded-here judging (inr closed) = ap (checking_above judging) closed.0
 -- one that passes over nothing
 passes-open : (checker : Checker) (from_cpu : Bool) (observation : Observation) → checker.skips ≡ Nothing
     → passes_over checker from_cpu observation ≡ false
-passes-open checker from_cpu (Poll number) nothing = refl
-passes-open checker from_cpu (OtherCommand answer absent) nothing = ap (λ skips. skips_frame skips from_cpu) nothing
-passes-open checker from_cpu (Block number status entries absent) nothing = ap (λ skips. skips_frame skips from_cpu) nothing
-passes-open checker from_cpu (Answer code accepted) nothing = ap (λ skips. skips_frame skips from_cpu) nothing
-passes-open checker from_cpu Unreadable nothing = ap (λ skips. skips_frame skips from_cpu) nothing
+passes-open checker from_cpu observation nothing = grind arith
 
 -- and one above the first command, of what is sent
 passes-sent : (checker : Checker) (observation : Observation) → checker.skips ≡ ToCommand
     → passes_over checker true observation ≡ false
-passes-sent checker (Poll number) closed = refl
-passes-sent checker (OtherCommand answer absent) closed = ap (λ skips. skips_frame skips true) closed
-passes-sent checker (Block number status entries absent) closed = ap (λ skips. skips_frame skips true) closed
-passes-sent checker (Answer code accepted) closed = ap (λ skips. skips_frame skips true) closed
-passes-sent checker Unreadable closed = ap (λ skips. skips_frame skips true) closed
+passes-sent checker observation closed = grind arith
 
 taken-is : (limits : RuleLimits) (checker taken : Checker) (passes : Bool) (breach : Option Breach) → passes ≡ false
     → (if passes then None else breach) ≡ None
@@ -48,12 +38,7 @@ not-dog anew breach rule other = grind arith
 
 -- a breach of a rule of transcripts that is no restart
 not-rest : (anew : Bool) (breach : Breach) → is_set_anew (outcome_anew anew (Broken breach)) ≡ false → outcome_anew anew (Broken breach) ≡ Broken breach
-not-rest false breach other = refl
-not-rest true breach other = by (is_of_rest breach.rule) other
-  where
-    by : (rest : Bool) → is_set_anew (if rest then Restarted else Broken breach) ≡ false → (if rest then Restarted else Broken breach) ≡ Broken breach
-    by true other = absurd (cc)
-    by false other = refl
+not-rest anew breach other = grind arith
 
 none-anew : (anew : Bool) → outcome_anew anew Kept ≡ Kept
 none-anew true = refl
@@ -95,21 +80,7 @@ record Quiet (judging : Judging) (number : ℕ) (from_cpu : Bool) (octets : List
 passed-quiet : (judging : Judging) (number : ℕ) (from_cpu : Bool) (octets : List ℕ) → Aligned judging
     → passes_over judging.checker from_cpu (observation_in from_cpu octets) ≡ true
     → Quiet judging number from_cpu octets
-passed-quiet judging number from_cpu octets (inl nothing) passes =
-    absurd (let not = passes-open judging.checker from_cpu (observation_in from_cpu octets) nothing in cc)
-passed-quiet judging number true octets (inr closed) passes =
-    absurd (let not = passes-sent judging.checker (observation_in true octets) closed.0 in cc)
-passed-quiet judging number false octets (inr closed) passes =
-    let outcome : outcome_in judging Cpu false octets ≡ NotJudged (unjudged_by judging.checker.skips) = rw (passes) refl in
-    let same = ap (λ o. judging_below_outcome o judging false octets) outcome in
-    record {
-      mine = ap (accused number) outcome;
-      broken = rw (passes) refl;
-      content = rw (closed.1) refl;
-      aligned = inr (ap (λ (j : Judging). j.checker.skips) same ∙ closed.0, ap (λ (j : Judging). j.content.begun) same ∙ closed.1);
-      checker = ap (λ (j : Judging). j.checker) same ∙ rw (passes) refl;
-      kept = ap (λ (j : Judging). j.content) same ∙ rw (closed.1) refl;
-    }
+passed-quiet judging number from_cpu octets is passes = grind (arith, passes-open, passes-sent)
 
 module _ (judging : Judging) (number : ℕ) (from_cpu : Bool) (octets : List ℕ) where
   abbrev observed : Observation
@@ -202,7 +173,4 @@ says judging (line ∷ lines) aligned runs =
     ]
 
 pub says_the_same : (limits : RuleLimits) (lines : List TranscriptLine) → SaysTheSame limits lines
-says_the_same limits lines = record {
-  anywhere = λ runs. says (judging_anywhere limits) lines (inr (refl, refl)) runs;
-  begun = λ runs. says (judging_begun limits) lines (inl refl) runs;
-}
+says_the_same limits lines = grind (arith, says)

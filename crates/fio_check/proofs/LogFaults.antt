@@ -1,6 +1,6 @@
 -- A fault of a log, by its events: what is above an event depends on those above it alone, and a fault stays one if lines
 -- follow.
-use Rattle.fio_check.proofs.Names.{◌≡◌, ◌<◌, ◌≤◌, ◌∙◌, ◌+◌, ◌++◌, inl, inr, false, from_first_command, ℕ, zero, suc, Bool, true, List, [], ◌∷◌, Option, Some, None, refl, sym, ap, ap₂, arith, length, drop, take, map, length-append, append_assoc, append-nil, fold, is_some, option_map, option_and_then, option_or, slice_get, slice_get_within, ContentFacts, content_at, content_with, no_content, LineEvent, events_above, events_below, events_of_lines, events_of_log, recorded_items, TranscriptLine, earliest_above, ContentFault, content_fault_at, content_fault_in, fault_by, first_fault_in, number_below, number_below_lines, rule_broken_by}
+use Rattle.fio_check.proofs.Names.{◌≡◌, ◌<◌, ◌≤◌, ◌∙◌, ◌+◌, ◌++◌, inl, inr, false, from_first_command, ℕ, zero, suc, Bool, true, List, [], ◌∷◌, Option, Some, None, refl, sym, ap, ap₂, arith, length, drop, take, map, length-append, append_assoc, append-nil, fold, is_some, option_map, option_or, slice_get, slice_get_within, ContentFacts, content_at, content_with, no_content, LineEvent, events_above, events_below, events_of_lines, events_of_log, recorded_items, TranscriptLine, earliest_above, ContentFault, content_fault_at, content_fault_in, fault_by, first_fault_in, number_below, number_below_lines, rule_broken_by}
 use Rattle.fio_check.specs.ContentEvents.{events_on}
 use Rattle.fio_check.specs.Finding.{IsFoundBy}
 use Rattle.fio_check.proofs.ContentCourse.{dropped_first}
@@ -81,11 +81,7 @@ earliest-same one other (suc count) same =
     ap₂ option_or (earliest-same one other count (λ place within. same place (omega (arith, within)))) (same count (omega arith))
 
 fault-above : (above below : List LineEvent) (place : ℕ) → place < length above → content_fault_at (above ++ below) place ≡ content_fault_at above place
-fault-above above below place within =
-    let judged = λ (items : List _) (facts : ContentFacts) (at : Option LineEvent).
-    option_and_then (λ found. option_map (fault_by found.line (recorded_items items)) (rule_broken_by facts found.event)) at in
-    ap₂ (λ items facts. judged items facts (slice_get (above ++ below) place)) (taken-above above below place (omega (arith, within))) (content-above above below place (omega (arith, within)))
-    ∙ ap (judged (take place above) (content_at above place)) (event-above above below place within)
+fault-above above below place within = grind (arith, content-above, event-above, taken-above)
 
 -- a fault stays the first one
 fault-stays : (above below : List LineEvent) (fault : ContentFault) → first_fault_in above ≡ Some fault → first_fault_in (above ++ below) ≡ Some fault

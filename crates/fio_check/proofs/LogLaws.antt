@@ -1,4 +1,5 @@
 -- Without late answers the judge of a log is the judge of a link.
+use Rattle.std.proofs.Common.{arith}
 use Rattle.fio_check.proofs.Names.{Bool, Frame, FrameOutcome, Judging, Link, List, LogJudging, LogLine, LogPlace, None, Option, Some, [], ap, append_assoc, ap₂, false, flat_map, if◌then◌else◌, judging_below, log_reached, map, map-append, observation_in, outcome_reached, outcomes_of, place_of, refl, subst, sym, true, ℕ, ◌++◌, ◌∙◌, ◌∷◌, ◌≡◌}
 use Rattle.std.proofs.lemmas.Grind.{flat_map-append}
 use Rattle.fio_check.specs.LinkJudges.{judging_with_line, outcome_on}
@@ -136,11 +137,7 @@ mark_frames true = refl
 mark_frames false = refl
 
 event_frames : (log : LogJudging) (event : LogEvent) → flat_map frame_on (link_lines_of log event) ≡ frame_found event
-event_frames log (Found from_cpu said octets) =
-    marked_frames (is_explained log from_cpu (observation_in from_cpu octets)) _
-event_frames log Lost = refl
-event_frames log Possible = mark_frames _
-event_frames log Missing = refl
+event_frames log event = grind (arith, mark_frames, marked_frames)
 
 frames_as : (log : LogJudging) (events : List LogEvent) → flat_map frame_on (link_lines log events) ≡ flat_map frame_found events
 frames_as log [] = refl

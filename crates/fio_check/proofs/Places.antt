@@ -1,5 +1,5 @@
 -- The latest that lines above a place say.
-use Rattle.fio_check.proofs.Names.{◌≡◌, ◌<◌, ◌⊎◌, inl, inr, ℕ, zero, suc, Bool, Option, Some, None, refl, ap, sym, arith, option_map, option_or, IsLatestAbove, IsTheLatest, Placed, is_some_and, latest_above}
+use Rattle.fio_check.proofs.Names.{◌≡◌, ◌<◌, inl, inr, ℕ, zero, suc, Bool, Option, Some, None, refl, ap, sym, arith, option_map, option_or, IsLatestAbove, IsTheLatest, Placed, is_some_and, latest_above}
 use Rattle.fio_check.proofs.Verdicts.{below-or-at}
 
 -- a test of a mapped option tests what is mapped
@@ -11,16 +11,7 @@ is_some_and-map f test (Some x) = refl
 later-is_latest : {A : Type 0} (said : ℕ → Option A) (place : ℕ) (o : Option A) (found : Placed A) → said place ≡ o
     → option_or (option_map (λ value. record { place = place; value = value }) o) (latest_above said place) ≡ Some found
     → (latest_above said place ≡ Some found → IsLatestAbove said place found) → IsLatestAbove said (suc place) found
-later-is_latest said place (Some value) found is e above =
-    let here : place ≡ found.place = cc in
-    let same : value ≡ found.value = cc in
-    record { above = omega arith; here = rw (← here, ← same) is; none_between = λ between after before. absurd (omega arith) }
-later-is_latest said place None found is e above =
-    let latest = above e in
-    let less : found.place < place = latest.above in
-    let none : (between : ℕ) → found.place < between → between < suc place → (between ≡ place) ⊎ (between < place) → said between ≡ None =
-    λ between after before where_it_is. elim where_it_is as (λ _. said between ≡ None) [ inl same ↦ rw same is | inr below ↦ latest.none_between between after below ] in
-    record { above = omega arith; here = latest.here; none_between = λ between after before. none between after before (below-or-at between place before) }
+later-is_latest said place o found is e above = grind (arith, below-or-at)
 
 latest_above-is_latest : {A : Type 0} (said : ℕ → Option A) (place : ℕ) (found : Placed A) → latest_above said place ≡ Some found → IsLatestAbove said place found
 latest_above-is_latest said zero found e = absurd (cc)

@@ -1,8 +1,6 @@
 -- Which rule an event breaks: an entry that does not come after the one above it, an entry with the state that its input
 -- had, and states that differ from the record.
-use Rattle.fio_check.proofs.Names.{ap₂, ◌≡◌, ◌<◌, ◌∙◌, ◌+◌, ℕ, Bool, true, false, [], ◌∷◌, Option, Some, None, refl, sym, ap, arith, find, if◌then◌else◌, is_some, nat_lt, not, eqb_tells, inl, inr, ◌≤◌, option_map, option_or, ◌==◌, ◌%◌, nat_tests, Entry, ContentFacts, Seen, is_set, ContentEvent, Recorded, Ended, is_some_and, ContentRule, INPUTS, Order, TimedState, beq, breaks_entry, comes_after, comes_to, differing, differs, entry_rules, rule_broken_by, tells_of, ◌&&◌, ◌-◌, ◌^◌, ◌||◌}
-use Rattle.std.specs.Prelude.{nat_le}
-use Rattle.fio_check.specs.ContentSaid.{milliseconds_between}
+use Rattle.fio_check.proofs.Names.{ap₂, ◌≡◌, ◌<◌, ◌∙◌, ℕ, Bool, true, false, [], ◌∷◌, Option, Some, None, refl, ap, arith, find, if◌then◌else◌, is_some, nat_lt, not, eqb_tells, option_map, option_or, ◌==◌, nat_tests, Entry, ContentFacts, Seen, is_set, ContentEvent, Recorded, is_some_and, ContentRule, INPUTS, Order, TimedState, beq, breaks_entry, comes_after, comes_to, differing, differs, rule_broken_by, tells_of, ◌&&◌, ◌^◌, ◌||◌}
 use Rattle.fio_check.specs.ContentRules.{broken_state, first_differing, state_breach}
 use Rattle.fio_check.specs.declared.content_rules.ContentRule.TheVariants.{Fresh, Alternate, Apart, Ignored, State}
 use Rattle.fio_check.proofs.Verdicts.{none_said, some_said}
@@ -52,72 +50,25 @@ timed level wide = record { level = level; wide = wide }
 
 pub breaks_order : (facts : ContentFacts) (input stamp wide : ℕ) (level : Bool) → breaks_entry facts input (timed level wide) Order ≡ true
     → is_some (rule_broken_by facts (Recorded (Entry input level stamp wide))) ≡ true
-breaks_order facts input stamp wide level broken =
-    let entry = timed level wide in
-    or-some (broken_state facts (Recorded (Entry input level stamp wide)) facts.seen) (option_map (λ rule. record { input = Some input; rule = rule }) (find (breaks_entry facts input entry) entry_rules))
-    (mapped-some (λ (rule : ContentRule). record { input = Some input; rule = rule }) (find (breaks_entry facts input entry) entry_rules)
-    (order-first (breaks_entry facts input entry Order) (breaks_entry facts input entry Fresh) (breaks_entry facts input entry Alternate) (further facts input entry) broken))
+breaks_order facts input stamp wide level broken = grind (arith, mapped-some, or-some, order-first)
 
 pub breaks_alternate : (facts : ContentFacts) (input stamp wide : ℕ) (level : Bool) → breaks_entry facts input (timed level wide) Alternate ≡ true
     → is_some (rule_broken_by facts (Recorded (Entry input level stamp wide))) ≡ true
-breaks_alternate facts input stamp wide level broken =
-    let entry = timed level wide in
-    or-some (broken_state facts (Recorded (Entry input level stamp wide)) facts.seen) (option_map (λ rule. record { input = Some input; rule = rule }) (find (breaks_entry facts input entry) entry_rules))
-    (mapped-some (λ (rule : ContentRule). record { input = Some input; rule = rule }) (find (breaks_entry facts input entry) entry_rules)
-    (alternate-first (breaks_entry facts input entry Order) (breaks_entry facts input entry Fresh) (breaks_entry facts input entry Alternate) (further facts input entry) broken))
+breaks_alternate facts input stamp wide level broken = grind (arith, alternate-first, mapped-some, or-some)
 
 pub keeps_both : (facts : ContentFacts) (input stamp wide : ℕ) (level : Bool) → rule_broken_by facts (Recorded (Entry input level stamp wide)) ≡ None
     → (breaks_entry facts input (timed level wide) Order ≡ false) × (breaks_entry facts input (timed level wide) Alternate ≡ false)
-keeps_both facts input stamp wide level none =
-    let entry = timed level wide in
-    let entries = neither (broken_state facts (Recorded (Entry input level stamp wide)) facts.seen) (option_map (λ rule. record { input = Some input; rule = rule }) (find (breaks_entry facts input entry) entry_rules)) none in
-    none-first (breaks_entry facts input entry Order) (breaks_entry facts input entry Fresh) (breaks_entry facts input entry Alternate) (further facts input entry)
-    (mapped-none (λ (rule : ContentRule). record { input = Some input; rule = rule }) (find (breaks_entry facts input entry) entry_rules) entries.1)
+keeps_both facts input stamp wide level none = grind (arith, mapped-none, neither, none-first)
 
 -- ---- order
 
 -- an entry does not come after itself
 pub not_behind_itself : (input wide : ℕ) → comes_after input wide input wide ≡ false
-not_behind_itself input wide = rw (eq-self wide, less-self input) refl
-  where
-    eq-self : (n : ℕ) → (n == n) ≡ true
-    eq-self n = grind (arith, nat_tests)
-
-    less-self : (n : ℕ) → nat_lt n n ≡ false
-    less-self n = grind (arith, nat_tests)
+not_behind_itself input wide = grind (arith, nat_tests)
 
 -- of two entries one alone comes after the other
 pub behind_one_way : (input wide other above : ℕ) → wide < 2 ^ 32 → above < 2 ^ 32 → comes_after other above input wide ≡ true → comes_after input wide other above ≡ false
-behind_one_way input wide other above one two behind =
-    elim (eqb_tells above wide) as (λ _. comes_after input wide other above ≡ false) [
-      | inl same ↦ (let now : nat_lt input other ≡ true = rw (same.1, eq-self wide) at behind in rw same.1 (at-once input wide other now))
-      | inr apart ↦ rw (unequal wide above (λ e. apart.1 (sym e)), half-turn wide above one two (λ e. apart.1 (sym e)) (ahead-of (milliseconds_between wide above) (rw apart.0 at behind))) refl
-    ]
-  where
-    eq-self : (n : ℕ) → (n == n) ≡ true
-    eq-self n = grind (arith, nat_tests)
-
-    unequal : (a b : ℕ) → (a ≡ b → ⊥) → (a == b) ≡ false
-    unequal a b apart = grind (arith, nat_tests)
-
-    -- at one time
-    at-once : (input wide other : ℕ) → nat_lt input other ≡ true → comes_after input wide other wide ≡ false
-    at-once input wide other below = rw (eq-self wide, above-false other input below) refl
-      where
-        above-false : (a b : ℕ) → nat_lt b a ≡ true → nat_lt a b ≡ false
-        above-false a b below = grind (arith, nat_tests)
-
-    ahead-of : (n : ℕ) → (not (nat_le (2 ^ 31) n) || false) ≡ true → n < 2 ^ 31
-    ahead-of n ahead = grind (arith, nat_tests)
-
-    half-turn : (a b : ℕ) → a < 2 ^ 32 → b < 2 ^ 32 → (a ≡ b → ⊥) → milliseconds_between a b < 2 ^ 31 → nat_le (2 ^ 31) (milliseconds_between b a) ≡ true
-    half-turn a b one two apart ahead = at-least ((a + 2 ^ 32 - b) % 2 ^ 32) (around a b one two apart ahead)
-      where
-        around : (a b : ℕ) → a < 2 ^ 32 → b < 2 ^ 32 → (a ≡ b → ⊥) → (b + 2 ^ 32 - a) % 2 ^ 32 < 2 ^ 31 → 2 ^ 31 ≤ (a + 2 ^ 32 - b) % 2 ^ 32
-        around a b one two apart ahead = omega arith
-
-        at-least : (n : ℕ) → 2 ^ 31 ≤ n → nat_le (2 ^ 31) n ≡ true
-        at-least n more = grind (arith, nat_tests)
+behind_one_way input wide other above one two behind = grind (arith, eqb_tells, nat_tests)
 
 -- ---- the states that were asked for
 
@@ -135,19 +86,11 @@ module _ (facts : ContentFacts) (seen : Seen) (is : facts.seen ≡ Some seen) (j
 
   -- an event at which the record comes to them breaks no rule
   agree : (event : ContentEvent) → comes_to seen event ≡ true → rule_broken_by facts event ≡ None → first_differing facts seen ≡ None
-  agree (Recorded (Entry input level stamp wide)) comes none =
-      let event = Recorded (Entry input level stamp wide) in
-      none-differs (first_differing facts seen) (sym (states-are event comes) ∙ (neither (broken_state facts event facts.seen) _ none).0)
-  agree (Ended status stamp) comes none = none-differs (first_differing facts seen) (sym (states-are (Ended status stamp) comes) ∙ none)
-  agree other comes none = absurd (cc)
+  agree other comes none = grind (arith, neither, none-differs, states-are)
 
   -- an input differs from them
   differ : (event : ContentEvent) → comes_to seen event ≡ true → is_some (first_differing facts seen) ≡ true → is_some (rule_broken_by facts event) ≡ true
-  differ (Recorded (Entry input level stamp wide)) comes some =
-      let event = Recorded (Entry input level stamp wide) in
-      or-first (broken_state facts event facts.seen) _ (ap is_some (states-are event comes) ∙ some-differs (first_differing facts seen) some)
-  differ (Ended status stamp) comes some = ap is_some (states-are (Ended status stamp) comes) ∙ some-differs (first_differing facts seen) some
-  differ other comes some = absurd (cc)
+  differ other comes some = grind (arith, or-first, some-differs, states-are)
 
 input-agrees : (facts : ContentFacts) (seen : Seen) (input : ℕ) → input < INPUTS → first_differing facts seen ≡ None → differs seen input (facts.inputs input) ≡ false
 unfolding first_differing

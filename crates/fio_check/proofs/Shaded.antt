@@ -1,6 +1,6 @@
 -- Where no item that ignores an input was sent since the clear block above its latest entry, none was sent since the latest
 -- clear block.
-use Rattle.fio_check.proofs.Names.{◌≡◌, ◌≤◌, ◌∙◌, ℕ, zero, suc, Bool, true, false, List, Option, Some, None, refl, sym, subst, ap, arith, length, if◌then◌else◌, nat_lt, not, option_map, option_and_then, slice_get, slice_get_within, slice_get_cases, inl, inr, ◌==◌, Entry, Gap, ContentFacts, InputAbove, SentItem, content_at, content_with, ContentEvent, Sent, Heard, Recorded, Ended, LineEvent, INPUTS, InputItem, WatchedState, coming, input_below_clear, input_coming, input_ended, input_with_entry, input_with_item, item_for, items_sent, settled_now, settles, shaded, unless_shaded, unnamed, ◌&&◌}
+use Rattle.fio_check.proofs.Names.{◌≡◌, ◌≤◌, ◌∙◌, ℕ, zero, suc, Bool, true, false, List, Option, Some, None, refl, sym, subst, ap, arith, length, if◌then◌else◌, not, slice_get, slice_get_within, slice_get_cases, inl, inr, ContentFacts, InputAbove, SentItem, content_at, content_with, ContentEvent, LineEvent, InputItem, WatchedState, input_below_clear, input_with_entry, input_with_item, unnamed, ◌&&◌}
 use Rattle.fio_check.proofs.ContentNext.{content_next}
 use Rattle.fio_check.proofs.KeptContent.{ended_input}
 
@@ -9,17 +9,7 @@ abbrev IsShaded : InputAbove → Type 0
 IsShaded above = above.hidden ≡ true → (watched : WatchedState) → above.watched ≡ Some watched → watched.shaded ≡ true
 
 shaded-item : (above : InputAbove) (item : InputItem) (ignore : Bool) → item.ignore ≡ ignore → IsShaded above → IsShaded (input_with_item (unnamed above) (Some item))
-shaded-item above item true is shades = rw is (λ hidden watched at. by above.watched watched at)
-  where
-    by : (before : Option WatchedState) (watched : WatchedState) → option_map shaded before ≡ Some watched → watched.shaded ≡ true
-    by None watched at = absurd (cc)
-    by (Some state) watched at = ap (λ (w : WatchedState). w.shaded) (let same : (record state { shaded = true }) ≡ watched = cc in sym same)
-shaded-item above item false is shades = rw is (λ hidden watched at. by above.watched watched refl hidden at)
-  where
-    by : (before : Option WatchedState) (watched : WatchedState) → above.watched ≡ before → above.hidden ≡ true
-        → option_and_then unless_shaded before ≡ Some watched → watched.shaded ≡ true
-    by None watched same hidden at = absurd (cc)
-    by (Some state) watched same hidden at = absurd (cc (rw (shades hidden state same) at at))
+shaded-item above item ignore is shades = grind arith
 
 shaded-sent : (above : InputAbove) (item : Option InputItem) → IsShaded above → IsShaded (input_with_item (unnamed above) item)
 shaded-sent above None shades = shades
@@ -37,23 +27,7 @@ shaded-clear above None hidden watched at = absurd (cc)
 shaded-clear above (Some item) hidden watched at = absurd (cc)
 
 shaded-with : (facts : ContentFacts) (event : ContentEvent) (input : ℕ) → IsShaded (facts.inputs input) → IsShaded ((content_with facts event).inputs input)
-shaded-with facts (Sent command) input shades = shaded-sent (facts.inputs input) (item_for input (items_sent command)) shades
-shaded-with facts (Heard answer) input shades = shades
-shaded-with facts (Recorded Gap) input shades = λ hidden watched at. absurd (cc)
-shaded-with facts (Recorded (Entry recorded level stamp wide)) input shades = by (input == recorded && nat_lt input INPUTS)
-  where
-    by : (own : Bool) → (let above = input_coming input (coming facts (Recorded (Entry recorded level stamp wide))) (facts.inputs input) in
-        IsShaded (if own then input_with_entry facts level wide above else above))
-    by true = shaded-entry facts level wide (input_coming input (coming facts (Recorded (Entry recorded level stamp wide))) (facts.inputs input))
-    by false = shades
-shaded-with facts (Ended status stamp) input shades = subst IsShaded (sym (ended_input facts status stamp input)) (below (settles facts input (Ended status stamp)))
-  where
-    above : InputAbove
-    above = input_coming input (coming facts (Ended status stamp)) (facts.inputs input)
-
-    below : (settling : Bool) → IsShaded (input_ended settling above)
-    below true = shaded-clear above (settled_now above)
-    below false = shades
+shaded-with facts event input shades = grind (arith, ended_input, shaded-clear, shaded-entry, shaded-sent)
 
 shaded-at : (events : List LineEvent) (place : ℕ) → place ≤ length events → (input : ℕ) → IsShaded ((content_at events place).inputs input)
 shaded-at events zero within input = λ hidden watched at. absurd (cc)
@@ -68,8 +42,4 @@ shaded-at events (suc place) within input =
 -- an input that is steady is not hidden
 pub steady_unhidden : (events : List LineEvent) (place : ℕ) (found : LineEvent) → slice_get events place ≡ Some found → (input : ℕ) (level : Bool)
     → ((content_at events place).inputs input).watched ≡ Some (record { level = level; shaded = false }) → ((content_at events place).inputs input).hidden ≡ false
-steady_unhidden events place found here input level steady = by ((content_at events place).inputs input).hidden refl
-  where
-    by : (hidden : Bool) → ((content_at events place).inputs input).hidden ≡ hidden → hidden ≡ false
-    by true is = absurd (cc (shaded-at events place (let inside = slice_get_within events place found here in omega (arith, inside)) input is (record { level = level; shaded = false }) steady))
-    by false is = refl
+steady_unhidden events place found here input level steady = grind (arith, shaded-at, slice_get_within)

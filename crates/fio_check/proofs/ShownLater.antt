@@ -1,6 +1,6 @@
 -- A log in which an input's latest entry has the other state, or is missing: what is above differs in that state alone, until
 -- an event tells the state.
-use Rattle.fio_check.proofs.Names.{◌≡◌, ◌<◌, ◌≤◌, ◌∙◌, ◌+◌, ◌++◌, ℕ, zero, suc, Bool, true, false, List, [], ◌∷◌, Option, Some, None, refl, sym, subst, ap, ap₂, arith, option_or, length, drop, take, length-drop, if◌then◌else◌, is_some, nat_lt, not, option_map, option_and_then, slice_get, slice_get_within, ◌==◌, Entry, Gap, ContentFacts, InputAbove, Seen, SentItem, content_at, content_with, ContentEvent, Sent, Heard, Recorded, Ended, LineEvent, content_event_at, Placed, is_some_and, INPUTS, TimedState, WatchedState, block_stamp, comes_to, coming, content_step, entry_recorded, first_fault_in, full_end, ignores, ignoring, input_below_clear, input_coming, input_ended, is_aging, is_clear_end, is_far, is_gap, is_loading, item_for, items_sent, latest_said, one_excuse_more, opening, opens, place_of_latest, rule_broken_by, seen_below, seen_unloaded, seen_with, settled_now, settles, states_heard, tells_of, ◌&&◌, ◌-◌, ◌||◌}
+use Rattle.fio_check.proofs.Names.{◌≡◌, ◌<◌, ◌≤◌, ◌∙◌, ◌+◌, ◌++◌, ℕ, zero, suc, Bool, true, false, List, [], ◌∷◌, Option, Some, None, refl, sym, subst, ap, arith, length, drop, take, length-drop, if◌then◌else◌, is_some, not, option_map, option_and_then, slice_get, slice_get_within, ContentFacts, Seen, content_at, content_with, ContentEvent, LineEvent, content_event_at, Placed, is_some_and, INPUTS, TimedState, WatchedState, content_step, entry_recorded, first_fault_in, ignoring, is_aging, is_far, is_gap, is_loading, latest_said, opening, place_of_latest, rule_broken_by, seen_below, seen_unloaded, seen_with, tells_of, ◌-◌}
 use Rattle.fio_check.specs.Finding.{IsComparedAt}
 use Rattle.fio_check.proofs.ContentCourse.{dropped_first}
 use Rattle.fio_check.proofs.InputParts.{item_parts, unwatched_none, watched_same}
@@ -38,12 +38,7 @@ seen-below event states (Some seen) other further is = rw (further seen refl) is
 
 -- the states are above that event too
 pub seen_above : (event : ContentEvent) (states : Seen) (seen : Option Seen) → seen_below event seen ≡ Some states → seen ≡ Some states
-seen_above event states None is = absurd (cc)
-seen_above event states (Some seen) is = kept (comes_to seen event) is
-  where
-    kept : (comes : Bool) → (if comes then None else Some seen) ≡ Some states → Some seen ≡ Some states
-    kept true is = absurd (cc)
-    kept false is = is
+seen_above event states seen is = grind arith
 
 aging-same : (facts spoiled : ContentFacts) (stamp : Option ℕ) → facts.full ≡ spoiled.full → is_aging facts stamp ≡ is_aging spoiled stamp
 aging-same facts spoiled None same = refl
@@ -60,110 +55,20 @@ none-if false value option other further is = further is
 
 -- what is known of times is the same below an event that is no load
 times-step : (facts spoiled : ContentFacts) (event : ContentEvent) → is_loading event ≡ None → IsSameTime facts spoiled → IsSameTime (content_step facts event) (content_step spoiled event)
-times-step facts spoiled (Sent command) quiet same = record {
-  judged = ap (λ (loading : Option Bool). if is_some loading then one_excuse_more facts.excuses else facts.excuses) quiet ∙ same.judged;
-  spoiled_judged = ap (λ (loading : Option Bool). if is_some loading then one_excuse_more spoiled.excuses else spoiled.excuses) quiet ∙ same.spoiled_judged;
-  heard = same.heard;
-  timely = same.timely;
-  full = same.full;
-  seen = same.seen;
-}
-times-step facts spoiled (Heard answer) quiet same = record {
-  judged = same.judged;
-  spoiled_judged = same.spoiled_judged;
-  heard = ap (λ b. is_some (block_stamp (Heard answer)) || b) same.heard;
-  timely = same.timely;
-  full = same.full;
-  seen = λ states is.
-      (let aging = is_aging facts (block_stamp (Heard answer)) in
-      ap (λ a. if a then None else seen_with spoiled (states_heard (Heard answer))) (sym (aging-same facts spoiled (block_stamp (Heard answer)) same.full))
-      ∙ none-if aging states (seen_with facts (states_heard (Heard answer))) (seen_with spoiled (states_heard (Heard answer)))
-      (seen-heard facts spoiled (states_heard (Heard answer)) states same) is);
-}
-times-step facts spoiled (Recorded Gap) quiet same =
-    record { judged = same.judged; spoiled_judged = same.spoiled_judged; heard = same.heard; timely = same.timely; full = same.full; seen = λ states is. absurd (cc is) }
-times-step facts spoiled (Recorded (Entry input level stamp wide)) quiet same = record {
-  judged = same.judged;
-  spoiled_judged = same.spoiled_judged;
-  heard = same.heard;
-  timely = same.timely;
-  full = same.full;
-  seen = λ states is. seen-below (Recorded (Entry input level stamp wide)) states facts.seen spoiled.seen same.seen is;
-}
-times-step facts spoiled (Ended status stamp) quiet same = by-clear (is_clear_end (Ended status stamp)) refl
-  where
-    known : (facts.block_heard || facts.timely) ≡ (spoiled.block_heard || spoiled.timely)
-    known = ap₂ (λ h t. h || t) same.heard same.timely
-
-    by-clear : (clear : Bool) → is_clear_end (Ended status stamp) ≡ clear → IsSameTime (content_step facts (Ended status stamp)) (content_step spoiled (Ended status stamp))
-    by-clear true is = rw is (record {
-      judged = same.judged;
-      spoiled_judged = same.spoiled_judged;
-      heard = same.heard;
-      timely = known;
-      full = ap (λ b. if b then Some stamp else None) known;
-      seen = λ states is. seen-below (Ended status stamp) states facts.seen spoiled.seen same.seen is;
-    })
-    by-clear false is = rw is (record {
-      judged = same.judged;
-      spoiled_judged = same.spoiled_judged;
-      heard = same.heard;
-      timely = same.timely;
-      full = ap₂ (λ timely full. if timely then option_or (full_end (Ended status stamp)) full else None) same.timely same.full;
-      seen = λ states is. seen-below (Ended status stamp) states facts.seen spoiled.seen same.seen is;
-    })
+times-step facts spoiled event quiet same = grind (arith, aging-same, none-if, seen-below, seen-heard)
 
 times-with : (facts spoiled : ContentFacts) (event : ContentEvent) → is_loading event ≡ None → IsSameTime facts spoiled → IsSameTime (content_with facts event) (content_with spoiled event)
-times-with facts spoiled event quiet same =
-    subst (λ f. IsSameTime f (content_with spoiled event)) (sym (step_only facts event same.judged))
-    (subst (IsSameTime (content_step facts event)) (sym (step_only spoiled event same.spoiled_judged)) (times-step facts spoiled event quiet same))
+times-with facts spoiled event quiet same = grind (arith, step_only, times-step)
 
 -- an event that is no entry of the input
 watched-with : (facts : ContentFacts) (event : ContentEvent) (input : ℕ) → entry_recorded input event ≡ None
     → ((content_with facts event).inputs input).watched
     ≡ option_and_then (watched_after (is_some (opening input event)) (is_some (ignoring input event)) (is_some (is_gap event))) (facts.inputs input).watched
-watched-with facts (Sent command) input other =
-    let item = item_for input (items_sent command) in
-    (item_parts (facts.inputs input) item).watched
-    ∙ ap₂ (λ o i. option_and_then (watched_after o i false) (facts.inputs input).watched) (sym (said (opens item))) (sym (said (ignores item)))
-watched-with facts (Heard answer) input other = watched_same (facts.inputs input).watched
-watched-with facts (Recorded Gap) input other = sym (unwatched_none (facts.inputs input).watched)
-watched-with facts (Recorded (Entry recorded level stamp wide)) input other = by-input (input == recorded && nat_lt input INPUTS) refl other ∙ watched_same (facts.inputs input).watched
-  where
-    by-input : (own : Bool) → (input == recorded && nat_lt input INPUTS) ≡ own → (if own then Some (timed level wide) else None) ≡ None
-        → ((content_with facts (Recorded (Entry recorded level stamp wide))).inputs input).watched ≡ (facts.inputs input).watched
-    by-input true is other = absurd (cc)
-    by-input false is other = rw is refl
-watched-with facts (Ended status stamp) input other =
-    ap (λ (above : InputAbove). above.watched) (ended_input facts status stamp input)
-    ∙ below (settles facts input (Ended status stamp)) (input_coming input (coming facts (Ended status stamp)) (facts.inputs input)) ∙ watched_same (facts.inputs input).watched
-  where
-    below-clear : (above : InputAbove) (item : Option SentItem) → (input_below_clear above item).watched ≡ above.watched
-    below-clear above None = refl
-    below-clear above (Some item) = refl
-
-    below : (settling : Bool) (above : InputAbove) → (input_ended settling above).watched ≡ above.watched
-    below true above = below-clear above (settled_now above)
-    below false above = refl
+watched-with facts event input other = grind (arith, ended_input, item_parts, said, timed, unwatched_none, watched_after, watched_same)
 
 spoiled-with : (facts spoiled : ContentFacts) (event : ContentEvent) (input : ℕ) (unloaded : Bool) → (unloaded ≡ true → is_loading event ≡ None) → entry_recorded input event ≡ None
     → IsSpoiled input unloaded facts spoiled → IsSpoiled input unloaded (content_with facts event) (content_with spoiled event)
-spoiled-with facts spoiled event input unloaded quiet other above = record {
-  times = λ is. times-with facts spoiled event (quiet is) (above.times is);
-  watched = λ watched is. watched-with spoiled event input other
-      ∙ both (is_some (opening input event)) (is_some (ignoring input event)) (is_some (is_gap event)) (facts.inputs input).watched (spoiled.inputs input).watched watched above.watched
-      (sym (watched-with facts event input other) ∙ is);
-}
-  where
-    both : (opens ignores gap : Bool) (watched turned : Option WatchedState) (now : WatchedState) → ((w : WatchedState) → watched ≡ Some w → turned ≡ Some (turned_state w))
-        → option_and_then (watched_after opens ignores gap) watched ≡ Some now → option_and_then (watched_after opens ignores gap) turned ≡ Some (turned_state now)
-    both opens ignores gap None turned now further is = absurd (cc)
-    both opens ignores gap (Some before) turned now further is = rw (further before refl) (by-test ((opens && before.shaded) || gap) is)
-      where
-        by-test : (ends : Bool) → ◌≡◌ {A = Option WatchedState} (if ends then None else Some (record { level = before.level; shaded = ignores || before.shaded })) (Some now)
-            → ◌≡◌ {A = Option WatchedState} (if ends then None else Some (record { level = not before.level; shaded = ignores || before.shaded })) (Some (turned_state now))
-        by-test true is = absurd (cc)
-        by-test false is = ap (option_map turned_state) is
+spoiled-with facts spoiled event input unloaded quiet other above = grind (arith, times-with, watched-with, watched_after)
 
 -- ---- below some events
 

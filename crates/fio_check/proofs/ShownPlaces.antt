@@ -1,7 +1,7 @@
 -- What states show of an input at the place below an event, and the times that are read from a place on.
-use Rattle.fio_check.proofs.Names.{content_at, ◌≡◌, ◌∙◌, ◌+◌, subst, ℕ, zero, suc, Bool, true, false, List, [], ◌∷◌, Option, Some, None, refl, sym, ap, ap₂, arith, drop, if◌then◌else◌, is_some, nat_lt, not, option_map, option_and_then, slice_get, unwrap_or, option_or, ContentEvent, LineEvent, Seen, content_event_at, Placed, is_some_and, latest_above, INPUTS, block_stamp, ends_shown, if_comes, is_clear_end, is_polled, is_since_poll, is_timely, is_touched, is_unlogged, item_of_input, latest_said, polling, said_if, seen_at, settles, state_shown, states_heard, shows_other, shown_at, ◌&&◌, ◌-◌, ◌||◌}
-use Rattle.fio_check.specs.ContentAbove.{showing_at, unlogging_at, is_clear_above, seen_still, touching_at}
-use Rattle.fio_check.specs.ContentSaid.{is_again_end, is_end}
+use Rattle.fio_check.proofs.Names.{content_at, ◌≡◌, ◌∙◌, ◌+◌, subst, ℕ, zero, suc, Bool, true, false, List, [], ◌∷◌, Option, Some, None, refl, sym, ap, arith, drop, if◌then◌else◌, is_some, nat_lt, option_map, option_and_then, slice_get, unwrap_or, option_or, ContentEvent, LineEvent, Seen, content_event_at, Placed, latest_above, INPUTS, ends_shown, if_comes, is_clear_end, is_polled, is_since_poll, is_timely, is_touched, is_unlogged, item_of_input, latest_said, polling, said_if, seen_at, settles, state_shown, states_heard, shows_other, shown_at, ◌&&◌, ◌-◌, ◌||◌}
+use Rattle.fio_check.specs.ContentAbove.{is_clear_above, seen_still, touching_at}
+use Rattle.fio_check.specs.ContentSaid.{is_end}
 use Rattle.fio_check.proofs.ContentPlaces.{and-none, latest_below, placed, polled_next, since_next, some_next, turn-more}
 use Rattle.fio_check.proofs.StatePlaces.{timely_next}
 
@@ -26,16 +26,7 @@ module _ (events : List LineEvent) (place : ℕ) (event : ContentEvent) (is : co
   shown_within within touched (Some seen) = if within then state_shown input touched seen else shown_at events input place
 
   pub shown_next : shown_at events input (suc place) ≡ (if ends_shown input event then None else shown_within (nat_lt input INPUTS) (is_touched events input place) comes)
-  shown_next =
-      join-more (showing_at events input place) (latest_above (showing_at events input) place)
-      ∙ ap (λ e. unwrap_or (if is_some_and e (ends_shown input) then Some None
-      else (if nat_lt input INPUTS then option_map (state_shown input (is_touched events input place)) (option_and_then (λ event. option_and_then (if_comes event) (seen_at events place)) e) else None)) (shown_at events input place)) is
-      ∙ by (ends_shown input event) (nat_lt input INPUTS) comes
-    where
-      by : (ends within : Bool) (coming : Option Seen)
-          → unwrap_or (if ends then Some None else (if within then option_map (state_shown input (is_touched events input place)) coming else None)) (shown_at events input place)
-          ≡ (if ends then None else shown_within within (is_touched events input place) coming)
-      by ends within coming = grind arith
+  shown_next = grind (arith, join-more)
 
   -- and whether its changes are not logged
   abbrev pub unlogged_within : Bool → Option Seen → Bool
@@ -43,22 +34,7 @@ module _ (events : List LineEvent) (place : ℕ) (event : ContentEvent) (is : co
   unlogged_within touched (Some seen) = (nat_lt input INPUTS && shows_other input touched (shown_at events input place) seen) || is_unlogged events input place
 
   pub unlogged_next : is_unlogged events input (suc place) ≡ (if is_some (item_of_input input event) then false else unlogged_within (is_touched events input place) comes)
-  unlogged_next =
-      turn-more place (unlogging_at events input place) (latest_above (unlogging_at events input) place)
-      ∙ ap (λ e. unwrap_or (if is_some_and e (λ e. is_some (item_of_input input e)) then Some false
-      else said_if (nat_lt input INPUTS && is_some_and (option_and_then (λ event. option_and_then (if_comes event) (seen_at events place)) e) (shows_other input (is_touched events input place) (shown_at events input place)))) (is_unlogged events input place)) is
-      ∙ by (is_some (item_of_input input event)) comes
-    where
-      or-said : (now earlier : Bool) → unwrap_or (said_if now) earlier ≡ (now || earlier)
-      or-said true earlier = refl
-      or-said false earlier = refl
-
-      by : (item : Bool) (coming : Option Seen)
-          → unwrap_or (if item then Some false else said_if (nat_lt input INPUTS && is_some_and coming (shows_other input (is_touched events input place) (shown_at events input place)))) (is_unlogged events input place)
-          ≡ (if item then false else unlogged_within (is_touched events input place) coming)
-      by true coming = refl
-      by false None = ap (λ b. unwrap_or (said_if b) (is_unlogged events input place)) (and-none (nat_lt input INPUTS))
-      by false (Some seen) = or-said (nat_lt input INPUTS && shows_other input (is_touched events input place) (shown_at events input place) seen) (is_unlogged events input place)
+  unlogged_next = grind (arith, and-none, turn-more)
 
 -- ---- times that are read from a place on
 
@@ -67,13 +43,7 @@ event_of found = found.event
 
 -- once times are known they stay known
 timely-more : (events : List LineEvent) (place : ℕ) (found : Option ContentEvent) → content_event_at events place ≡ found → is_timely events place ≡ true → is_timely events (suc place) ≡ true
-timely-more events place None is timely = rw is timely
-timely-more events place (Some event) is timely =
-    timely_next events place event is ∙ ap (λ b. (is_clear_end event && is_some (latest_said block_stamp events place)) || b) timely ∙ or-true (is_clear_end event && is_some (latest_said block_stamp events place))
-  where
-    or-true : (b : Bool) → (b || true) ≡ true
-    or-true true = refl
-    or-true false = refl
+timely-more events place found is timely = grind (arith, timely_next)
 
 timely-later : (events : List LineEvent) (place more : ℕ) → is_timely events place ≡ true → is_timely events (place + more) ≡ true
 timely-later events place zero timely = (let same : place + 0 ≡ place = omega arith in subst (λ n. is_timely events n ≡ true) (sym same) timely)
@@ -121,39 +91,7 @@ clear-ends event clear = grind arith
 times-more : (timed events : List LineEvent) (at place input : ℕ) (found : Option ContentEvent) → content_event_at timed at ≡ found → content_event_at events place ≡ content_event_at timed at
     → (is_timely timed at ≡ true → TimesSame timed events at place input)
     → is_timely timed (suc at) ≡ true → TimesSame timed events (suc at) (suc place) input
-times-more timed events at place input None here there before timely =
-    let s = before (rw here at timely) in
-    record {
-      clear = rw (there, here) s.clear;
-      polled = rw (there, here) s.polled;
-      since = rw (there, here) s.since;
-      touched = rw (there, here) s.touched;
-    }
-times-more timed events at place input (Some event) here there before timely = by (is_clear_end event) refl
-  where
-    below : Bool → Bool → Bool → Bool
-    below clear since touched = unwrap_or (if is_clear_end event || (is_again_end event && (clear && not since)) then Some false else said_if (is_some (item_of_input input event))) touched
-
-    next : is_some (said_if (is_clear_end event)) || is_clear_above timed at ≡ (is_some (said_if (is_clear_end event)) || is_clear_above events place)
-        → unwrap_or (polling event) (is_polled timed at) ≡ unwrap_or (polling event) (is_polled events place)
-        → (if is_end event then false else (is_some (item_of_input input event) && is_polled timed at) || is_since_poll timed input at)
-        ≡ (if is_end event then false else (is_some (item_of_input input event) && is_polled events place) || is_since_poll events input place)
-        → below (is_clear_above timed at) (is_since_poll timed input at) (is_touched timed input at) ≡ below (is_clear_above events place) (is_since_poll events input place) (is_touched events input place)
-        → TimesSame timed events (suc at) (suc place) input
-    next clear polled since touched = record {
-      clear = some_next timed at event here (λ e. said_if (is_clear_end e)) ∙ clear ∙ sym (some_next events place event (there ∙ here) (λ e. said_if (is_clear_end e)));
-      polled = polled_next timed at event here ∙ polled ∙ sym (polled_next events place event (there ∙ here));
-      since = since_next timed at event here input ∙ since ∙ sym (since_next events place event (there ∙ here) input);
-      touched = touched_next timed at event here input ∙ touched ∙ sym (touched_next events place event (there ∙ here) input);
-    }
-
-    by : (clear : Bool) → is_clear_end event ≡ clear → TimesSame timed events (suc at) (suc place) input
-    by true clear = (let e = clear-ends event clear in next (rw clear refl) (rw e.0 refl) (rw e.1 refl) (rw clear refl))
-    by false clear =
-        let s = before (ap (λ b. (b && is_some (latest_said block_stamp timed at)) || is_timely timed at) (sym clear) ∙ sym (timely_next timed at event here) ∙ timely) in
-        next (ap (λ b. is_some (said_if (is_clear_end event)) || b) s.clear) (ap (unwrap_or (polling event)) s.polled)
-        (ap₂ (λ p s. if is_end event then false else (is_some (item_of_input input event) && p) || s) s.polled s.since)
-        (ap₂ (λ c t. below c (is_since_poll timed input at) t) s.clear s.touched ∙ ap (λ n. below (is_clear_above events place) n (is_touched events input place)) s.since)
+times-more timed events at place input found here there before timely = grind (arith, clear-ends, polled_next, since_next, some_next, timely_next, touched_next)
 
 times_same : (events : List LineEvent) (from at input : ℕ) → is_timely (drop from events) at ≡ true → TimesSame (drop from events) events at (from + at) input
 times_same events from zero input timely = absurd (cc)

@@ -1,7 +1,7 @@
 -- The least filters and the states that were asked for at the place below an event, by what is above the event.
 use Rattle.fio_check.proofs.Names.{◌≡◌, ◌<◌, ◌≤◌, ◌∙◌, ◌++◌, ℕ, zero, suc, Bool, true, false, List, [], ◌∷◌, Option, Some, None, refl, sym, ap, ap₂, arith, drop, take, fold, if◌then◌else◌, is_some, nat_lt, not, option_map, option_and_then, slice_get, unwrap_or, option_or, Gap, ContentEvent, Sent, Heard, Recorded, FilterPair, LineEvent, Seen, SentItem, content_event_at, Placed, is_some_and, latest_above, Answer, Command, block_stamp, comes_to, fold-append, full_above, full_end, is_clear_end, is_far, is_gap, is_timely, item_of_input, latest_said, least_with, said_if, seen_at, seen_below, settled_at, settles, states_heard, ◌&&◌, ◌||◌}
 use Rattle.fio_message.specs.declared.answers.Answer.TheVariants as answers
-use Rattle.fio_check.specs.ContentAbove.{aging_at, clearing_at, losing_at, is_aged, is_lost_between, is_at, is_said_between, last_said, least_between, least_since, one_sample, seen_still, settled}
+use Rattle.fio_check.specs.ContentAbove.{aging_at, losing_at, is_aged, is_lost_between, is_at, least_between, least_since, one_sample, seen_still, settled}
 use Rattle.fio_check.proofs.ContentPlaces.{and-true, between-more, between_here, between_next, if-same, last_next, latest-here, latest_below, latest_next, less-true, none-between, or-none, placed, said, some-more, turn-more}
 
 -- ---- the least filters
@@ -48,17 +48,11 @@ module _ (events : List LineEvent) (place : ℕ) (event : ContentEvent) (is : co
 
   pub least_next : settled_at events input place ≡ None
       → least_since events input (suc place) (settled events input (suc place)) ≡ least_with (least_since events input place (settled events input place)) (item_of_input input event)
-  least_next none =
-      ap (λ now. least_since events input (suc place) (option_or (placed place now) (settled events input place))) none
-      ∙ least-stays (settled events input place) refl
+  least_next none = grind (arith, least-stays, placed)
 
   pub least_here : (item : SentItem) → settled_at events input place ≡ Some item → item_of_input input event ≡ None
       → least_since events input (suc place) (settled events input (suc place)) ≡ item.filters
-  least_here item settles none =
-      ap (λ now. least_since events input (suc place) (option_or (placed place now) (settled events input place))) settles
-      ∙ least-more item.filters place (omega arith)
-      ∙ ap (least_with (least_between item.filters input events place place)) none
-      ∙ ap (fold (λ least f. least_with least (item_of_input input f.event)) item.filters) (nothing-left events place)
+  least_here item settles none = grind (arith, least-more, nothing-left, placed)
 
 -- ---- the states that were asked for
 
@@ -85,96 +79,46 @@ module _ (events : List LineEvent) (place : ℕ) (event : ContentEvent) (is : co
   aging = unwrap_or (aging_at events place) false || is_at (λ e. is_some (is_gap e)) events place
 
   pub aging_is : aging ≡ (ages (full_above events place) (block_stamp event) || is_some (is_gap event))
-  aging_is =
-      ap₂ (λ e g. unwrap_or (option_map (λ stamp. is_some_and (full_above events place) (λ full. is_far full stamp)) (option_and_then block_stamp e)) false || is_some_and g (λ e. is_some (is_gap e))) is is
-      ∙ ap (λ b. b || is_some (is_gap event)) (by (block_stamp event))
-    where
-      by : (stamp : Option ℕ) → unwrap_or (option_map (λ stamp. is_some_and (full_above events place) (λ full. is_far full stamp)) stamp) false ≡ ages (full_above events place) stamp
-      by (Some stamp) = refl
-      by None = refl
+  aging_is = grind arith
 
   pub aged_next : is_aged events (suc place) ≡ (if is_some (block_stamp event) then ages (full_above events place) (block_stamp event) else is_aged events place)
-  aged_next =
-      turn-more place (aging_at events place) (latest_above (aging_at events) place)
-      ∙ ap (λ e. unwrap_or (option_map (λ stamp. is_some_and (full_above events place) (λ full. is_far full stamp)) (option_and_then block_stamp e)) (is_aged events place)) is
-      ∙ by (block_stamp event)
-    where
-      by : (stamp : Option ℕ) → unwrap_or (option_map (λ stamp. is_some_and (full_above events place) (λ full. is_far full stamp)) stamp) (is_aged events place)
-          ≡ (if is_some stamp then ages (full_above events place) stamp else is_aged events place)
-      by (Some stamp) = refl
-      by None = refl
+  aged_next = grind (arith, turn-more)
 
   aged-between : (from : ℕ) → from < place → is_lost_between events from (suc place) ≡ (aging || is_lost_between events from place)
-  aged-between from below =
-      between-more place from (losing_at events place) (latest_above (losing_at events) place) (less-true from place below)
-      ∙ ap (λ b. b || is_lost_between events from place) (said-some aging)
+  aged-between from below = grind (arith, between-more, less-true, said-some)
 
   seen-stays : (found : Option (Placed Seen)) → latest_said states_heard events place ≡ found
       → option_and_then (seen_still events (suc place)) found ≡ (if aging then None else seen_below event (option_and_then (seen_still events place) found))
-  seen-stays None at = sym (if-same aging None)
-  seen-stays (Some seen) at =
-      let says = λ (e : ContentEvent). said_if (comes_to seen.value e) in
-      let between = is_said_between says events seen.place place in
-      let aged = is_lost_between events seen.place place in
-      let clear = is_timely events seen.place in
-      let below = latest_below states_heard events place seen at in
-      ap₂ (λ b g. if clear && not (b || g) then Some seen.value else None) (between_next events place event is says seen.place below) (aged-between seen.place below)
-      ∙ ap (λ b. if clear && not ((b || between) || (aging || aged)) then Some seen.value else None) (said (comes_to seen.value event))
-      ∙ come-more clear aging (comes_to seen.value event) between aged seen.value
-      ∙ ap (λ s. if aging then None else s) (sym (below-if event (clear && not (between || aged)) seen.value))
+  seen-stays found at = grind (arith, aged-between, below-if, between_next, come-more, if-same, latest_below, said)
 
   pub seen_next : states_heard event ≡ None → seen_at events (suc place) ≡ (if aging then None else seen_below event (seen_at events place))
-  seen_next unheard =
-      ap (option_and_then (seen_still events (suc place)))
-      (latest_next events place event is states_heard ∙ ap (λ now. option_or (placed place now) (latest_said states_heard events place)) unheard)
-      ∙ seen-stays (latest_said states_heard events place) refl
+  seen_next unheard = grind (arith, latest_next, placed, seen-stays)
 
   -- where no block is heard
   pub seen_stays : block_stamp event ≡ None → is_gap event ≡ None → states_heard event ≡ None → seen_at events (suc place) ≡ seen_below event (seen_at events place)
-  seen_stays none whole unheard =
-      seen_next unheard
-      ∙ ap (λ a. if a then None else seen_below event (seen_at events place)) (aging_is ∙ ap₂ (λ stamp gap. ages (full_above events place) stamp || is_some gap) none whole)
+  seen_stays none whole unheard = grind (arith, aging_is, seen_next)
 
   -- whether times are known
   pub timely_next : is_timely events (suc place) ≡ ((is_clear_end event && is_some (latest_said block_stamp events place)) || is_timely events place)
-  timely_next =
-      some-more place (clearing_at events place) (latest_above (clearing_at events) place)
-      ∙ ap (λ b. b || is_timely events place)
-      (said (is_at is_clear_end events place && is_some (latest_said block_stamp events place))
-      ∙ ap (λ e. is_some_and e is_clear_end && is_some (latest_said block_stamp events place)) is)
+  timely_next = grind (arith, said, some-more)
 
   -- the stamp of the latest block without C
   timely-same : is_clear_end event ≡ false → is_timely events (suc place) ≡ is_timely events place
   timely-same unclear = timely_next ∙ ap (λ b. (b && is_some (latest_said block_stamp events place)) || is_timely events place) unclear
 
   pub full_stays : full_end event ≡ None → is_clear_end event ≡ false → full_above events (suc place) ≡ full_above events place
-  full_stays none unclear =
-      ap₂ (λ timely last. if timely then last else None) (timely-same unclear)
-      (last_next events place event is full_end ∙ ap (λ now. option_or now (last_said full_end events place)) none)
+  full_stays none unclear = grind (arith, last_next, timely-same)
 
   pub full_unclear : is_clear_end event ≡ false → full_above events (suc place) ≡ (if is_timely events place then option_or (full_end event) (full_above events place) else None)
-  full_unclear unclear =
-      ap₂ (λ timely last. if timely then last else None) (timely-same unclear) (last_next events place event is full_end)
-      ∙ by (is_timely events place) (last_said full_end events place)
-    where
-      by : (timely : Bool) (last : Option ℕ) → (if timely then option_or (full_end event) last else None) ≡ (if timely then option_or (full_end event) (if timely then last else None) else None)
-      by true last = refl
-      by false last = refl
+  full_unclear unclear = grind (arith, last_next, timely-same)
 
   pub full_clear : (stamp : ℕ) → is_clear_end event ≡ true → full_end event ≡ Some stamp
       → full_above events (suc place) ≡ (if is_some (latest_said block_stamp events place) || is_timely events place then Some stamp else None)
-  full_clear stamp clear ends =
-      ap₂ (λ timely last. if timely then last else None)
-      (timely_next ∙ ap (λ b. (b && is_some (latest_said block_stamp events place)) || is_timely events place) clear)
-      (last_next events place event is full_end ∙ ap (λ now. option_or now (last_said full_end events place)) ends)
+  full_clear stamp clear ends = grind (arith, last_next, timely_next)
 
 -- at a command
 pub seen_sent : (events : List LineEvent) (place : ℕ) (command : Command) → content_event_at events place ≡ Some (Sent command) → seen_at events (suc place) ≡ seen_at events place
-seen_sent events place command is = seen_stays events place (Sent command) is refl refl refl ∙ below-sent (seen_at events place)
-  where
-    below-sent : (seen : Option Seen) → seen_below (Sent command) seen ≡ seen
-    below-sent None = refl
-    below-sent (Some seen) = refl
+seen_sent events place command is = grind (arith, seen_stays)
 
 states-or-block : (answer : Answer) (seen : Seen) → states_heard (Heard answer) ≡ Some seen → block_stamp (Heard answer) ≡ None
 states-or-block (answers.Block block entries status stamp) seen heard = absurd (cc)

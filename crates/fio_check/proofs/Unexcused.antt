@@ -1,5 +1,5 @@
 -- Where no load of the counter excuses anything, no event is excused.
-use Rattle.fio_check.proofs.Names.{◌≡◌, ◌≤◌, ◌<◌, ◌∙◌, ℕ, zero, suc, Bool, true, false, List, Option, None, Some, refl, ap, sym, arith, length, inl, inr, is_some, not, if◌then◌else◌, ◌==◌, eqb_tells, slice_get_cases, Entry, Gap, ContentEvent, Sent, Heard, Recorded, Ended, ContentFacts, LineEvent, content_at, content_event_at, content_with, option_map, option_or, Command, content_step, forgetting, is_clear_end, is_loading, latest_said, one_excuse_more, without_excuse, ◌&&◌}
+use Rattle.fio_check.proofs.Names.{◌≡◌, ◌≤◌, ◌<◌, ◌∙◌, ℕ, zero, suc, Bool, true, false, List, Option, None, Some, refl, ap, sym, arith, length, inl, inr, not, ◌==◌, eqb_tells, slice_get_cases, Gap, ContentEvent, Sent, Recorded, ContentFacts, LineEvent, content_at, content_event_at, content_with, option_map, Command, content_step, forgetting, is_loading, latest_said, without_excuse, ◌&&◌}
 use Rattle.fio_check.specs.ContentRules.{breaks_time, is_excused}
 use Rattle.fio_check.proofs.ContentNext.{content_is_kept, content_next}
 use Rattle.fio_check.proofs.ContentPlaces.{latest_next, placed}
@@ -35,15 +35,7 @@ gap_step facts = ap (λ b. forgetting b (content_step facts (Recorded Gap))) (ga
 
 -- and none is there below an event that is no load
 step-none : (facts : ContentFacts) (event : ContentEvent) → facts.excuses ≡ 0 → is_loading event ≡ None → (content_step facts event).excuses ≡ 0
-step-none facts (Sent command) none quiet = ap (λ (loading : Option Bool). if is_some loading then one_excuse_more facts.excuses else facts.excuses) quiet ∙ none
-step-none facts (Heard answer) none quiet = none
-step-none facts (Recorded Gap) none quiet = none
-step-none facts (Recorded (Entry input level stamp wide)) none quiet = none
-step-none facts (Ended status stamp) none quiet = by (is_clear_end (Ended status stamp)) refl
-  where
-    by : (clear : Bool) → is_clear_end (Ended status stamp) ≡ clear → (content_step facts (Ended status stamp)).excuses ≡ 0
-    by true is = rw is none
-    by false is = rw is none
+step-none facts event none quiet = grind arith
 
 pub still_none : (facts : ContentFacts) (event : ContentEvent) → facts.excuses ≡ 0 → is_loading event ≡ None → (content_with facts event).excuses ≡ 0
 still_none facts event none quiet = ap (λ (f : ContentFacts). f.excuses) (step_only facts event none) ∙ step-none facts event none quiet
@@ -52,12 +44,7 @@ module _ (events : List LineEvent) where
   -- where no load is above
   unsaid : (place : ℕ) (event : ContentEvent) → content_event_at events place ≡ Some event → latest_said is_loading events (suc place) ≡ None
       → (is_loading event ≡ None) × (latest_said is_loading events place ≡ None)
-  unsaid place event is none = by (is_loading event) refl (sym (latest_next events place event is is_loading) ∙ none)
-    where
-      by : (now : Option Bool) → is_loading event ≡ now → option_or (placed place now) (latest_said is_loading events place) ≡ None
-          → (is_loading event ≡ None) × (latest_said is_loading events place ≡ None)
-      by None is none = (is, none)
-      by (Some said) is none = absurd (cc none)
+  unsaid place event is none = grind (arith, latest_next, placed)
 
   pub none_above : (place : ℕ) → place ≤ length events → latest_said is_loading events place ≡ None → (content_at events place).excuses ≡ 0
   none_above zero within none = ap (λ (f : ContentFacts). f.excuses) ((content_is_kept events).first)

@@ -1,5 +1,5 @@
 -- The verdict on a transcript as a function, and as the relation that says what it means.
-use Rattle.fio_check.proofs.Names.{◌≡◌, ◌<◌, ◌≤◌, ◌⊎◌, inl, inr, ℕ, zero, suc, true, Option, Some, None, List, refl, ap, ap₂, sym, ◌∙◌, arith, length, is_some, option_map, option_and_then, slice_get, unwrap_or, option_or, eqb_tells, same_Some, slice_get_cases, slice_get_within, TranscriptLine, earliest_above, HasOneVerdict, rule_broken, IsFirstBreach, IsVerdict, KeepsRulesAbove, breach_at, verdict_on, Rule, Verdict, Good, Broken}
+use Rattle.fio_check.proofs.Names.{◌≡◌, ◌<◌, ◌≤◌, ◌⊎◌, inl, inr, ℕ, zero, suc, true, Option, Some, None, List, refl, ap, ◌∙◌, arith, length, is_some, option_map, option_and_then, slice_get, unwrap_or, option_or, eqb_tells, same_Some, slice_get_cases, slice_get_within, TranscriptLine, earliest_above, HasOneVerdict, rule_broken, IsFirstBreach, IsVerdict, KeepsRulesAbove, breach_at, verdict_on, Rule, Verdict, Good, Broken}
 use Rattle.std.proofs.lemmas.Bool.{cases_order}
 
 -- ---- the earliest above a place
@@ -74,11 +74,7 @@ no_breach : (line : Option TranscriptLine) (broken : Option Rule) → is_some li
 no_breach line broken is none = grind arith
 
 some_line : (lines : List TranscriptLine) (place : ℕ) → place < length lines → is_some (slice_get lines place) ≡ true
-some_line lines place within =
-    elim (slice_get_cases lines place).1 as (λ _. is_some (slice_get lines place) ≡ true) [
-      | inl found ↦ rw found.2 refl
-      | inr past ↦ absurd (omega (arith, within, past.0))
-    ]
+some_line lines place within = grind (arith, slice_get_cases)
 
 keeps_rules : (lines : List TranscriptLine) (n : ℕ) → n ≤ length lines → earliest_above (breach_at lines) n ≡ None → KeepsRulesAbove lines n
 keeps_rules lines n within none = λ above below.
@@ -125,24 +121,10 @@ kept-broken lines place n rule kept broken above = let none = kept place above i
 one-breach : (lines : List TranscriptLine) (number other_number : ℕ) (rule other_rule : Rule)
     → (one : IsFirstBreach lines number rule) (other : IsFirstBreach lines other_number other_rule)
     → one.place ≡ other.place → Broken number rule ≡ Broken other_number other_rule
-one-breach lines number other_number rule other_rule one other same =
-    let line : Some one.line ≡ Some other.line = sym one.here ∙ ap (slice_get lines) same ∙ other.here in
-    let broken : Some rule ≡ Some other_rule = sym one.broken ∙ ap (rule_broken lines) same ∙ other.broken in
-    let numbers : number ≡ other_number = sym one.numbered ∙ ap (λ l. l.number) (same_Some _ _ line) ∙ other.numbered in
-    ap₂ Broken numbers (same_Some _ _ broken)
+one-breach lines number other_number rule other_rule one other same = grind (arith, same_Some)
 
 same-verdict : (lines : List TranscriptLine) (one other : Verdict) → IsVerdict lines one → IsVerdict lines other → one ≡ other
-same-verdict lines (Good frames) (Good others) one other = ap Good (one.0 ∙ sym other.0)
-same-verdict lines (Good frames) (Broken number rule) one other =
-    absurd (kept-broken lines other.place (length lines) rule one.1 other.broken (slice_get_within lines other.place other.line other.here))
-same-verdict lines (Broken number rule) (Good frames) one other =
-    absurd (kept-broken lines one.place (length lines) rule other.1 one.broken (slice_get_within lines one.place one.line one.here))
-same-verdict lines (Broken number rule) (Broken others other_rule) one other =
-    elim (cases_order one.place other.place) as (λ _. Broken number rule ≡ Broken others other_rule) [
-      | inl same ↦ one-breach lines number others rule other_rule one other same
-      | inr (inl above) ↦ absurd (kept-broken lines one.place other.place rule other.above one.broken above)
-      | inr (inr below) ↦ absurd (kept-broken lines other.place one.place other_rule one.above other.broken below)
-    ]
+same-verdict lines one other given3 given4 = grind (arith, cases_order, kept-broken, one-breach, slice_get_within)
 
 pub verdict_is : (lines : List TranscriptLine) → IsVerdict lines (verdict_on lines)
 verdict_is lines = verdict-is lines (earliest_above (breach_at lines) (length lines)) refl

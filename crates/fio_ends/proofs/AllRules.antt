@@ -1,5 +1,5 @@
 -- All rules on content at once, along a prompt run.
-use Rattle.fio_ends.proofs.Names.{◌≡◌, ◌+◌, ℕ, Bool, true, false, List, [], ◌∷◌, Option, None, refl, ap, ap₂, option_map, IsCommand, Life, life_of, loads_of, Settings, AreInRange, ContentFacts, ContentKept, content_with, no_content, ContentEvent, events_in, no_facts, ContentRule, Accepted, Alternate, Apart, Cleared, Clock, Done, Fresh, Ignored, Order, State, Watchdog, Facts, Event, Machine, number_of, sending_refusal, refusal, after, after_sending, IsNotRestart, CpuFrame, frames_at, IsPrompt, IsWithinRanges, command_octets, Command, breach_among, content_found, option_or}
+use Rattle.fio_ends.proofs.Names.{◌≡◌, ◌+◌, ℕ, Bool, true, false, List, [], ◌∷◌, Option, None, refl, ap, ap₂, option_map, IsCommand, Life, life_of, loads_of, Settings, AreInRange, ContentFacts, ContentKept, content_with, no_content, ContentEvent, no_facts, ContentRule, Accepted, Alternate, Apart, Cleared, Clock, Done, Fresh, Ignored, Order, State, Watchdog, Facts, Event, Machine, number_of, sending_refusal, refusal, after, after_sending, IsNotRestart, CpuFrame, frames_at, IsPrompt, IsWithinRanges, command_octets, Command, breach_among, content_found, option_or, arith}
 use Rattle.fio_message.specs.declared.commands.Command.TheVariants as commands
 use Rattle.fio_link.specs.declared.event.Event.TheVariants as events
 use Rattle.fio_ends.proofs.AlternateKept.{FollowHolds, alternate_is_invariant}
@@ -89,9 +89,7 @@ none_among facts items (event ∷ found) all =
 -- so nothing is found in a frame
 pub none_in_frame : (kept : ContentKept) (frame : CpuFrame) (more : List CpuFrame) → OfEach (λ rule. FramesKeep rule kept (frame ∷ more))
     → content_found kept frame.from_cpu frame.octets ≡ None
-none_in_frame kept frame more all =
-    none_among kept.facts 0 (events_in kept.number frame.from_cpu frame.octets)
-    (each_follows (λ rule. FramesKeep rule kept (frame ∷ more)) (λ rule. EventsKeep rule kept.facts (events_in kept.number frame.from_cpu frame.octets)) (λ rule keep. keep.0) all)
+none_in_frame kept frame more all = grind (arith, each_follows, none_among)
 
 -- ---- what is known for all rules
 

@@ -1,5 +1,5 @@
 -- The outcomes and the answers of a module that was started anew, as a judge of a link sees them.
-use Rattle.fio_ends.proofs.Names.{◌≡◌, ◌∙◌, ◌==◌, fold, Accepted, Cleared, Clock, ◌⊎◌, inl, inr, ◌&&◌, not, ℕ, Bool, true, false, List, [], ◌∷◌, length, Option, Some, None, refl, ap, ap₂, sym, subst, arith, if◌then◌else◌, is_some, option_and_then, AllByRecursion, Answer, Command, IsCommand, answered_block, command_octets, says_again, says_error, ContentFacts, ContentKept, content_with, content_events, kept_with, Heard, Done, Facts, RuleLimits, names_absent, first_broken_within, is_some_and, observation_of, Watchdog, kept, AccusesNeither, Block, Excused, FrameOutcome, HaveRestarts, IsRight, Judging, Kept, Load, NotJudged, Restarted, answer_code, any_stamp_of, breach_among, breaks_answer, filter, is_answer_set_back, is_before, is_restart, option_or, sent_step, stamp_of}
+use Rattle.fio_ends.proofs.Names.{◌≡◌, ◌∙◌, ◌==◌, Accepted, Cleared, Clock, ◌⊎◌, inl, inr, ◌&&◌, not, ℕ, Bool, true, false, List, [], ◌∷◌, length, Option, Some, None, refl, ap, ap₂, sym, subst, arith, if◌then◌else◌, is_some, option_and_then, AllByRecursion, Answer, Command, IsCommand, answered_block, command_octets, says_error, ContentFacts, ContentKept, content_events, kept_with, Heard, Done, Facts, RuleLimits, first_broken_within, is_some_and, observation_of, Watchdog, AccusesNeither, Block, Excused, FrameOutcome, HaveRestarts, IsRight, Judging, Kept, Load, NotJudged, Restarted, answer_code, any_stamp_of, breach_among, breaks_answer, filter, is_answer_set_back, is_before, is_restart, stamp_of}
 use Rattle.fio_message.specs.declared.answers.Answer.TheVariants as answers
 use Rattle.fio_check.specs.LinkJudges.{stamp_above}
 use Rattle.fio_check.specs.declared.content.ContentBreach.{ContentBreach}
@@ -71,12 +71,7 @@ block_back false stamp asked latest is = is
 
 pub back_of : (judging : Judging) (answer : Option Answer) → is_some_and (option_and_then stamp_of answer) (λ s. is_some_and judging.latest (is_before s)) ≡ true
     → is_some_and answer (is_answer_set_back judging) ≡ true
-back_of judging None is = absurd (cc is)
-back_of judging (Some (answers.Block number entries status stamp)) is = block_back (says_again status) stamp judging.asked judging.latest is
-back_of judging (Some (answers.Status flags receive transmit stamp)) is = is
-back_of judging (Some (answers.RawInputs inputs stamp)) is = is
-back_of judging (Some (answers.FilteredInputs inputs stamp)) is = is
-back_of judging (Some other) is = absurd (cc is)
+back_of judging answer is = grind (arith, block_back)
 
 -- it is no block that is sent again
 block_stamp : (again : Bool) (stamp : ℕ) → is_some (if again then None else Some stamp) ≡ true → Some stamp ≡ (if again then None else Some stamp)
@@ -84,14 +79,10 @@ block_stamp true stamp is = absurd (cc is)
 block_stamp false stamp is = refl
 
 pub same_stamp : (answer : Option Answer) → is_some (option_and_then stamp_of answer) ≡ true → option_and_then any_stamp_of answer ≡ option_and_then stamp_of answer
-same_stamp None is = refl
-same_stamp (Some (answers.Block number entries status stamp)) is = block_stamp (says_again status) stamp is
-same_stamp (Some other) is = refl
+same_stamp answer is = grind (arith, block_stamp)
 
 pub any_heard : (s : StampState) (answer : Option Answer) (stamp : ℕ) → option_and_then any_stamp_of answer ≡ Some stamp → (stamps_heard s answer).any ≡ Some stamp
-any_heard s None stamp is = absurd (cc is)
-any_heard s (Some (answers.Block number entries status at)) stamp is = is
-any_heard s (Some other) stamp is = ap (λ o. option_or o s.any) is
+any_heard s answer stamp is = grind arith
 
 -- nothing is found in an answer, or a breach of the rule on the watchdog
 abbrev pub IsOfWatchdog : Option ContentBreach → Type 0
@@ -230,8 +221,4 @@ sent_none facts number (Some command) = refl
 
 pub sent_absent : (one other : ContentKept) (command : Command) → IsCommand command
     → (kept_with one true (command_octets command)).facts.absent_named ≡ (kept_with other true (command_octets command)).facts.absent_named
-sent_absent one other command within = by one ∙ sym (by other)
-  where
-    by : (kept : ContentKept) → (kept_with kept true (command_octets command)).facts.absent_named ≡ names_absent command
-    by kept = ap (λ read. (fold content_with kept.facts (content_events kept.number read None)).absent_named) (read_back command within)
-        ∙ ap (λ (facts : ContentFacts). facts.absent_named) (sent_step kept.facts command)
+sent_absent one other command within = grind (arith, read_back)

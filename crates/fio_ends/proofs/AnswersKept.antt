@@ -153,13 +153,7 @@ KeepsWatchdog from facts = facts.watchdog_set ≡ true → IsSet from
 
 watchdog_heard : (facts : ContentFacts) (life : Life) (command : Command) (answer : Answer) → Says life command answer
     → (facts.watchdog_set ≡ true → IsSet life) → breaks_answer facts answer Watchdog ≡ false
-watchdog_heard facts life (commands.Watchdog timeout) answer says set =
-    rw says.is (ap (λ before. not before && facts.watchdog_set) (set_before_back (is_some (watchdog_of life))) ∙ by facts.watchdog_set (is_some (watchdog_of life)) set)
-  where
-    by : (known before : Bool) → (known ≡ true → before ≡ true) → (not before && known) ≡ false
-    by known before set = grind arith
-watchdog_heard facts life (commands.Poll number) answer says set = absurd says
-watchdog_heard facts life other answer says set = rw says.is refl
+watchdog_heard facts life other answer says set = grind (arith, set_before_back)
 
 -- the answer to a watchdog is heard
 set_since : (command : Command) (life now : Life) (answer : Answer) → Says life command answer → IsSince command life now

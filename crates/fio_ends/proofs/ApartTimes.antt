@@ -1,5 +1,5 @@
 -- The time of the latest entry of each input, and what is asked of the next one.
-use Rattle.fio_ends.proofs.Names.{◌≡◌, ◌∙◌, ◌+◌, ◌-◌, ◌^◌, ◌<◌, ◌≤◌, ◌&&◌, ◌⊎◌, inl, inr, ℕ, Bool, true, false, not, List, [], ◌∷◌, ◌++◌, length, Option, Some, None, refl, ap, subst, arith, append-nil, if◌then◌else◌, flat_map, flat_map-append, slice_get, nat_lt, nat_tests, is_some_and, same_Some, Settings, Life, life_of, log_of, Transition, MadeBlock, blocks_of, ContentFacts, InputAbove, FilterPair, Machine, get_before_push, BlocksAreNear, InputsAreNear, blocks_taken, filter_to, filter_towards, input_with_entry, latest_with, milliseconds_between}
+use Rattle.fio_ends.proofs.Names.{◌≡◌, ◌∙◌, ◌+◌, ◌^◌, ◌<◌, ◌≤◌, ◌&&◌, ◌⊎◌, inl, inr, ℕ, Bool, true, false, not, List, [], ◌∷◌, ◌++◌, length, Option, Some, None, refl, ap, subst, arith, append-nil, if◌then◌else◌, flat_map, flat_map-append, slice_get, nat_lt, is_some_and, Settings, Life, life_of, log_of, Transition, MadeBlock, blocks_of, ContentFacts, InputAbove, FilterPair, Machine, get_before_push, BlocksAreNear, InputsAreNear, blocks_taken, filter_to, filter_towards, input_with_entry, latest_with, milliseconds_between}
 use Rattle.fio_ends.proofs.BlockPlaces.{end_at}
 use Rattle.fio_ends.proofs.Clocks.{between_clocks, clock, offset_of}
 use Rattle.fio_ends.proofs.Fulls.{KeepsFull}
@@ -62,18 +62,12 @@ towards false pair input life a = a.leading
 
 pub far_enough : (offset earlier later filter : ℕ) → earlier + filter ≤ later → later < earlier + 2 ^ 32
     → nat_lt (milliseconds_between (clock offset earlier) (clock offset later)) filter ≡ false
-far_enough offset earlier later filter apart near =
-    let between : milliseconds_between (clock offset earlier) (clock offset later) ≡ later - earlier =
-    between_clocks offset earlier later (omega arith) near in
-    grind (arith, nat_tests)
+far_enough offset earlier later filter apart near = grind (arith, between_clocks, clock)
 
 pub none_near : (test : ℕ → Bool) (timely aged : Bool) (timed : Option ℕ)
     → (timely ≡ true → aged ≡ false → (time : ℕ) → timed ≡ Some time → test time ≡ false)
     → ((timely && not aged) && is_some_and timed test) ≡ false
-none_near test false aged timed kept = refl
-none_near test true true timed kept = refl
-none_near test true false None kept = refl
-none_near test true false (Some time) kept = kept refl refl time refl
+none_near test timely aged timed kept = grind arith
 
 -- ---- what is kept
 
@@ -141,6 +135,4 @@ least_by true facts level wide above = refl
 least_by false facts level wide above = refl
 
 pub if_clear : (clear aged : Bool) (wide time : ℕ) → (if clear && not aged then Some wide else None) ≡ Some time → (clear ≡ true) × (aged ≡ false) × (wide ≡ time)
-if_clear true true wide time is = absurd (cc is)
-if_clear true false wide time is = (refl, refl, same_Some _ _ is)
-if_clear false aged wide time is = absurd (cc is)
+if_clear clear aged wide time is = grind arith

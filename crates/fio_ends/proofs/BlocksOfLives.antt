@@ -1,5 +1,5 @@
 -- What the rules ask of blocks: how many entries each has, and that the one after a block with C has some.
-use Rattle.fio_ends.proofs.Names.{◌≡◌, ◌∙◌, ◌+◌, ◌-◌, ◌<◌, ◌≤◌, inl, inr, ℕ, Bool, true, false, List, [], ◌∷◌, ◌++◌, length, drop, Option, Some, None, ap, sym, subst, arith, length-take, length-drop, length-append, if◌then◌else◌, nat_lt, slice_get, AllByRecursion, nat_tests, slice_get_within, Command, Poll, Settings, Life, Scanned, Commanded, life_after_command, log_of, MadeBlock, newest_poll, is_new, blocks_of, end_of_blocks, newest_end, next_block, start_after, count_from, last_end-append, get_after_push, get_before_push, HasInput, each_block, next_fits, min}
+use Rattle.fio_ends.proofs.Names.{◌≡◌, ◌∙◌, ◌+◌, ◌-◌, ◌<◌, ◌≤◌, inl, inr, ℕ, Bool, true, false, List, [], ◌∷◌, ◌++◌, length, drop, Option, Some, ap, sym, subst, arith, length-take, length-drop, length-append, if◌then◌else◌, nat_lt, slice_get, AllByRecursion, nat_tests, slice_get_within, Command, Poll, Settings, Life, Scanned, Commanded, life_after_command, log_of, MadeBlock, newest_poll, is_new, blocks_of, end_of_blocks, newest_end, next_block, start_after, count_from, last_end-append, get_after_push, get_before_push, HasInput, each_block, next_fits, min}
 use Rattle.fio_module.specs.Log.{transitions_below}
 use Rattle.fio_module.proofs.BlockLaws.{losses_leave_more}
 
@@ -66,9 +66,7 @@ module _ (settings : Settings) (some : 1 ≤ settings.per_block) (life : Life)
 
   -- and if it has C, some may wait and the log goes on after it
   goes_on : made.more ≡ true → (1 ≤ settings.waiting) × (made.end < length (log_of life))
-  goes_on more =
-      let over : settings.per_block < length (log_of life) - start = grind (arith, nat_tests) in
-      (omega arith, omega arith)
+  goes_on more = grind arith
 
   leaves_new : LeavesSome settings (blocks_of settings life ++ made ∷ []) (length (log_of life))
   leaves_new =
@@ -127,7 +125,4 @@ made_stays false blocks added block k at = at
 pub blocks_stay : (settings : Settings) (life : Life) (command : Option Command) (k : ℕ) (block : MadeBlock)
     → slice_get (blocks_of settings life) k ≡ Some block
     → slice_get (blocks_of settings (life_after_command command life)) k ≡ Some block
-blocks_stay settings life None k block at = at
-blocks_stay settings life (Some (Poll number)) k block at =
-    made_stays (is_new (newest_poll life) number) (blocks_of settings life) (next_block settings life) block k at
-blocks_stay settings life (Some other) k block at = at
+blocks_stay settings life command k block at = grind (arith, made_stays)

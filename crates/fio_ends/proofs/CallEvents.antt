@@ -1,7 +1,5 @@
 -- Each call follows an event of the link machine, up to the frames to the CPU.
-use Rattle.fio_ends.proofs.Names.{Answer, Block, Command, List, Machine, None, Option, SentFrame, Settings, Some, [], after, after_module_event, after_sending, answer_frames, answer_octets, ap, ap₂, arith, block_in, cases_lt, command_octets, decoded_answer, drop, false, heard_as, if◌then◌else◌, inl, inr, item_numbered, length, length-map, map, map-append, nat_lt, nat_tests, number_of, option_map, refl, slice_get-map, subst, suc, sym, take, true, zero, ℕ, ◌++◌, ◌<◌, ◌∙◌, ◌∷◌, ◌≡◌, ◌≢◌, ◌≤◌}
-use Rattle.std.proofs.Common.{◌==◌}
-use Rattle.std.specs.Prelude.{◌||◌}
+use Rattle.fio_ends.proofs.Names.{Answer, Block, Command, List, Machine, None, Option, SentFrame, Settings, Some, [], after, after_module_event, after_sending, answer_frames, ap, ap₂, arith, block_in, cases_lt, command_octets, decoded_answer, drop, heard_as, inl, inr, item_numbered, length, length-map, map, map-append, number_of, option_map, refl, slice_get-map, subst, suc, sym, take, zero, ℕ, ◌++◌, ◌<◌, ◌∙◌, ◌∷◌, ◌≡◌, ◌≢◌, ◌≤◌}
 use Rattle.std.proofs.lemmas.List.{length-append}
 use Rattle.std.proofs.Math.Seq.{take-append_seam}
 use Rattle.fio_message.specs.declared.answers.Answer.TheVariants as answers
@@ -45,9 +43,7 @@ pub record Follows (settings : Settings) (first : ℕ) (machine : Machine) (held
 -- the octets that were written, where there was room for them
 written_front : (octets before after : List ℕ) (count : ℕ) → Writes octets before after count → count ≤ length before
     → take count after ≡ octets
-written_front octets before after count wrote room =
-    let long : length octets ≤ length before = omega (arith, wrote.counted, room) in
-    ap₂ (λ n l. take n l) wrote.counted (wrote.room long) ∙ take-append_seam octets (drop (length octets) before)
+written_front octets before after count wrote room = grind (arith, take-append_seam)
 
 -- ---- each event
 
@@ -107,25 +103,15 @@ module _ (settings : Settings) (first : ℕ) (machine : Machine) (held next : Ca
 -- ---- frames to the CPU
 
 frames_some : (count : ℕ) (buffer : List ℕ) → 0 < count → count ≤ length buffer → frames_written count buffer ≡ take count buffer ∷ []
-frames_some count buffer some room =
-    let not_none : (count == 0 || nat_lt (length buffer) count) ≡ false = grind (arith, nat_tests) in
-    ap (λ none. if none then [] else take count buffer ∷ []) not_none
+frames_some count buffer some room = grind arith
 
 pub frames_none : (count : ℕ) (buffer : List ℕ) → length buffer < count → frames_written count buffer ≡ []
-frames_none count buffer long =
-    let none : (count == 0 || nat_lt (length buffer) count) ≡ true = grind (arith, nat_tests) in
-    ap (λ none. if none then [] else take count buffer ∷ []) none
+frames_none count buffer long = grind arith
 
 -- the answer that was written spells the block that the answer spells which the machine sends
 pub frames_written_say : (reply : Option Answer) (before after : List ℕ) (count : ℕ) → WritesReply reply before after count
     → map block_in (frames_written count after) ≡ map block_of (answer_frames reply 0)
-frames_written_say None before after count wrote = ap (λ n. map block_in (frames_written n after)) wrote.0
-frames_written_say (Some answer) before after count wrote =
-    let octets = answer_octets answer in
-    let rest = drop (length octets) before in
-    ap₂ (λ n l. map block_in (frames_written n l)) wrote.0 wrote.1
-    ∙ ap (map block_in) (frames_some (length octets) (octets ++ rest) (omega arith) (omega (arith, length-append octets rest)))
-    ∙ ap (λ front. block_in front ∷ []) (take-append_seam octets rest)
+frames_written_say reply before after count wrote = grind (arith, frames_some, length-append, take-append_seam)
 
 -- an answer with error counts spells a block only where it does without
 pub errors_say : (errors : ErrorCounts) (reply : Option Answer) (round : ℕ)

@@ -1,7 +1,6 @@
 -- What the judge of a link keeps of stamps where no load takes effect.
-use Rattle.fio_ends.proofs.Names.{◌≡◌, ◌∙◌, ℕ, Bool, true, false, List, Option, Some, None, refl, ap, ap₂, sym, arith, ◌==◌, if◌then◌else◌, option_and_then, Answer, answer_in, facts_with, is_some_and, Facts, observation_in, observation_of, says_again, Judging, is_answer_set_back, is_before, judging_at, judging_kept, judging_taken, option_or, stamp_in, stamp_of}
+use Rattle.fio_ends.proofs.Names.{◌≡◌, ◌∙◌, ℕ, Bool, true, false, List, Option, Some, None, refl, ap, ap₂, sym, arith, ◌==◌, if◌then◌else◌, option_and_then, Answer, answer_in, facts_with, is_some_and, Facts, observation_in, observation_of, Judging, is_answer_set_back, judging_at, judging_kept, judging_taken, option_or, stamp_in, stamp_of}
 use Rattle.std.specs.Prelude.{◌||◌}
-use Rattle.fio_message.specs.declared.answers.Answer.TheVariants as answers
 use Rattle.fio_check.specs.LinkJudges.{asked_below}
 use Rattle.fio_check.specs.declared.observation.Observation.TheVariants as seen
 use Rattle.fio_ends.proofs.JudgeStamps.{StampState, comes_back, stamps_heard, stamps_polled}
@@ -24,11 +23,7 @@ asked_at judging (Some stamp) = refl
 
 module _ (judging : Judging) (s : StampState) (polled : Option ℕ) (h : HasStamps judging polled s) where
   back_same : (answer : Answer) → is_answer_set_back judging answer ≡ comes_back s answer
-  back_same (answers.Block number entries status stamp) = ap₂ (λ asked latest. is_some_and (if says_again status then asked else latest) (is_before stamp)) h.asked h.latest
-  back_same (answers.Status flags receive transmit stamp) = ap (λ latest. is_some_and latest (is_before stamp)) h.latest
-  back_same (answers.RawInputs inputs stamp) = ap (λ latest. is_some_and latest (is_before stamp)) h.latest
-  back_same (answers.FilteredInputs inputs stamp) = ap (λ latest. is_some_and latest (is_before stamp)) h.latest
-  back_same other = refl
+  back_same other = grind arith
 
   second : (a b : Bool) → (a || b) ≡ false → b ≡ false
   second true b is = absurd (cc is)

@@ -1,5 +1,5 @@
 -- Where no load of the counter takes effect since a life, each counter since then is the scans and an offset.
-use Rattle.fio_ends.proofs.Names.{◌≡◌, ◌≢◌, ◌∙◌, ◌∷◌, ◌+◌, ◌-◌, ◌%◌, ◌^◌, ◌<◌, ◌≤◌, ℕ, true, false, Some, ap, sym, subst, arith, slice_get, nat_tests, Settings, Life, Scanned, counter_events, loads_of, scans_of, Transition, MadeBlock, each-at, BlockTimely, IsTimely, counter_of, is_before, is_later, loads_in, milliseconds_between, ticks_in}
+use Rattle.fio_ends.proofs.Names.{◌≡◌, ◌∙◌, ◌∷◌, ◌+◌, ◌-◌, ◌%◌, ◌^◌, ◌<◌, ◌≤◌, ℕ, true, false, Some, sym, subst, arith, slice_get, Settings, Life, Scanned, loads_of, scans_of, Transition, MadeBlock, each-at, BlockTimely, IsTimely, counter_of, is_before, is_later, milliseconds_between}
 use Rattle.fio_input.specs.Counter.{counter}
 use Rattle.fio_input.specs.Widening.{wide_time_of}
 use Rattle.fio_input.proofs.Ticks.{counter-append}
@@ -19,13 +19,7 @@ from_scans : (counter scans ticks : ℕ) → (counter + ticks) % 2 ^ 32 ≡ (cou
 from_scans counter scans ticks = omega arith
 
 pub counter_is_clock : (begin now : Life) → GoesOn begin now → loads_of now ≡ loads_of begin → counter_of now ≡ clock (offset_of begin) (scans_of now)
-counter_is_clock begin now g same =
-    let whole = ap counter_events g.is ∙ counter_events-append g.more begin in
-    let loads = sym (ap loads_in whole) ∙ same in
-    let ticks = scans_more begin now g in
-    ap counter whole ∙ counter-append (counter_events g.more) (counter_events begin) loads
-    ∙ from_scans (counter_of begin) (scans_of begin) (ticks_in (counter_events g.more))
-    ∙ ap (clock (offset_of begin)) (sym ticks)
+counter_is_clock begin now g same = grind (arith, counter-append, counter_events-append, from_scans, scans_more)
 
 -- ---- two times
 
@@ -35,18 +29,11 @@ between_clocks offset earlier later low high = omega arith
 
 pub later_clock : (offset earlier later : ℕ) → earlier < later → later < earlier + 2 ^ 31
     → is_later (clock offset later) (clock offset earlier) ≡ true
-later_clock offset earlier later low high =
-    let between : milliseconds_between (clock offset earlier) (clock offset later) ≡ later - earlier =
-    between_clocks offset earlier later (omega arith) (omega arith) in
-    let apart : clock offset later ≢ clock offset earlier = (λ same. absurd (omega arith)) in
-    grind (arith, nat_tests)
+later_clock offset earlier later low high = grind (arith, between_clocks)
 
 pub not_before : (offset earlier later : ℕ) → earlier ≤ later → later < earlier + 2 ^ 31
     → is_before (clock offset later) (clock offset earlier) ≡ false
-not_before offset earlier later low high =
-    let between : milliseconds_between (clock offset earlier) (clock offset later) ≡ later - earlier =
-    between_clocks offset earlier later low (omega arith) in
-    grind (arith, nat_tests)
+not_before offset earlier later low high = grind (arith, between_clocks)
 
 -- ---- entries
 

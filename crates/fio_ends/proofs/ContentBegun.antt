@@ -1,5 +1,5 @@
 -- What is above a log that begins with both ends: events that break no rule, and what is known of each input.
-use Rattle.fio_ends.proofs.Names.{◌∙◌, None, Answer, content_step, ◌≡◌, ◌<◌, ◌&&◌, ◌++◌, not, ℕ, Bool, true, false, [], ◌∷◌, refl, ap, sym, subst, arith, if◌then◌else◌, nat_lt, nat_tests, ContentFacts, content_with, no_content, Ended, Heard, Sent, ContentRule, Accepted, Clock, State, KeepsRule, block_answer, breaks_answer, broken_state, events_above, gap_if, items_and_end, no_input, sent_step, step_only}
+use Rattle.fio_ends.proofs.Names.{◌∙◌, None, Answer, content_step, ◌≡◌, ◌<◌, ◌&&◌, ◌++◌, not, ℕ, Bool, true, false, [], ◌∷◌, refl, ap, sym, subst, arith, if◌then◌else◌, nat_lt, ContentFacts, content_with, no_content, Ended, Heard, Sent, ContentRule, Accepted, Clock, State, KeepsRule, block_answer, breaks_answer, broken_state, events_above, gap_if, items_and_end, no_input, sent_step, step_only}
 use Rattle.fio_message.specs.declared.answers.Answer.TheVariants as answers
 use Rattle.fio_check.specs.ContentFacts.{input_begun}
 use Rattle.fio_check.proofs.ContentStart.{block_at_start, command_at_start, no_again, no_error, no_lost}
@@ -61,6 +61,4 @@ start_keeps rule true = (
 -- ---- each input
 
 pub begun_input : (input : ℕ) → input < 64 → (if nat_lt input 64 then input_begun else no_input) ≡ input_begun
-begun_input input low =
-    let there : nat_lt input 64 ≡ true = grind (arith, nat_tests) in
-    ap (λ (b : Bool). if b then input_begun else no_input) there
+begun_input input low = grind arith

@@ -1,5 +1,5 @@
 -- What is kept of content along a prompt run, frame by frame.
-use Rattle.fio_ends.proofs.Names.{◌≡◌, ◌∙◌, ◌+◌, ◌%◌, ℕ, true, List, [], ◌∷◌, Option, Some, None, refl, ap, sym, subst, arith, if◌then◌else◌, ◌==◌, fold, nat_tests, same_Some, Answer, Command, answered_block, ContentFacts, content_with, ContentKept, kept_at_start, false, ContentEvent, Sent, events_in, content_events, events_of_block, number_after, facts_with, no_facts, ContentRule, Alternate, Apart, Fresh, Ignored, Order, State, Facts, Observation, Machine, number_of, sending_refusal, CpuFrame, SentFrame, length, ◌++◌, length-append, slice_get, get_push, command_in, Bool, Settings, KeepsRule, Seen, breaks_answer, broken_state, item_for, item_parts, items_sent, number_with_command}
+use Rattle.fio_ends.proofs.Names.{◌≡◌, ◌∙◌, ◌+◌, ◌%◌, ℕ, List, [], ◌∷◌, Option, Some, None, refl, ap, sym, subst, arith, ◌==◌, fold, same_Some, Answer, Command, answered_block, ContentFacts, content_with, ContentKept, kept_at_start, false, ContentEvent, Sent, events_in, content_events, events_of_block, number_after, facts_with, no_facts, ContentRule, Alternate, Apart, Fresh, Ignored, Order, State, Facts, Observation, Machine, number_of, sending_refusal, CpuFrame, SentFrame, length, ◌++◌, length-append, slice_get, get_push, command_in, Bool, Settings, KeepsRule, Seen, breaks_answer, broken_state, item_for, item_parts, items_sent, number_with_command}
 use Rattle.fio_message.specs.declared.answers.Answer.TheVariants as answers
 use Rattle.fio_message.specs.Blocks.{Block as BlockOf}
 use Rattle.fio_check.specs.ContentEvents.{number_below}
@@ -114,13 +114,4 @@ heard_keeps facts other = record { order = refl; fresh = refl; alternate = refl;
 -- a block answer with the number
 pub block_events : (number : ℕ) (answer : Option Answer) (block : BlockOf) → answered_block answer ≡ Some block → block.number ≡ number
     → (content_events (Some number) None answer ≡ events_of_block block) × (number_after (Some number) None answer ≡ Some ((number + 1) % 256))
-block_events number None block is same = absurd (cc is)
-block_events number (Some (answers.Block n entries status stamp)) block is same =
-    let b : block ≡ (record { number = n; entries = entries.items; status = status; stamp = stamp }) = sym (same_Some _ _ is) in
-    let n_is : n ≡ number = ap (λ (x : BlockOf). x.number) (sym b) ∙ same in
-    let met : (n == number) ≡ true = grind (arith, nat_tests) in (
-      ap (λ taken. if taken then events_of_block (record { number = n; entries = entries.items; status = status; stamp = stamp }) else []) met
-          ∙ ap events_of_block (sym b),
-      ap (λ taken. if taken then Some ((n + 1) % 256) else Some number) met ∙ ap (λ k. Some ((k + 1) % 256)) n_is,
-    )
-block_events number (Some other) block is same = absurd (cc is)
+block_events number answer block is same = grind arith

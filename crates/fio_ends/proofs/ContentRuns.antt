@@ -1,6 +1,5 @@
 -- Along a prompt run an invariant of content holds, from its start or from any command on.
-use Rattle.fio_ends.proofs.Names.{◌≡◌, ◌∙◌, ◌+◌, ◌%◌, ◌<◌, ◌≤◌, ◌⊎◌, inl, inr, ℕ, Bool, true, false, List, [], ◌∷◌, length, Option, Some, None, refl, ap, sym, subst, arith, if◌then◌else◌, ◌==◌, slice_get, AllByRecursion, list_any, nat_tests, Answer, Command, command_octets, IsCommand, Life, life_of, answer_in, block_in, Settings, AreInRange, ContentFacts, ContentKept, kept_at_start, Heard, Sent, content_events, events_of_block, number_after, no_facts, answer_type_to, is_absent, names_absent, observation_of, ContentRule, Facts, Event, SentFrame, Machine, number_of, sending_refusal, after_sending, after_delivery_to_module, after_delivered_block, after_delivery_to_cpu, refusal, after, Leads, HasBlock, IsNotRestart, HaveNoRestart, blocks_in, CarriesBlockOf, number_of-fits, number_of-next, after_taken, in_order, same_round, after_delivery, IsKept, carries_own, kept_all, kept, frame_heard, frames_at, frames_from, due_after, IsPrompt, ArePrompt, IsWithinRanges, Block, items_of_block, item_numbered, ◌++◌, command_in, same_Some, InputAbove, InputItem, content_with, fold, Ended, Recorded, map, fold-append, ◌&&◌, Observation, block_answer, facts_with, frame_at_place, input_with_item, item_for, items_sent, number_with_command, observation_of_command, polling, unnamed, unwrap_or}
-use Rattle.fio_message.specs.declared.answers.Answer.TheVariants as answers
+use Rattle.fio_ends.proofs.Names.{◌≡◌, ◌∙◌, ◌+◌, ◌%◌, ◌<◌, ◌≤◌, ◌⊎◌, inl, inr, ℕ, Bool, true, false, List, [], ◌∷◌, length, Option, Some, None, refl, ap, sym, subst, arith, if◌then◌else◌, ◌==◌, slice_get, AllByRecursion, list_any, nat_tests, Answer, Command, command_octets, IsCommand, Life, life_of, answer_in, block_in, Settings, AreInRange, ContentFacts, ContentKept, kept_at_start, Heard, Sent, content_events, events_of_block, number_after, no_facts, answer_type_to, is_absent, names_absent, observation_of, ContentRule, Facts, Event, SentFrame, Machine, number_of, sending_refusal, after_sending, after_delivery_to_module, after_delivered_block, after_delivery_to_cpu, refusal, after, Leads, HasBlock, IsNotRestart, HaveNoRestart, blocks_in, CarriesBlockOf, number_of-fits, number_of-next, after_taken, in_order, same_round, after_delivery, IsKept, carries_own, kept_all, kept, frame_heard, frames_at, frames_from, due_after, IsPrompt, ArePrompt, IsWithinRanges, Block, items_of_block, command_in, same_Some, InputAbove, InputItem, content_with, fold, Ended, Recorded, map, fold-append, ◌&&◌, Observation, block_answer, facts_with, frame_at_place, input_with_item, item_for, items_sent, number_with_command, observation_of_command, polling, unnamed, unwrap_or}
 use Rattle.fio_message.specs.declared.commands.Command.TheVariants as commands
 use Rattle.std.specs.Prelude.{◌||◌}
 use Rattle.fio_check.specs.declared.observation.Observation.TheVariants as seen
@@ -21,12 +20,7 @@ use Rattle.fio_ends.proofs.ContentFrame.{Agrees, KeepsContent, agrees-below, agr
 -- of a command that is sent below a poll, or is one: an input of which no item was sent since has none in it
 left_since : (polled since : Bool) (above : InputAbove) (item : Option InputItem) → polled ≡ true
     → ((polled && (input_with_item (unnamed above) item).named) || since) ≡ false → (since ≡ false) × (item ≡ None)
-left_since polled since above item held free = by polled item held free
-  where
-    by : (polled : Bool) (item : Option InputItem) → polled ≡ true → ((polled && (input_with_item (unnamed above) item).named) || since) ≡ false → (since ≡ false) × (item ≡ None)
-    by false item held free = absurd (cc held)
-    by true (Some item) held free = absurd (cc free)
-    by true None held free = (free, refl)
+left_since polled since above item held free = grind arith
 
 -- below a block no poll is sent
 unpolled_below : (facts : ContentFacts) (block : Block) → (fold content_with facts (events_of_block block)).polled ≡ false
@@ -39,9 +33,7 @@ unpolled_below facts block =
 -- its one event is that it is heard
 heard_events : (number : Option ℕ) (answer : Option Answer) (type : ℕ) (accepted : Bool) → observation_of None answer ≡ seen.Answer type accepted
     → (found : Answer) × (answer ≡ Some found) × (content_events number None answer ≡ Heard found ∷ []) × (number_after number None answer ≡ number)
-heard_events number None type accepted is = absurd (cc is)
-heard_events number (Some (answers.Block n entries status stamp)) type accepted is = absurd (cc is)
-heard_events number (Some other) type accepted is = (other, refl, refl, refl)
+heard_events number answer type accepted is = grind arith
 
 module _ (settings : Settings) (range : AreInRange settings) (first : ℕ) (begin : Machine) (rule : ContentRule)
     (S : Type 0) (initial : S) (next : S → Machine → Event → S)
@@ -272,31 +264,14 @@ module _ (settings : Settings) (range : AreInRange settings) (first : ℕ) (begi
   begun_after from machine events.Restart begun now = begun
 
   round_heard : (machine : Machine) (index : ℕ) (found : Option SentFrame) → machine.round ≤ (after_delivery_to_cpu first machine index found).round
-  round_heard machine index None = omega arith
-  round_heard machine index (Some frame) = by_block (block_in frame.octets)
-    where
-      by_number : (same : Bool) (block : Block)
-          → machine.round ≤ (if same then (record machine { last_to_cpu = index; round = machine.round + 1; items = machine.items ++ items_of_block block }) else (record machine { last_to_cpu = index })).round
-      by_number true block = omega arith
-      by_number false block = omega arith
-
-      by_block : (block : Option Block) → machine.round ≤ (after_delivered_block first (record machine { last_to_cpu = index }) block).round
-      by_block None = omega arith
-      by_block (Some block) = by_number (block.number == number_of first machine.round) block
+  round_heard machine index found = grind arith
 
   round_received : (machine : Machine) (index : ℕ) (found : Option SentFrame) → machine.round ≤ (after_delivery_to_module settings machine index found).round
   round_received machine index None = omega arith
   round_received machine index (Some frame) = omega arith
 
   pub rounds_after : (machine : Machine) (event : Event) → begin.round ≤ machine.round → begin.round ≤ (after settings first machine event).round
-  rounds_after machine (events.ToCpu index) low = omega (arith, round_heard machine index (item_numbered machine.to_cpu index))
-  rounds_after machine (events.ToModule index) low = omega (arith, round_received machine index (item_numbered machine.to_module index))
-  rounds_after machine events.Poll low = low
-  rounds_after machine (events.Send command) low = low
-  rounds_after machine (events.Scan raw) low = low
-  rounds_after machine events.LineSync low = low
-  rounds_after machine (events.Raise mask) low = low
-  rounds_after machine events.Restart low = low
+  rounds_after machine event low = grind (arith, round_heard, round_received)
 
   -- so all events do
   pub all_keep_content : (state : S) (later : List Event) (from : Life) (machine last : Machine) (due : ℕ) (facts : Facts) (kept : ContentKept) → IsKnown settings first begin from machine

@@ -1,5 +1,5 @@
 -- Where the rules are kept, a log has no fault of them.
-use Rattle.fio_ends.proofs.Names.{◌≡◌, ℕ, Bool, false, List, length, Option, Some, None, refl, ap, ap₂, option_map, slice_get, Answer, Entry, Gap, TranscriptLine, ContentFacts, ContentEvent, LineEvent, Ended, Heard, Recorded, Sent, content_event_at, events_of_log, ContentRule, Accepted, Alternate, Apart, Cleared, Clock, Done, Fresh, Ignored, Order, State, Watchdog, rule_broken_by, BrokenRule, HasNearTimes, KeepsRule, TimedState, breaks_answer, breaks_entry, content_at, content_fault_in, entry_rules, find, option_and_then, option_or}
+use Rattle.fio_ends.proofs.Names.{◌≡◌, ℕ, Bool, false, List, length, Option, Some, None, refl, ap, option_map, slice_get, Answer, Entry, TranscriptLine, ContentFacts, ContentEvent, LineEvent, Heard, Recorded, content_event_at, events_of_log, ContentRule, Accepted, Alternate, Apart, Cleared, Clock, Done, Fresh, Ignored, Order, State, Watchdog, rule_broken_by, HasNearTimes, KeepsRule, breaks_answer, breaks_entry, content_at, content_fault_in, entry_rules, find, option_and_then, arith}
 use Rattle.std.specs.Prelude.{take, if◌then◌else◌}
 use Rattle.fio_check.specs.ContentEvents.{recorded_items}
 use Rattle.fio_check.specs.ContentRules.{answer_rules}
@@ -36,24 +36,14 @@ none_of_six : (a b c d e f : Bool) (p q r s t u : ContentRule) → a ≡ false �
 none_of_six a b c d e f p q r s t u first second third fourth fifth sixth = rw (first, second, third, fourth, fifth, sixth) refl
 
 none_of_answer : (facts : ContentFacts) (answer : Answer) → KeepsAll facts (Heard answer) → find (breaks_answer facts answer) answer_rules ≡ None
-none_of_answer facts answer k =
-    none_of_five (breaks_answer facts answer Done) (breaks_answer facts answer Accepted) (breaks_answer facts answer Cleared) (breaks_answer facts answer Watchdog) (breaks_answer facts answer Clock)
-    Done Accepted Cleared Watchdog Clock k.done k.accepted k.cleared k.watchdog k.clock
+none_of_answer facts answer k = grind (arith, none_of_five)
 
 none_of_entry : (facts : ContentFacts) (input low wide : ℕ) (level : Bool) → KeepsAll facts (Recorded (Entry input level low wide))
     → find (breaks_entry facts input (record { level = level; wide = wide })) entry_rules ≡ None
-none_of_entry facts input low wide level k =
-    let entry : TimedState = record { level = level; wide = wide } in
-    none_of_six (breaks_entry facts input entry Order) (breaks_entry facts input entry Fresh) (breaks_entry facts input entry Alternate) (breaks_entry facts input entry Apart)
-    (breaks_entry facts input entry Ignored) (breaks_entry facts input entry State) Order Fresh Alternate Apart Ignored State k.order k.fresh k.alternate k.apart k.ignored k.state.1
+none_of_entry facts input low wide level k = grind (arith, none_of_six)
 
 pub none_broken : (facts : ContentFacts) (event : ContentEvent) → KeepsAll facts event → rule_broken_by facts event ≡ None
-none_broken facts (Heard answer) k = ap (option_map {U = BrokenRule} (λ rule. record { input = None; rule = rule })) (none_of_answer facts answer k)
-none_broken facts (Recorded (Entry input level low wide)) k =
-    ap₂ option_or k.state.0 (ap (option_map {U = BrokenRule} (λ rule. record { input = Some input; rule = rule })) (none_of_entry facts input low wide level k))
-none_broken facts (Recorded Gap) k = refl
-none_broken facts (Ended status stamp) k = k.state
-none_broken facts (Sent command) k = refl
+none_broken facts event k = grind (arith, none_of_answer, none_of_entry)
 
 -- ---- a log
 

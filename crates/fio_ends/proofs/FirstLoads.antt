@@ -1,5 +1,5 @@
 -- In a log that begins with both ends no more loads of the counter take effect than are sent in it: each frame is received once.
-use Rattle.fio_ends.proofs.Names.{◌≡◌, ◌+◌, ◌<◌, ◌≤◌, ℕ, zero, suc, Bool, true, false, List, [], ◌∷◌, ◌++◌, take, Option, Some, None, refl, ap, subst, arith, if◌then◌else◌, ◌==◌, slice_get, AllByRecursion, same_Some, Block, Command, IsCommand, block_in, command_in, command_octets, asked_number, one_more_if_loaded, counter_events, Settings, Life, LineSynced, life_of, life_after_command, loads_of, Event, SentFrame, Machine, start, number_of, after_sending, after_delivery_to_module, after_delivered_block, after_delivery_to_cpu, after, Leads, item_numbered, HaveNoRestart, ArePrompt, IsPrompt, IsNotRestart, refusal, due_after, IsWithinRanges, number_of-fits, after_delivery, items_of_block, LoadsAreSent, loads_sent}
+use Rattle.fio_ends.proofs.Names.{◌≡◌, ◌+◌, ◌<◌, ◌≤◌, ℕ, zero, suc, Bool, true, false, List, [], ◌∷◌, ◌++◌, take, Option, Some, None, refl, ap, subst, arith, if◌then◌else◌, ◌==◌, slice_get, AllByRecursion, same_Some, Block, Command, IsCommand, block_in, command_in, command_octets, asked_number, counter_events, Settings, Life, LineSynced, life_of, life_after_command, loads_of, Event, SentFrame, Machine, start, number_of, after_sending, after_delivery_to_module, after_delivered_block, after_delivery_to_cpu, after, Leads, item_numbered, HaveNoRestart, ArePrompt, IsPrompt, IsNotRestart, refusal, due_after, IsWithinRanges, number_of-fits, after_delivery, items_of_block, LoadsAreSent, loads_sent}
 use Rattle.fio_message.specs.declared.commands.Command.TheVariants as commands
 use Rattle.fio_link.specs.declared.event.Event.TheVariants as events
 use Rattle.fio_ends.proofs.Sends.{read_back}
@@ -52,16 +52,10 @@ abbrev loads_asked : Life → ℕ
 loads_asked life = loads_of life + is_asked (asked_number (counter_events life))
 
 synced : (life : Life) → loads_asked (LineSynced ∷ life) ≡ loads_asked life
-synced life = by (asked_number (counter_events life))
-  where
-    by : (asked : Option ℕ) → one_more_if_loaded asked (loads_of life) + 0 ≡ loads_of life + is_asked asked
-    by None = omega arith
-    by (Some number) = omega arith
+synced life = grind arith
 
 received : (command : Option Command) (life : Life) → loads_asked (life_after_command command life) ≤ loads_asked life + is_load command
-received None life = omega arith
-received (Some (commands.LoadCounter load)) life = omega arith
-received (Some other) life = omega arith
+received command life = grind arith
 
 -- ---- both ends
 

@@ -1,5 +1,5 @@
 -- A configuration of all inputs: which are ignored, and at which levels they stand.
-use Rattle.fio_ends.proofs.Names.{◌≡◌, ◌≢◌, ◌∙◌, ◌+◌, ◌<◌, ◌≤◌, ◌==◌, ◌&&◌, inl, ℕ, zero, suc, Bool, true, false, not, List, [], ◌∷◌, ◌++◌, length, Option, Some, None, refl, ap, ap₂, sym, subst, arith, if◌then◌else◌, nat_lt, nat_tests, append-nil, AllByRecursion, Command, InputItem, Life, Scanned, LineSynced, Commanded, filter_events, counter_events, scans_of, loads_of, log_of, all_present, input_setting, FilterEvent, applied_items, filtered_state, input_samples, input_state, is_some, last_item_of, loaded_number, option_or, setting_by, state_at_configuration, ticks_after_load}
+use Rattle.fio_ends.proofs.Names.{◌≡◌, ◌≢◌, ◌∙◌, ◌+◌, ◌<◌, ◌≤◌, ◌==◌, ◌&&◌, inl, ℕ, zero, suc, Bool, true, false, not, List, [], ◌∷◌, ◌++◌, length, Option, Some, None, refl, ap, ap₂, sym, subst, arith, if◌then◌else◌, nat_lt, nat_tests, append-nil, AllByRecursion, Command, InputItem, Life, Scanned, LineSynced, Commanded, filter_events, counter_events, scans_of, loads_of, log_of, all_present, input_setting, FilterEvent, applied_items, input_state, last_item_of, loaded_number, option_or, setting_by, ticks_after_load}
 use Rattle.fio_message.specs.Octets.{IsItem}
 use Rattle.fio_message.specs.declared.commands.Command.TheVariants as commands
 use Rattle.fio_module.specs.Flags.{word_of}
@@ -74,15 +74,7 @@ module _ (ignored : ℕ → Bool) (life : Life) where
       (record { leading = refl; trailing = refl; ignored = refl })
 
   state_is : (input : ℕ) → input < 64 → input_state input (filter_events configured) ≡ input_state input before
-  state_is input low =
-      by (last_item_of input (applied_items (items_with ignored 64))) (item_with ignored input) (found input low)
-    where
-      by : (item : Option InputItem) (other : InputItem) → item ≡ Some other
-          → filtered_state (setting_by item (input_setting input before))
-          (if is_some item then input_state input before else state_at_configuration input before)
-          (if is_some item then [] else input_samples input before) ≡ input_state input before
-      by (Some item) other is = refl
-      by None other is = absurd (cc is)
+  state_is input low = grind (arith, found)
 
 -- levels of which the first are given, and all others
 abbrev pub two_levels : (ℕ → Bool) → (ℕ → Bool) → ℕ → ℕ → Bool

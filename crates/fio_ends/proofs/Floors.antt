@@ -44,10 +44,7 @@ behind offset (Some above) scans transition (inr same) near =
 pub none_breaks : (test : Floor → Bool) (timely aged : Bool) (floor : Option Floor)
     → (timely ≡ true → aged ≡ false → (f : Floor) → floor ≡ Some f → test f ≡ false)
     → ((timely && not aged) && is_some_and floor test) ≡ false
-none_breaks test false aged floor kept = refl
-none_breaks test true true floor kept = refl
-none_breaks test true false None kept = refl
-none_breaks test true false (Some f) kept = kept refl refl f refl
+none_breaks test timely aged floor kept = grind arith
 
 -- ---- what is kept
 

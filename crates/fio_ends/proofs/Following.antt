@@ -199,9 +199,7 @@ follows-history settings first from machine due facts history occurrence none is
 -- the frame delivered to the module last is one that was sent
 pub last_is_sent : (settings : Settings) (first : ℕ) (from : Life) (facts : Facts) (machine : Machine) (due : ℕ) → Stage settings first from facts machine due
     → machine.last_to_module ≤ length machine.to_module
-last_is_sent settings first from facts machine due (inl quiet) = omega (arith, quiet.all)
-last_is_sent settings first from facts machine due (inr (inl under_way)) = omega (arith, under_way.1.passed, under_way.1.sent_last)
-last_is_sent settings first from facts machine due (inr (inr received)) = omega (arith, received.1.all)
+last_is_sent settings first from facts machine due is = grind arith
 
 -- what a command that is sent needs of it
 pub record MaySend (settings : Settings) (first : ℕ) (machine : Machine) (facts : Facts) : Type 0 where

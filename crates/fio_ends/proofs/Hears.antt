@@ -1,6 +1,5 @@
 -- The CPU hears the answer that is due: its line breaks no rule.
 use Rattle.fio_ends.proofs.Names.{◌≡◌, ◌∙◌, ◌+◌, ◌%◌, ◌<◌, ◌≤◌, ◌&&◌, ◌||◌, inl, inr, ℕ, Bool, true, false, List, [], ◌∷◌, length, map, Option, Some, None, refl, ap, sym, subst, arith, if◌then◌else◌, ◌==◌, not, nat_le, nat_lt, option_map, slice_get, AllByRecursion, list_any, option_map_or, nat_tests, same_Some, Answer, Command, answer_in, answered_block, block_in, says_again, says_lost, says_more, Settings, AreInRange, Life, life_of, Transition, entry_of, MadeBlock, blocks_of, facts_with, answer_type_to, is_absent, observation_in, observation_of, first_broken_within, Facts, RuleLimits, ToCpu, SentFrame, Machine, number_of, after_delivered_block, after_delivery_to_cpu, refusal, after, item_numbered, HasBlock, next_round, CarriesBlockOf, number_of-next, HasInput, each-at, after_taken, in_order, same_round, after_delivery, IsKept, carries_own, frame_heard, SuitModule, is_some, length-map}
-use Rattle.fio_message.specs.declared.answers.Answer.TheVariants as answers
 use Rattle.fio_message.specs.declared.commands.Command.TheVariants as commands
 use Rattle.fio_message.specs.Blocks.{Block as BlockOf}
 use Rattle.fio_check.specs.Rules.{is_overfull_within}
@@ -16,9 +15,7 @@ use Rattle.fio_ends.proofs.Following.{IsAsked, IsReceived, IsBlockFor, Answers, 
 -- directly above is the command that an answer of this type answers
 is_asked : (awaited : Option ℕ) (code : ℕ) → awaited ≡ Some code
     → not (option_map_or (λ a. a == code) awaited false) ≡ false
-is_asked awaited code is =
-    let same : (code == code) ≡ true = grind (arith, nat_tests) in
-    ap (λ a. not (option_map_or (λ b. b == code) a false)) is ∙ ap not same
+is_asked awaited code is = grind arith
 
 -- an answer to the command directly above, which takes no configuration of an absent input, breaks no rule
 answer_keeps : (facts : Facts) (code : ℕ) (accepted : Bool) → facts.awaited ≡ Some code
@@ -29,27 +26,15 @@ answer_keeps facts code accepted asked fair limits rule = refl
 
 has_number : (polled : Option ℕ) (number n : ℕ) → polled ≡ Some number → n ≡ number
     → option_map_or (λ p. not (n == p)) polled false ≡ false
-has_number polled number n is same =
-    let met : (n == number) ≡ true = grind (arith, nat_tests) in
-    ap (λ p. option_map_or (λ q. not (n == q)) p false) is ∙ ap not met
+has_number polled number n is same = grind arith
 
 not_both : (advanced again : Bool) → (advanced ≡ true → again ≡ false) → (again && advanced) ≡ false
-not_both true again apart = ap (λ b. b && true) (apart refl)
-not_both false true apart = refl
-not_both false false apart = refl
+not_both advanced again apart = grind arith
 
 within_limits : (fewer lost more : Bool) (entries per_block : ℕ) → (fewer ≡ true → lost ≡ true → more ≡ true)
     → (more ≡ true → entries ≡ per_block)
     → ((fewer && (lost && not more)) || (more && not (entries == per_block))) ≡ false
-within_limits fewer lost true entries per_block implied full =
-    let same : (entries == per_block) ≡ true = (let e : entries ≡ per_block = full refl in grind (arith, nat_tests)) in
-    rw same (with_more fewer lost)
-  where
-    with_more : (fewer lost : Bool) → ((fewer && (lost && false)) || false) ≡ false
-    with_more fewer lost = grind arith
-within_limits true true false entries per_block implied full = absurd (cc (implied refl refl))
-within_limits true false false entries per_block implied full = refl
-within_limits false lost false entries per_block implied full = refl
+within_limits fewer lost more entries per_block implied full = grind arith
 
 never : (b : Bool) → (b && false) ≡ false
 never true = refl
@@ -57,12 +42,7 @@ never false = refl
 
 has_rest : (more : Option Bool) (entries : ℕ) → (more ≡ Some true → 1 ≤ entries)
     → ((entries == 0) && option_map_or (λ m. m) more false) ≡ false
-has_rest None entries rest = never (entries == 0)
-has_rest (Some false) entries rest = never (entries == 0)
-has_rest (Some true) entries rest =
-    let some : 1 ≤ entries = rest refl in
-    let met : (entries == 0) ≡ false = grind (arith, nat_tests) in
-    ap (λ b. b && true) met
+has_rest more entries rest = grind (arith, never)
 
 -- a module's entries name no absent input
 none_absent : (transitions : List Transition) → AllByRecursion HasInput transitions
@@ -80,10 +60,7 @@ none_absent (transition ∷ transitions) there =
 pub block_said : (answer : Option Answer) (block : BlockOf) → answered_block answer ≡ Some block
     → observation_of None answer
     ≡ seen.Block block.number block.status (length block.entries) (list_any (λ entry. is_absent entry.input) block.entries)
-block_said None block is = absurd (cc is)
-block_said (Some (answers.Block number entries status stamp)) block is =
-    ap (λ (b : BlockOf). seen.Block b.number b.status (length b.entries) (list_any (λ entry. is_absent entry.input) b.entries)) (same_Some _ _ is)
-block_said (Some other) block is = absurd (cc is)
+block_said answer block is = grind arith
 
 -- another answer
 pub no_block_said : (answer : Option Answer) (code : ℕ) (accepted : Bool) → observation_of None answer ≡ seen.Answer code accepted

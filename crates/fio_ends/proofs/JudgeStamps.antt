@@ -58,9 +58,7 @@ stamps_after first s machine (events.ToCpu index) = stamps_heard s (option_and_t
 stamps_after first s machine other = s
 
 no_stamp_before : (stamp above : Option ℕ) → ((s c : ℕ) → stamp ≡ Some s → above ≡ Some c → is_before s c ≡ false) → is_some_and stamp (λ s. is_some_and above (is_before s)) ≡ false
-no_stamp_before None above kept = refl
-no_stamp_before (Some s) None kept = refl
-no_stamp_before (Some s) (Some c) kept = kept s c refl refl
+no_stamp_before stamp above kept = grind arith
 
 neither : (a b : Bool) → a ≡ false → b ≡ false → (a || b) ≡ false
 neither a b first second = rw (first, second) refl

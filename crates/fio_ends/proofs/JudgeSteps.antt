@@ -1,5 +1,5 @@
 -- What the judge of a link does with a frame in which no breach is found.
-use Rattle.fio_ends.proofs.Names.{◌≡◌, ◌∙◌, ℕ, Bool, true, false, List, [], ◌∷◌, ◌++◌, ◌⊎◌, inl, inr, Option, Some, None, refl, ap, sym, subst, if◌then◌else◌, nat_lt, AllByRecursion, ContentKept, kept_with, facts_with, no_facts, first_broken_within, Facts, RuleLimits, Observation, observation_in, observation_of, AccusesNeither, Answer, Checker, CpuFrame, Excused, FrameOutcome, Judging, Kept, Load, LogLine, LogPlace, NotJudged, Nothing, Restarted, Skips, ToCommand, checker_skipping, checker_with, checking_above, checking_with, content_found, content_here, found-taking, found_by, found_in_frame, is_set_back, is_unheard, judging_at, judging_below, judging_below_outcome, judging_kept, judging_passed, judging_taken, judging_with, judging_with_line, loads_below, loads_left, may_be_anew, outcome_anew, outcome_found, outcome_in, outcome_judged, outcome_set_back, outcomes_of, passes_over, place_lost, stamp_in, taking, unjudged_by, with-taking, arith}
+use Rattle.fio_ends.proofs.Names.{◌≡◌, ◌∙◌, ℕ, Bool, true, false, List, [], ◌∷◌, ◌++◌, ◌⊎◌, inl, inr, Option, Some, None, refl, ap, sym, subst, if◌then◌else◌, nat_lt, AllByRecursion, ContentKept, kept_with, facts_with, no_facts, first_broken_within, Facts, RuleLimits, Observation, observation_in, observation_of, AccusesNeither, Answer, Checker, CpuFrame, Excused, FrameOutcome, Judging, Kept, Load, LogLine, LogPlace, NotJudged, Nothing, Restarted, Skips, ToCommand, checker_skipping, checker_with, checking_above, checking_with, content_found, content_here, found-taking, found_by, found_in_frame, is_set_back, judging_at, judging_below, judging_below_outcome, judging_kept, judging_passed, judging_taken, judging_with, judging_with_line, loads_below, loads_left, outcome_anew, outcome_found, outcome_in, outcome_set_back, outcomes_of, passes_over, place_lost, stamp_in, taking, unjudged_by, with-taking, arith}
 use Rattle.fio_check.specs.LinkJudges.{Frame, Lost}
 use Rattle.fio_check.specs.declared.observation.Observation.TheVariants as seen
 
@@ -45,13 +45,7 @@ module _ (judging : Judging) (at : LogPlace) (from_cpu : Bool) (octets : List �
   pub kept_is : passes_over judging.checker from_cpu said ≡ false → back_here ≡ false
       → found_by judging.checker from_cpu said ≡ None → found_in_frame (content_here judging) from_cpu octets ≡ None
       → outcome_in judging at from_cpu octets ≡ Kept
-  kept_is over back rules content =
-      let anew = may_be_anew judging from_cpu octets in
-      ap (λ b. here (outcome_anew anew (outcome_judged judging at from_cpu octets)) b back_here) over
-      ∙ ap (here (outcome_anew anew (outcome_judged judging at from_cpu octets)) false) back
-      ∙ ap (λ found. outcome_anew anew (outcome_found (is_unheard judging at said) found (found_in_frame (content_here judging) from_cpu octets))) rules
-      ∙ ap (λ found. outcome_anew anew (outcome_found (is_unheard judging at said) None found)) content
-      ∙ ap (outcome_anew anew) (none_found (is_unheard judging at said)) ∙ none_anew anew
+  kept_is over back rules content = grind (arith, none_anew, none_found)
 
   pub kept : passes_over judging.checker from_cpu said ≡ false → back_here ≡ false
       → found_by judging.checker from_cpu said ≡ None → found_in_frame (content_here judging) from_cpu octets ≡ None

@@ -36,11 +36,7 @@ short_at first machine (events.ToCpu index) = by (item_numbered machine.to_cpu i
 short_at first machine other = tt
 
 below_none : (event : Event) → below_command event None ≡ None
-below_none event = by (is_command event) None refl
-  where
-    by : (sends : Bool) (begins : Option ℕ) → begins ≡ None → (if sends then None else begins) ≡ None
-    by true begins none = refl
-    by false begins none = none
+below_none event = grind arith
 
 module _ (settings : Settings) (range : AreInRange settings) (first : ℕ) (limits : RuleLimits) (suit : SuitModule settings limits) (begin : Machine)
     (begun : Bool) (above : Option ℕ) where

@@ -1,5 +1,5 @@
 -- A block in whose time the counter jumped, or may have.
-use Rattle.fio_ends.proofs.Names.{Block, events_of_block, items_of_block, ◌<◌, ◌-◌, eqb_tells, ◌≡◌, ◌∙◌, ◌+◌, ◌≤◌, ◌⊎◌, inl, inr, ℕ, Bool, true, false, List, [], ◌∷◌, refl, ap, sym, subst, arith, fold, if◌then◌else◌, nat_tests, ◌==◌, Answer, Item, Entry, Gap, ContentFacts, content_with, ContentEvent, Ended, Heard, Recorded, block_answer, cases_lt, content_step, forgetting, is_clear_end, items_and_end, one_excuse_more}
+use Rattle.fio_ends.proofs.Names.{Block, events_of_block, items_of_block, ◌<◌, ◌-◌, eqb_tells, ◌≡◌, ◌∙◌, ◌+◌, ◌≤◌, ◌⊎◌, inl, inr, ℕ, Bool, true, false, List, [], ◌∷◌, refl, ap, sym, subst, arith, fold, if◌then◌else◌, nat_tests, ◌==◌, Answer, Item, Entry, Gap, ContentFacts, content_with, ContentEvent, Ended, Heard, Recorded, block_answer, cases_lt, content_step, forgetting, items_and_end, one_excuse_more}
 use Rattle.fio_check.specs.ContentAbove.{one_excuse_less}
 use Rattle.fio_check.specs.ContentRules.{is_excused}
 use Rattle.fio_ends.proofs.ContentLines.{EachKeeps}
@@ -30,14 +30,7 @@ one_more sent jumps excuses h = record { enough = by h.enough (cases_lt excuses 
 
 -- so many more loads took effect than were sent before, or an excuse is left
 pub some_left : (sent jumps now excuses : ℕ) → jumps + 1 ≤ now → now ≤ sent → HasExcuses sent jumps excuses → (excuses == 0) ≡ false
-some_left sent jumps now excuses more most h = by h.enough
-  where
-    some : (n : ℕ) → 1 ≤ n → (n == 0) ≡ false
-    some n low = grind (arith, nat_tests)
-
-    by : (excuses ≡ 255) ⊎ (sent ≤ jumps + excuses) → (excuses == 0) ≡ false
-    by (inl full) = some excuses (omega (arith, full))
-    by (inr enough) = some excuses (omega (arith, enough, more, most))
+some_left sent jumps now excuses more most h = grind arith
 
 -- one more jump for one excuse less
 pub one_less : (sent jumps later excuses : ℕ) → jumps + 1 ≤ later → (excuses ≡ 0 → ⊥) → HasExcuses sent jumps excuses → HasExcuses sent later (one_excuse_less excuses)
@@ -55,11 +48,7 @@ step_excuses facts Gap = refl
 step_excuses facts (Entry input level low wide) = refl
 
 end_excuses : (facts : ContentFacts) (status stamp : ℕ) → (content_step facts (Ended status stamp)).excuses ≡ facts.excuses
-end_excuses facts status stamp = by (is_clear_end (Ended status stamp)) refl
-  where
-    by : (clear : Bool) → is_clear_end (Ended status stamp) ≡ clear → (content_step facts (Ended status stamp)).excuses ≡ facts.excuses
-    by true is = rw is refl
-    by false is = rw is refl
+end_excuses facts status stamp = grind arith
 
 pub block_excuses : (facts : ContentFacts) (answer : Block) → (fold content_step facts (events_of_block answer)).excuses ≡ facts.excuses
 block_excuses facts answer = below (content_step facts (Heard (block_answer answer))) (items_of_block answer)

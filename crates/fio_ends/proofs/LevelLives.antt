@@ -114,26 +114,11 @@ module _ (levels : ℕ → ℕ → Bool) (is_open : ℕ → Bool) (base since lo
 
   reported_is : (life : Life) (scan : ℕ) → HasLevels life scan → (input : ℕ) → input < 64
       → is_reported input (raw_at (suc scan)) (filter_events life) ≡ is_changed_at scan input
-  reported_is life scan h input low =
-      let turns = ap₂ (λ (a b : Bool). not (beq a b)) (state_after life scan h input low) (h.state input low) in
-      elim (h.setting input low) as (λ _. is_reported input (raw_at (suc scan)) (filter_events life) ≡ is_changed_at scan input) [
-        | inl one ↦ ap₂ (λ (a b : Bool). a && b) (ap not one.ignored ∙ not-not (is_open input)) turns
-        | inr still ↦
-            let ignored = (input_setting input (filter_events life)).ignore in
-            ap (λ (b : Bool). not ignored && b) (turns ∙ ap (λ l. not (beq l (levels scan input))) (still scan))
-            ∙ none_same (not ignored) (levels scan input) ∙ sym (none_same (is_open input) (levels scan input))
-            ∙ ap (λ l. is_open input && not (beq l (levels scan input))) (sym (still scan))
-      ]
+  reported_is life scan h input low = grind (arith, none_same, not-not, state_after)
 
   transition_is : (life : Life) (scan : ℕ) → HasLevels life scan → (input : ℕ) → input < 64
       → transition_at (Scanned (raw_at (suc scan)) ∷ life) input ≡ change_at (suc scan) input
-  transition_is life scan h input low =
-      let next = levels-scan life scan h in
-      let level = state_after life scan h input low in
-      let counter = has_counter (Scanned (raw_at (suc scan)) ∷ life) (suc scan) next in
-      let scans = next.scans in
-      let same_loads = h.loads_are in
-      cc
+  transition_is life scan h input low = grind (arith, has_counter, levels-scan, state_after)
 
   -- the changes of a scan are logged
   pub transitions_are : (life : Life) (scan : ℕ) → HasLevels life scan → (count : ℕ) → count ≤ 64

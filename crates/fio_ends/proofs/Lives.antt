@@ -1,5 +1,5 @@
 -- A life and those that go on from it: what stays, and what is since.
-use Rattle.fio_ends.proofs.Names.{◌≡◌, ◌∙◌, ◌+◌, ◌-◌, ◌≤◌, inl, inr, ℕ, Bool, true, false, List, [], ◌∷◌, ◌++◌, length, Some, refl, ap, sym, subst, arith, append-nil, append_assoc, if◌then◌else◌, slice_get, slice_get_within, AllByRecursion, LoadCounter, Poll, Command, Settings, Life, Occurrence, Scanned, LineSynced, Raised, Commanded, counter_events, loads_of, scans_of, Transition, log_of, MadeBlock, newest_poll, is_new, blocks_of, next_block, get_in_front, get_after_push, IsOfScan, cases_lt, get_in_back, later_log, loads_in, of_scan, ticks_in}
+use Rattle.fio_ends.proofs.Names.{◌≡◌, ◌∙◌, ◌+◌, ◌-◌, ◌≤◌, inl, inr, ℕ, Bool, true, false, List, [], ◌∷◌, ◌++◌, length, Some, refl, ap, sym, subst, arith, append-nil, append_assoc, if◌then◌else◌, slice_get, slice_get_within, AllByRecursion, LoadCounter, Poll, Command, Settings, Life, Occurrence, Scanned, LineSynced, Raised, Commanded, counter_events, loads_of, scans_of, Transition, log_of, MadeBlock, newest_poll, is_new, blocks_of, next_block, get_in_front, get_after_push, IsOfScan, cases_lt, get_in_back, later_log, of_scan, ticks_in}
 use Rattle.fio_input.specs.Counter.{AskLoad, CounterEvent, LineSync, Tick}
 use Rattle.fio_input.proofs.Ticks.{loads_in-append}
 use Rattle.fio_module.specs.Log.{transitions_below}
@@ -25,19 +25,13 @@ pub goes_on-scan : (before now : Life) (raw : ℕ) → GoesOn before now → Goe
 goes_on-scan before now raw g = record { more = Scanned raw ∷ g.more; is = ap (λ life. Scanned raw ∷ life) g.is }
 
 pub scans_more : (before now : Life) (g : GoesOn before now) → scans_of now ≡ ticks_in (counter_events g.more) + scans_of before
-scans_more before now g =
-    ap (λ life. ticks_in (counter_events life)) g.is ∙ ap ticks_in (counter_events-append g.more before)
-    ∙ ticks_in-append (counter_events g.more) (counter_events before)
+scans_more before now g = grind (arith, counter_events-append, ticks_in-append)
 
 pub scans_grow : (before now : Life) → GoesOn before now → scans_of before ≤ scans_of now
 scans_grow before now g = let ticks = scans_more before now g in omega arith
 
 pub loads_grow : (before now : Life) → GoesOn before now → loads_of before ≤ loads_of now
-loads_grow before now g =
-    let whole = ap counter_events g.is ∙ counter_events-append g.more before in
-    let more = loads_in-append (counter_events g.more) (counter_events before) in
-    let same = ap loads_in whole in
-    omega arith
+loads_grow before now g = grind (arith, counter_events-append, loads_in-append)
 
 pub log_grows : (before now : Life) → GoesOn before now → (more : List Transition) × (log_of now ≡ log_of before ++ more)
 log_grows before now g = let l = later_log g.more before in (l.0, ap log_of g.is ∙ l.1)

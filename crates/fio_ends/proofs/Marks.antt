@@ -90,16 +90,7 @@ agree_with known levels e es a = record {
     none_by input false at is = a.none input is ∙ ap (λ (b : Bool). if b then not e.level else turned_from es input) at
 
 turns_here : (known : ℕ → Known) (levels : ℕ → Bool) (e : Timed) (es : List Timed) → Agree known levels (e ∷ es) → IsChange (known e.input) e.level → e.level ≡ not (levels e.input)
-turns_here known levels e es a c = by (known e.input).level refl
-  where
-    itself : (n : ℕ) → (n == n) ≡ true
-    itself n = grind (arith, nat_tests)
-
-    by : (found : Option Bool) → (known e.input).level ≡ found → e.level ≡ not (levels e.input)
-    by (Some level) is = c.of_level level is ∙ ap not (sym (a.some e.input level is))
-    by None is =
-        let from : levels e.input ≡ not e.level = a.none e.input is ∙ ap (λ (b : Bool). if b then not e.level else turned_from es e.input) (itself e.input) in
-        sym (ap not from ∙ not-not e.level)
+turns_here known levels e es a c = grind (arith, not-not)
 
 pub marks_turn : (marks : List Mark) (known : ℕ → Known) (levels : ℕ → Bool) → Agree known levels (entries_in marks) → Pass known marks → timed_entries.Turn levels (entries_in marks)
 marks_turn [] known levels a pass = tt

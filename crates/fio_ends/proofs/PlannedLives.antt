@@ -1,5 +1,5 @@
 -- Lives that follow a plan: how they stand below a scan, a request and a poll.
-use Rattle.fio_ends.proofs.Names.{◌≡◌, ◌∙◌, ◌+◌, ◌≤◌, ◌==◌, ℕ, Bool, true, false, not, ◌∷◌, length, Option, Some, None, refl, ap, ap₂, subst, arith, if◌then◌else◌, option_map, nat_lt, nat_tests, answer_octets, block_in, Life, Scanned, Commanded, MadeBlock, newest_poll, is_new, blocks_of, end_of_blocks, next_block, start_after, last_end-append, number_of, number_of-fits, number_of-next, next_fits, Sending, again_carries, answer_of_sending, carried_back, first_carries, first_sending, latest_sending, repeat_of, said, sending_of}
+use Rattle.fio_ends.proofs.Names.{◌≡◌, ◌∙◌, ◌+◌, ◌≤◌, ◌==◌, ℕ, Bool, true, false, not, ◌∷◌, length, Option, Some, None, refl, ap, ap₂, subst, arith, if◌then◌else◌, option_map, nat_tests, answer_octets, block_in, Life, Scanned, Commanded, MadeBlock, newest_poll, is_new, blocks_of, end_of_blocks, next_block, last_end-append, number_of, number_of-fits, number_of-next, next_fits, Sending, again_carries, answer_of_sending, carried_back, first_carries, first_sending, latest_sending, repeat_of, said, sending_of}
 use Rattle.fio_message.specs.declared.commands.Command.TheVariants as commands
 use Rattle.fio_module.specs.Laws.{Carries}
 use Rattle.fio_module.proofs.Stretches.{blocks_new, blocks_old}
@@ -22,15 +22,7 @@ module _ (plan : Plan) where
   -- the next block
   pub next_is : (life : Life) (scan taken round : ℕ) (kept : Option Sending) → HasCome plan life scan taken round kept → length (logged plan scan) ≤ taken + plan.settings.waiting
       → next_block plan.settings life ≡ made_at plan scan taken
-  next_is life scan taken round kept h room =
-      let log = h.log in
-      let end = h.end in
-      let start : start_after plan.settings (logged plan scan) taken ≡ taken = omega arith in
-      let lost : nat_lt taken (start_after plan.settings (logged plan scan) taken) ≡ false = grind (arith, nat_tests) in
-      let counter = has_counter plan.levels plan.is_open plan.base plan.since plan.loads life scan h.levels_are in
-      let scans = h.levels_are.scans in
-      let loads_are = h.levels_are.loads_are in
-      cc
+  next_is life scan taken round kept h room = grind (arith, has_counter, logged)
 
   pub sending_is : (life : Life) (scan taken round : ℕ) → HasCome plan life scan taken round None → IsTakeable plan scan taken
       → first_sending plan.settings life (number_of plan.first round) ≡ sending_at plan scan taken round
@@ -38,10 +30,7 @@ module _ (plan : Plan) where
       ap₂ (λ (b : MadeBlock) (out : Bool). sending_of b (number_of plan.first round) out) (next_is life scan taken round None h t) h.polled.in_sequence
 
   pub differ : (round : ℕ) (same : Bool) → (number_of plan.first round == number_of plan.first (round + 1)) ≡ same → not same ≡ true
-  differ round false is = refl
-  differ round true is =
-      let equal : number_of plan.first round ≡ number_of plan.first (round + 1) = grind (arith, nat_tests) in
-      absurd (omega (arith, rounds_from_numbers plan.first round (round + 1) (omega arith) (omega arith) equal))
+  differ round same is = grind (arith, rounds_from_numbers)
 
   -- what is known below a poll
   module _ (life : Life) (scan taken round : ℕ) (h : HasCome plan life scan taken round None) (t : IsTakeable plan scan taken) where
@@ -121,11 +110,4 @@ module _ (plan : Plan) where
 
   pub repeats : (life : Life) (scan taken round : ℕ) (sending : Sending) → HasCome plan life scan taken round (Some sending)
       → latest_sending plan.settings (Commanded (commands.Poll (number_of plan.first round)) ∷ life) ≡ Some (repeat_of sending)
-  repeats life scan taken round sending h =
-      let number = number_of plan.first round in
-      let old : is_new (newest_poll life) number ≡ false = ap (λ latest. is_new latest number) h.polled.newest ∙ itself number in
-      ap (λ (new : Bool). if new then Some (first_sending plan.settings life number) else option_map repeat_of (latest_sending plan.settings life)) old
-      ∙ ap (option_map repeat_of) h.polled.latest
-    where
-      itself : (n : ℕ) → not (n == n) ≡ false
-      itself n = grind (arith, nat_tests)
+  repeats life scan taken round sending h = grind arith

@@ -77,12 +77,7 @@ entry_comes full stamp gap after seen entry fits fits_full gap_is near s young i
     let a = ahead (wide_time_of stamp entry.stamp) seen.stamp is in omega (arith, a.differ, a.near, s.after_is, s.fits, s.by_then, gap_is)
 
 not_ahead : (time other : ℕ) → is_later time other ≡ false → (time ≡ other) ⊎ (2 ^ 31 ≤ milliseconds_between other time)
-not_ahead time other is = by (time == other) (is_before time other) refl refl is
-  where
-    by : (same before : Bool) → (time == other) ≡ same → is_before time other ≡ before → (not same && not before) ≡ false → (time ≡ other) ⊎ (2 ^ 31 ≤ milliseconds_between other time)
-    by true before p q is = inl (grind (arith, nat_tests))
-    by false true p q is = inr (grind (arith, nat_tests))
-    by false false p q is = absurd (cc is)
+not_ahead time other is = grind arith
 
 pub entry_stays : (full stamp gap after : ℕ) (seen : Seen) (entry : Entry) → stamp < 2 ^ 32 → full < 2 ^ 32 → gap ≡ milliseconds_between full stamp → gap < 2 ^ 16
     → IsSeenAfter full stamp gap seen after → age_of stamp entry < gap → is_later (wide_time_of stamp entry.stamp) seen.stamp ≡ false → gap ≤ after + age_of stamp entry
@@ -95,9 +90,7 @@ entry_stays full stamp gap after seen entry fits fits_full gap_is near s young i
 
 pub block_comes : (full stamp gap after : ℕ) (seen : Seen) → stamp < 2 ^ 32 → full < 2 ^ 32 → gap ≡ milliseconds_between full stamp → gap < 2 ^ 16
     → IsSeenAfter full stamp gap seen after → is_before stamp seen.stamp ≡ false
-block_comes full stamp gap after seen fits fits_full gap_is near s =
-    let less : milliseconds_between seen.stamp stamp < 2 ^ 31 = omega (arith, s.after_is, s.fits, s.by_then, gap_is) in
-    grind (arith, nat_tests)
+block_comes full stamp gap after seen fits fits_full gap_is near s = grind arith
 
 -- ---- what is known of the facts
 

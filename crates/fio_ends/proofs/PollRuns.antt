@@ -1,5 +1,5 @@
 -- A log of polls is explainable if its entries have scans of their own, one after the other, and turn the levels of their inputs.
-use Rattle.fio_ends.proofs.Names.{AllByRecursion, AreInRange, Bool, CpuFrame, Event, Leads, Life, List, Machine, MadeBlock, None, Settings, TranscriptLine, Transition, [], after_sending, ap, append-nil, ap₂, arith, blocks_of, end_of_blocks, entry_of, false, frames_from, if◌then◌else◌, is_new, length, life_of, loads_of, log_of, map, nat_lt, nat_tests, newest_poll, number_of, refl, scans_of, start, subst, sym, take, ℕ, ◌%◌, ◌+◌, ◌-◌, ◌<◌, ◌^◌, ◌∙◌, ◌∷◌, ◌≡◌, IsEntryOf64, IsExplainable, IsLogOfPolls, answer_octets, answer_of_sending, block_frame, block_status, frames_of_turns, is_out_of_sequence, length-map, min, poll_frame, standard_rule_limits, standard_settings, take-length}
+use Rattle.fio_ends.proofs.Names.{AllByRecursion, AreInRange, Bool, CpuFrame, Event, Leads, Life, List, Machine, MadeBlock, None, Settings, TranscriptLine, Transition, [], after_sending, ap, append-nil, ap₂, arith, blocks_of, end_of_blocks, entry_of, false, frames_from, if◌then◌else◌, is_new, length, life_of, loads_of, log_of, map, nat_lt, nat_tests, newest_poll, number_of, refl, scans_of, start, subst, sym, take, ℕ, ◌%◌, ◌+◌, ◌-◌, ◌<◌, ◌^◌, ◌∙◌, ◌∷◌, ◌≡◌, IsEntryOf64, IsExplainable, IsLogOfPolls, answer_octets, answer_of_sending, block_frame, block_status, frames_of_turns, is_out_of_sequence, length-map, min, standard_rule_limits, standard_settings, take-length}
 use Rattle.std.proofs.Common.{◌*◌}
 use Rattle.fio_message.specs.declared.answers.Answer.TheVariants as answers
 use Rattle.fio_message.specs.declared.commands.Command.TheVariants as commands
@@ -145,11 +145,7 @@ module _ (lines : List TranscriptLine) (l : IsLogOfPolls lines) (start_levels : 
   begins_on = subst (λ es. Leads settings l.number start es h.machine) (append-nil h.reached.events) (h.reached.leads [] h.machine refl)
 
   frames_are : frames_from settings l.number h.machine in_log ≡ frames_of_turns l.number (turns_of.Answered l.entries l.stamp ∷ l.turns)
-  frames_are =
-      let number : number_of l.number h.machine.round ≡ l.number = ap (number_of l.number) h.round ∙ number_is in
-      let next : number_of l.number 1 ≡ (l.number + 1) % 256 = omega arith in
-      ap₂ (λ (n : ℕ) (fs : List CpuFrame). poll_frame n ∷ fs) number
-      (polled.has ∙ ap₂ (λ (f : CpuFrame) (fs : List CpuFrame). f ∷ fs) first_frame (shown.frames ∙ ap (λ n. frames_of_turns n l.turns) next))
+  frames_are = grind (arith, first_frame, h, number_is, polled, shown)
 
   short : scans_of (life_of polled.last.history) < 2 ^ 31
   short = omega (arith, polled.scans, shown.scans, since_few, l.first.few, l.lasts)

@@ -98,9 +98,7 @@ module _ (facts : Facts) (poller : Option Polling) (agrees : Agrees facts poller
 
   taken_by : (p : Polling) (number : ℕ) (b : BlockOf) → b.number ≡ number → p.number ≡ number
       → after_hearing p (Some b) ≡ (record { number = (p.number + 1) % 256; items = p.items ++ items_of_block b })
-  taken_by p number b of_block of_poller =
-      let same : (b.number == p.number) ≡ true = grind (arith, nat_tests) in
-      ap (λ met. if met then (record { number = (p.number + 1) % 256; items = p.items ++ items_of_block b }) else p) same
+  taken_by p number b of_block of_poller = grind arith
 
   goes-block : (number status entries : ℕ) (absent : Bool) (b : BlockOf) → b.number ≡ number
       → KeepsRules standard_rule_limits facts (Block number status entries absent)

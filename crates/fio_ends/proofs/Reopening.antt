@@ -1,6 +1,5 @@
 -- An input whose changes that are still to be recorded alternate as long as it is not ignored and then opened again.
-use Rattle.fio_ends.proofs.Names.{◌≡◌, ◌≢◌, ◌∙◌, ◌+◌, ◌-◌, ◌<◌, ◌≤◌, ◌⊎◌, inl, inr, ℕ, Bool, true, false, not, List, [], ◌∷◌, ◌++◌, length, take, drop, Option, Some, None, refl, sym, subst, arith, slice_get, slice_get_within, take-append-drop, Command, command_in, Life, Occurrence, Scanned, LineSynced, Raised, Commanded, life_after_command, filter_events, log_of, log_of-with_command, Transition, SentFrame, get_after_push, drop-append-le, state-configure}
-use Rattle.fio_message.specs.declared.commands.Command.TheVariants as commands
+use Rattle.fio_ends.proofs.Names.{◌≡◌, ◌≢◌, ◌∙◌, ◌+◌, ◌-◌, ◌<◌, ◌≤◌, ◌⊎◌, inl, inr, ℕ, Bool, true, false, not, List, [], ◌∷◌, ◌++◌, length, take, drop, Option, Some, refl, sym, subst, arith, slice_get, slice_get_within, take-append-drop, Command, command_in, Life, Occurrence, Scanned, LineSynced, Raised, Commanded, life_after_command, log_of, log_of-with_command, Transition, SentFrame, get_after_push, drop-append-le}
 use Rattle.fio_module.specs.Log.{transitions_below}
 use Rattle.fio_ends.proofs.Alternating.{Alternate, NoneOf, alternate-append, alternate-split, none-alternate, none_ignored}
 use Rattle.fio_ends.proofs.Following.{IsNoCommand}
@@ -92,9 +91,7 @@ module _ (frames : List SentFrame) (last input : ℕ) (f : SentFrame) where
 -- ---- a command is received
 
 state-command : (input : ℕ) (life : Life) (command : Option Command) → state_of input (life_after_command command life) ≡ state_of input life
-state-command input life None = refl
-state-command input life (Some (commands.ConfigureInputs items)) = state-configure input items.items (filter_events life)
-state-command input life (Some other) = refl
+state-command input life command = grind arith
 
 module _ (frames : List SentFrame) (last upto input : ℕ) (shaded : Bool) (low : input < 64) (life : Life) (place : ℕ) (frame : SentFrame)
     (new : last ≤ place) (at : slice_get frames place ≡ Some frame) where
@@ -247,11 +244,7 @@ module _ (life : Life) (frames : List SentFrame) (last upto input : ℕ) (transi
   -- an entry of an input that is followed
   was-entry : (level : Bool) → transition.input ≡ input → WasWatched life upto input level
       → (transition.level ≡ not level) × WasWatched life (upto + 1) input transition.level
-  was-entry level same w = by (subst (λ log. Alternate input level log w.state) (rest_at (log_of life) upto transition at) w.alternate)
-    where
-      by : Alternate input level (transition ∷ drop (upto + 1) (log_of life)) w.state → (transition.level ≡ not level) × WasWatched life (upto + 1) input transition.level
-      by (inl here) = (here.1, record { ignored = w.ignored; state = w.state; alternate = here.2 })
-      by (inr apart) = absurd (apart.0 same)
+  was-entry level same w = grind (arith, rest_at)
 
   pub followed-entry : (shaded level : Bool) → transition.input ≡ input → IsFollowed life frames last upto input shaded level
       → (transition.level ≡ not level) × IsFollowed life frames last (upto + 1) input shaded transition.level

@@ -130,12 +130,7 @@ module _ (settings : Settings) (range : AreInRange settings) (first : ℕ) (limi
   -- what is heard
   heard_over : (judging : Judging) (life : Life) (at : LogPlace) (found : Option SentFrame) → IsLostAt life judging
       → AllByRecursion IsQuiet (outcomes_of judging (map (logged_at at) (frame_heard found))) × (judging_below judging (map (logged_at at) (frame_heard found)) ≡ judging)
-  heard_over judging life at None l = (tt, refl)
-  heard_over judging life at (Some sent_frame) l =
-      let octets = sent_frame.octets in
-      let over : passes_over judging.checker false (observation_in false octets) ≡ true =
-      ap (λ c. passes_over c false (observation_in false octets)) l.checker_is ∙ heard_passed ToPoll limits (λ nothing. absurd (cc nothing)) (answer_in octets) in
-      ((over_it judging at (record { from_cpu = false; octets = octets }) over, tt), (passed judging at false octets over).is)
+  heard_over judging life at found l = grind (arith, heard_passed, over_it, passed)
 
   -- what becomes of a log there
   abbrev LostAll : List LogStep → Machine → Type 0

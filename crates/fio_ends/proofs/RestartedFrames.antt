@@ -1,15 +1,13 @@
 -- The frames of a module that was started anew, as a judge of a link sees them that does not know it.
-use Rattle.fio_ends.proofs.Names.{◌≡◌, ◌∙◌, ◌==◌, ◌⊎◌, inl, inr, ◌&&◌, not, ℕ, Bool, true, false, List, length, Option, Some, None, refl, ap, sym, arith, if◌then◌else◌, is_some, option_and_then, nat_tests, same_Some, number_due, facts_with, ◌+◌, ◌%◌, ◌≤◌, Answer, says_again, Facts, RuleLimits, first_broken_within, is_some_and, observation_in, observation_of, Watchdog, BLOCK_ANSWER, Breach, ContentRule, Excused, FrameOutcome, Judging, Load, LogPlace, NotJudged, Observation, Restarted, Rule, any_stamp_in, any_stamp_of, breach_of, breaks_within, content_here, found_by, found_in_frame, is_absent, is_before, is_set_back, is_unheard, judging_below_outcome, list_any, loads_below, may_be_anew, nat_le, nat_lt, option_map, outcome_anew, outcome_found, outcome_in, outcome_judged, outcome_set_back, passes_over, place_lost, polls_below, stamp_of, unjudged_by}
+use Rattle.fio_ends.proofs.Names.{◌≡◌, ◌∙◌, ◌==◌, ◌⊎◌, inl, inr, ◌&&◌, not, ℕ, Bool, true, false, List, length, Option, Some, None, refl, ap, sym, arith, if◌then◌else◌, is_some, option_and_then, nat_tests, number_due, facts_with, ◌+◌, ◌%◌, ◌≤◌, Answer, says_again, Facts, RuleLimits, first_broken_within, is_some_and, observation_in, observation_of, Watchdog, BLOCK_ANSWER, Breach, ContentRule, Excused, FrameOutcome, Judging, Load, LogPlace, Observation, Restarted, any_stamp_in, any_stamp_of, breach_of, breaks_within, content_here, found_by, found_in_frame, is_absent, is_before, is_set_back, judging_below_outcome, list_any, loads_below, may_be_anew, nat_le, nat_lt, outcome_anew, outcome_in, outcome_set_back, passes_over, place_lost, polls_below, stamp_of}
 use Rattle.std.specs.Prelude.{◌||◌}
 use Rattle.fio_message.specs.declared.answers.Answer.TheVariants as answers
-use Rattle.fio_check.specs.Checkers.{due_in}
-use Rattle.fio_check.specs.LinkJudges.{is_at_cpu, is_of_rest, may_answer_anew, outcome_of_content}
+use Rattle.fio_check.specs.LinkJudges.{may_answer_anew, outcome_of_content}
 use Rattle.fio_check.specs.declared.content.ContentBreach.{ContentBreach}
 use Rattle.fio_check.specs.declared.observation.Observation.TheVariants as seen
 use Rattle.fio_check.specs.declared.rules.Rule.TheVariants as tried
 use Rattle.fio_message.specs.Status.{says_out_of_sequence}
 use Rattle.fio_ends.proofs.Rules.{KeepsRules}
-use Rattle.fio_check.specs.declared.outcome.FrameOutcome.TheVariants.{Broken}
 use Rattle.fio_ends.proofs.AnewFrames.{never}
 
 -- ---- a block that is sent again
@@ -35,11 +33,7 @@ polls_kept above facts polls above_awaited facts_awaited above_named facts_named
 polls_kept above facts polls above_awaited facts_awaited above_named facts_named (inr k) = inr (record { polled = k.polled; once = k.once; twice = k.twice })
 
 one_more : (polls least : ℕ) → least ≤ polls + 1 → least ≤ 2 → least ≤ (if nat_lt polls 2 then polls + 1 else 2)
-one_more polls least one two = by (nat_lt polls 2)
-  where
-    by : (few : Bool) → least ≤ (if few then polls + 1 else 2)
-    by true = one
-    by false = two
+one_more polls least one two = grind arith
 
 -- below a poll
 pub polls_polled : (above facts : Facts) (polls number : ℕ) → ((due : ℕ) → number_due facts ≡ Some due → due ≡ number) → KnowsPolls above facts polls
@@ -159,29 +153,7 @@ lost_by judging from_cpu octets outcome (inr is) = ap (λ o. judging_below_outco
 pub watchdog_is : (judging : Judging) (at : LogPlace) (octets : List ℕ) (breach : ContentBreach) → passes_over judging.checker false (observation_in false octets) ≡ false
     → is_set_back judging false octets ≡ false → found_by judging.checker false (observation_in false octets) ≡ None → found_in_frame (content_here judging) false octets ≡ Some breach → breach.rule ≡ Watchdog
     → outcome_in judging at false octets ≡ Restarted
-watchdog_is judging at octets breach over back rules content is =
-    ap (λ b. here (outcome_anew anew (outcome_judged judging at false octets)) b (is_set_back judging false octets)) over
-    ∙ ap (here (outcome_anew anew (outcome_judged judging at false octets)) false) back
-    ∙ ap (λ found. outcome_anew anew (outcome_found unheard found (found_in_frame (content_here judging) false octets))) rules
-    ∙ ap (λ found. outcome_anew anew (outcome_found unheard None found)) content
-    ∙ ap (outcome_anew anew) (by unheard ∙ ap (outcome_of_content breach) is) ∙ restarted anew
-  where
-    here : FrameOutcome → Bool → Bool → FrameOutcome
-    here judged over back = if over then NotJudged (unjudged_by judging.checker.skips) else (if back then outcome_set_back judging else judged)
-
-    unheard : Bool
-    unheard = is_unheard judging at (observation_in false octets)
-
-    anew : Bool
-    anew = may_be_anew judging false octets
-
-    by : (b : Bool) → outcome_found b None (Some breach) ≡ outcome_of_content breach breach.rule
-    by true = refl
-    by false = refl
-
-    restarted : (b : Bool) → outcome_anew b Restarted ≡ Restarted
-    restarted true = refl
-    restarted false = refl
+watchdog_is judging at octets breach over back rules content is = grind arith
 
 -- a block that a module that was restarted may have sent: that shows the restart, or it keeps all rules
 content_anew : (breach : ContentBreach) (rule : ContentRule) → outcome_anew true (outcome_of_content breach rule) ≡ Restarted
@@ -193,49 +165,12 @@ pub anew_is : (judging : Judging) (at : LogPlace) (octets : List ℕ) (number st
     → ((breach : Breach) → found_by judging.checker false (observation_in false octets) ≡ Some breach → breach.rule ≡ tried.Rest)
     → (outcome_in judging at false octets ≡ Restarted)
     ⊎ ((found_by judging.checker false (observation_in false octets) ≡ None) × (found_in_frame (content_here judging) false octets ≡ None))
-anew_is judging at octets number status entries absent said over back may rest =
-    by (found_by judging.checker false (observation_in false octets)) refl (found_in_frame (content_here judging) false octets) refl
-  where
-    unheard : is_unheard judging at (observation_in false octets) ≡ false
-    unheard = ap (is_unheard judging at) said ∙ never (not (is_at_cpu at))
-
-    here : FrameOutcome → Bool → Bool → FrameOutcome
-    here judged over back = if over then NotJudged (unjudged_by judging.checker.skips) else (if back then outcome_set_back judging else judged)
-
-    judged : FrameOutcome
-    judged = outcome_judged judging at false octets
-
-    outcome : (found : Option Breach) → found_by judging.checker false (observation_in false octets) ≡ found → (content : Option ContentBreach) → found_in_frame (content_here judging) false octets ≡ content
-        → outcome_in judging at false octets ≡ outcome_anew true (outcome_found false found content)
-    outcome found found_is content content_is =
-        ap (λ b. here (outcome_anew (may_be_anew judging false octets) judged) b (is_set_back judging false octets)) over
-        ∙ ap (here (outcome_anew (may_be_anew judging false octets) judged) false) back
-        ∙ ap (λ anew. outcome_anew anew judged) may
-        ∙ ap (λ b. outcome_anew true (outcome_found b (found_by judging.checker false (observation_in false octets)) (found_in_frame (content_here judging) false octets))) unheard
-        ∙ ap (λ f. outcome_anew true (outcome_found false f (found_in_frame (content_here judging) false octets))) found_is
-        ∙ ap (λ c. outcome_anew true (outcome_found false found c)) content_is
-
-    by : (found : Option Breach) → found_by judging.checker false (observation_in false octets) ≡ found → (content : Option ContentBreach) → found_in_frame (content_here judging) false octets ≡ content
-        → (outcome_in judging at false octets ≡ Restarted)
-        ⊎ ((found_by judging.checker false (observation_in false octets) ≡ None) × (found_in_frame (content_here judging) false octets ≡ None))
-    by (Some breach) found_is content content_is =
-        inl (outcome (Some breach) found_is content content_is ∙ ap (λ rule. if is_of_rest rule then Restarted else Broken breach) (rest breach found_is))
-    by None found_is (Some content) content_is = inl (outcome None found_is (Some content) content_is ∙ content_anew content content.rule)
-    by None found_is None content_is = inr (found_is, content_is)
+anew_is judging at octets number status entries absent said over back may rest = grind (arith, content_anew, never)
 
 -- by the first rule that is broken
 pub none_of_breach : (limits : RuleLimits) (facts : Facts) (said : Observation) → breach_of limits facts said ≡ None → first_broken_within limits facts said ≡ None
-none_of_breach limits facts said is = by (first_broken_within limits facts said) is
-  where
-    by : (rule : Option Rule) → option_map {U = Breach} (λ rule. record { rule = rule; due = due_in facts said rule }) rule ≡ None → rule ≡ None
-    by None is = refl
-    by (Some rule) is = absurd (cc is)
+none_of_breach limits facts said is = grind arith
 
 pub breach_is_rest : (limits : RuleLimits) (facts : Facts) (said other : Observation) (breach : Breach) → first_broken_within limits facts said ≡ first_broken_within limits facts other
     → (first_broken_within limits facts other ≡ None) ⊎ (first_broken_within limits facts other ≡ Some tried.Rest) → breach_of limits facts said ≡ Some breach → breach.rule ≡ tried.Rest
-breach_is_rest limits facts said other breach same (inl none) is =
-    absurd (let never : None ≡ Some breach = sym (ap (option_map {U = Breach} (λ rule. record { rule = rule; due = due_in facts said rule })) (same ∙ none)) ∙ is in cc never)
-breach_is_rest limits facts said other breach same (inr rest) is =
-    let one : Some (record { rule = tried.Rest; due = due_in facts said tried.Rest }) ≡ Some breach =
-    sym (ap (option_map {U = Breach} (λ rule. record { rule = rule; due = due_in facts said rule })) (same ∙ rest)) ∙ is in
-    sym (ap (λ (b : Breach). b.rule) (same_Some _ _ one))
+breach_is_rest limits facts said other breach same is given7 = grind (arith, never)

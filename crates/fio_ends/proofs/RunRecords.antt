@@ -1,5 +1,5 @@
 -- The poller of a prompt run's transcript is the run's own.
-use Rattle.fio_ends.proofs.Names.{◌≡◌, ◌∙◌, ◌+◌, ◌%◌, ◌<◌, ◌⊎◌, inl, inr, ℕ, Bool, true, false, List, [], ◌∷◌, ◌++◌, map, Option, Some, None, refl, ap, sym, subst, arith, if◌then◌else◌, ◌==◌, fold, slice_get, AllByRecursion, same_Some, Command, command_octets, IsCommand, answer_in, block_in, Settings, AreInRange, after_hearing, Polling, items_of_block, facts_with, no_facts, number_polled, TranscriptLine, answer_type_to, names_absent, observation_in, observation_on, Facts, Observation, Event, Machine, SentFrame, start, number_of, item_numbered, after_delivered_block, after_delivery_to_cpu, after_delivery_to_module, refusal, sending_refusal, after_sending, after, Leads, IsNotRestart, HaveNoRestart, number_of-fits, number_of-next, after_delivery, IsKept, kept_all, kept, block_on, poller_with, poller_of, CpuFrame, frame_heard, cpu_frame_on, frames_at, frames_from, due_after, IsPrompt, ArePrompt, IsWithinRanges, Life, life_of, answer_from, answered_block, polling_of}
+use Rattle.fio_ends.proofs.Names.{◌≡◌, ◌∙◌, ◌+◌, ◌<◌, ◌⊎◌, inl, inr, ℕ, true, false, List, [], ◌∷◌, ◌++◌, map, Option, Some, None, refl, ap, sym, subst, arith, fold, slice_get, AllByRecursion, same_Some, Command, command_octets, IsCommand, answer_in, block_in, Settings, AreInRange, after_hearing, Polling, facts_with, no_facts, number_polled, TranscriptLine, answer_type_to, names_absent, observation_in, observation_on, Facts, Observation, Event, Machine, SentFrame, start, number_of, item_numbered, after_delivered_block, after_delivery_to_cpu, after_delivery_to_module, refusal, sending_refusal, after_sending, after, Leads, IsNotRestart, HaveNoRestart, number_of-fits, after_delivery, IsKept, kept_all, kept, block_on, poller_with, poller_of, CpuFrame, frame_heard, cpu_frame_on, frames_at, frames_from, due_after, IsPrompt, ArePrompt, IsWithinRanges, Life, life_of, answer_from, answered_block, polling_of}
 use Rattle.fio_message.specs.declared.commands.Command.TheVariants as commands
 use Rattle.fio_message.specs.Blocks.{Block as BlockOf}
 use Rattle.fio_check.specs.declared.observation.Observation.TheVariants as seen
@@ -47,18 +47,7 @@ IsRunsPoller first machine facts poller =
 hears_as : (first index : ℕ) (machine : Machine) (found : Option BlockOf)
     → after_hearing (polling_of first machine) found
     ≡ polling_of first (after_delivered_block first (record machine { last_to_cpu = index }) found)
-hears_as first index machine None = refl
-hears_as first index machine (Some block) = by_number (block.number == number_of first machine.round)
-  where
-    by_number : (same : Bool)
-        → (if same then (record { number = (number_of first machine.round + 1) % 256; items = machine.items ++ items_of_block block })
-        else polling_of first machine)
-        ≡ polling_of first (if same
-        then (record machine { last_to_cpu = index; round = machine.round + 1; items = machine.items ++ items_of_block block })
-        else (record machine { last_to_cpu = index }))
-    by_number true =
-        ap (λ n. record { number = n; items = machine.items ++ items_of_block block }) (sym (number_of-next first machine.round))
-    by_number false = refl
+hears_as first index machine found = grind arith
 
 module _ (settings : Settings) (range : AreInRange settings) (first : ℕ) where
   -- a poll is sent

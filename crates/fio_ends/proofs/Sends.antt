@@ -57,10 +57,7 @@ poll_keeps facts number same limits rule = refl
 was_answered : (polled : Option ℕ) (answered : Bool) (number : ℕ)
     → ((n : ℕ) → option_map (λ p. if answered then (p + 1) % 256 else p) polled ≡ Some n → n ≡ number)
     → option_map_or (λ p. not (number == p)) polled false ≡ true → answered ≡ true
-was_answered None answered number due advanced = absurd (cc advanced)
-was_answered (Some p) true number due advanced = refl
-was_answered (Some p) false number due advanced =
-    let same : p ≡ number = due p refl in absurd (grind (arith, nat_tests))
+was_answered polled answered number due advanced = grind arith
 
 -- a command that may be handed in is no poll
 no_poll : (command : Command) → sending_refusal command ≡ None

@@ -35,10 +35,7 @@ module _ (input : ℕ) (low : input < 64) where
 
   -- so a command that has none leaves the setting
   pub setting-command : (life : Life) (command : Option Command) → NamesNot input command → setting_of input (life_after_command command life) ≡ setting_of input life
-  setting-command life None none = refl
-  setting-command life (Some (commands.ConfigureInputs items)) none =
-      ap (λ found. setting_by found (setting_of input life)) (none_applied (all_present items.items) items.items (none items refl))
-  setting-command life (Some other) none = refl
+  setting-command life command none = grind (arith, none_applied)
 
   -- a configuration that is applied sets the last item of it
   set-item : (items : ArrayVec InputItem) (life : Life) (found : Option InputItem) (kept : SentItem) → all_present items.items ≡ true

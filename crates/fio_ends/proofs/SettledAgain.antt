@@ -79,10 +79,7 @@ module _ (input : ℕ) (low : input < 64) where
       (hidden-since more life upto leaves.1 within hidden)
 
   setting-left : (occurrence : Occurrence) (life : Life) → LeavesInput input occurrence → setting_of input (occurrence ∷ life) ≡ setting_of input life
-  setting-left (Commanded command) life leaves = setting-command input low life (Some command) leaves
-  setting-left (Scanned raw) life leaves = setting-quiet (Scanned raw) life input tt
-  setting-left LineSynced life leaves = setting-quiet LineSynced life input tt
-  setting-left (Raised mask) life leaves = setting-quiet (Raised mask) life input tt
+  setting-left occurrence life leaves = grind (arith, setting-command, setting-quiet)
 
   pub setting-unnamed : (more life : List Occurrence) → AllByRecursion (LeavesInput input) more → setting_of input (more ++ life) ≡ setting_of input life
   setting-unnamed [] life leaves = refl

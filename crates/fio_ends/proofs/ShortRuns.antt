@@ -1,5 +1,5 @@
 -- In a run of fewer than 2^31 scans all that is compared is near.
-use Rattle.fio_ends.proofs.Names.{◌≡◌, ◌<◌, ◌≤◌, ◌^◌, ◌==◌, ℕ, Bool, true, false, List, [], ◌∷◌, ◌++◌, length, take, drop, Option, Some, None, slice_get, refl, ap, arith, if◌then◌else◌, same_Some, AllByRecursion, flat_map, block_in, Block, Life, Occurrence, Commanded, life_of, scans_of, Transition, log_of, MadeBlock, newest_poll, is_new, blocks_of, newest_end, next_block, start_after, count_from, Settings, Event, ToModule, ToCpu, SentFrame, Machine, item_numbered, after, Leads, HaveNoRestart, blocks_in, each-at, BlocksAreNear, EntriesNearStates, HasNearTimes, InputsAreNear, IsNear, IsNearStates, IsWithinAge, StampsAreNear, StatesAreNear, block_taken, blocks_taken, comes_with, each-append, each-map, hears_states, latest_with, option_and_then, scans_above, scans_asked, scans_below, scans_left, scans_seen, scans_stamped}
+use Rattle.fio_ends.proofs.Names.{◌≡◌, ◌<◌, ◌≤◌, ◌^◌, ℕ, Bool, true, false, List, [], ◌∷◌, ◌++◌, take, drop, Option, Some, None, slice_get, refl, ap, arith, if◌then◌else◌, same_Some, AllByRecursion, flat_map, block_in, Block, Life, Occurrence, Commanded, life_of, scans_of, Transition, log_of, MadeBlock, newest_poll, is_new, blocks_of, newest_end, next_block, start_after, count_from, Settings, Event, ToCpu, SentFrame, Machine, item_numbered, after, Leads, HaveNoRestart, blocks_in, each-at, BlocksAreNear, EntriesNearStates, HasNearTimes, InputsAreNear, IsNear, IsNearStates, IsWithinAge, StampsAreNear, StatesAreNear, block_taken, blocks_taken, comes_with, each-append, each-map, hears_states, latest_with, option_and_then, scans_above, scans_asked, scans_below, scans_left, scans_seen, scans_stamped}
 use Rattle.fio_message.specs.declared.commands.Command.TheVariants as commands
 use Rattle.fio_module.proofs.ScanTransitions.{each_logged}
 use Rattle.fio_link.proofs.Grown.{grows}
@@ -86,17 +86,10 @@ near_states scans block short b = record {
 module _ (settings : Settings) (first : ℕ) (last : Machine) (short : scans_of (life_of last.history) < 2 ^ 31) where
   -- the scans above the end of a run
   short_above : (machine : Machine) (later : List Event) → HaveNoRestart later → Leads settings first machine later last → scans_of (life_of machine.history) < 2 ^ 31
-  short_above machine later none leads =
-      let g = grows settings first machine last later none leads in
-      omega (arith, scans_grow (life_of machine.history) (life_of last.history) (record { more = g.stretch; is = g.life }))
+  short_above machine later none leads = grind (arith, grows, scans_grow)
 
   asked_short : (machine : Machine) (asked : ℕ) (event : Event) → scans_of (life_of machine.history) < 2 ^ 31 → asked < 2 ^ 31 → scans_asked machine asked event < 2 ^ 31
-  asked_short machine asked (ToModule index) here low = by (index == length machine.to_module)
-    where
-      by : (is : Bool) → (if is then scans_of (life_of machine.history) else asked) < 2 ^ 31
-      by true = here
-      by false = low
-  asked_short machine asked other here low = low
+  asked_short machine asked other here low = grind arith
 
   stamps_near : (later : List Event) (machine : Machine) (asked : ℕ) (before : Option ℕ) → HaveNoRestart later → Leads settings first machine later last → asked < 2 ^ 31
       → StampsAreNear settings first machine asked before later

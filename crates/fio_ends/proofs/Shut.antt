@@ -1,5 +1,5 @@
 -- An input that is shut: it is ignored, and nothing that is still to be received opens it.
-use Rattle.fio_ends.proofs.Names.{◌≡◌, ◌≢◌, ◌∙◌, ◌-◌, ◌<◌, ◌≤◌, ◌&&◌, inl, inr, ℕ, Bool, true, false, not, List, [], ◌∷◌, ◌++◌, length, drop, Option, Some, None, refl, ap, sym, subst, if◌then◌else◌, slice_get, same_Some, Command, command_in, all_present, InputItem, ArrayVec, Settings, Life, Occurrence, Scanned, LineSynced, Raised, Commanded, life_of, life_after_command, log_of, log_of-with_command, ContentFacts, InputAbove, SentFrame, Machine, get_after_push, Setting, applied_items, each-drop, item_for, items_sent, last_item_of, opens, setting_by}
+use Rattle.fio_ends.proofs.Names.{◌≡◌, ◌≢◌, ◌∙◌, ◌-◌, ◌<◌, ◌≤◌, ◌&&◌, inl, inr, ℕ, Bool, true, false, not, List, [], ◌∷◌, ◌++◌, length, drop, Option, Some, refl, ap, sym, subst, if◌then◌else◌, slice_get, same_Some, Command, command_in, InputItem, ArrayVec, Settings, Life, Occurrence, Scanned, LineSynced, Raised, Commanded, life_of, life_after_command, log_of, log_of-with_command, ContentFacts, InputAbove, SentFrame, Machine, get_after_push, Setting, each-drop, item_for, items_sent, last_item_of, opens, setting_by, arith}
 use Rattle.fio_message.specs.declared.commands.Command.TheVariants as commands
 use Rattle.fio_ends.proofs.Alternating.{NoneOf}
 use Rattle.fio_ends.proofs.BlockPlaces.{end_at}
@@ -28,16 +28,11 @@ module _ (input : ℕ) (low : input < 64) where
 
   stays_ignored : (applied : Bool) (items : List InputItem) (found : Option InputItem) (setting : Setting) → opens (item_for input items) ≡ false
       → setting.ignore ≡ true → last_item_of input (if applied then items else []) ≡ found → (setting_by found setting).ignore ≡ true
-  stays_ignored applied items None setting none ignored is = ignored
-  stays_ignored true items (Some item) setting none ignored is = is_shut item.ignore (ap opens (sym (item_is input low items ∙ is)) ∙ none)
-  stays_ignored false items (Some item) setting none ignored is = absurd (cc is)
+  stays_ignored applied items found setting none ignored is = grind (arith, is_shut, item_is)
 
   pub ignored-command : (life : Life) (command : Option Command) → KeepsShutBy input command → (setting_of input life).ignore ≡ true
       → (setting_of input (life_after_command command life)).ignore ≡ true
-  ignored-command life None keeps ignored = ignored
-  ignored-command life (Some (commands.ConfigureInputs items)) keeps ignored =
-      stays_ignored (all_present items.items) items.items (last_item_of input (applied_items items.items)) (setting_of input life) (keeps items refl) ignored refl
-  ignored-command life (Some other) keeps ignored = ignored
+  ignored-command life command keeps ignored = grind (arith, setting_of, stays_ignored)
 
   pub silent-command : (life : Life) (upto : ℕ) (command : Option Command) → KeepsShutBy input command → IsSilent life upto input
       → IsSilent (life_after_command command life) upto input

@@ -1,6 +1,5 @@
 -- Two changes of an input are as many scans apart as the filter in force for the later one, whatever configurations come between.
-use Rattle.fio_ends.proofs.Names.{◌≡◌, ◌∙◌, ◌+◌, ◌<◌, ◌≤◌, ◌&&◌, ◌||◌, ◌⊎◌, inl, inr, ℕ, zero, suc, Bool, true, false, not, List, [], ◌∷◌, ◌++◌, length, refl, ap, sym, subst, arith, length-append, append_assoc, if◌then◌else◌, beq, Life, Occurrence, Scanned, filter_events, scans_of, Transition, InputItem, input_setting, filter_events-append, FilterEvent, IsOfScan, Setting, ends_run, filter_in_force, filter_to, filtered_state, input_samples, input_state, is_reported, state_at_configuration}
-use Rattle.fio_message.specs.Bits.{is_set}
+use Rattle.fio_ends.proofs.Names.{◌≡◌, ◌∙◌, ◌+◌, ◌<◌, ◌≤◌, ◌&&◌, ◌||◌, ◌⊎◌, inl, inr, ℕ, zero, suc, Bool, true, false, not, List, [], ◌∷◌, ◌++◌, length, refl, ap, sym, subst, arith, length-append, append_assoc, if◌then◌else◌, beq, Life, Occurrence, Scanned, filter_events, scans_of, Transition, InputItem, input_setting, filter_events-append, FilterEvent, IsOfScan, Setting, filter_in_force, filter_to, input_samples, input_state, is_reported}
 use Rattle.fio_input.specs.Delivery.{IsNotAppliedTo, NoneIsAppliedTo, is_changed, scans_in}
 use Rattle.fio_input.specs.FilterHistory.{Configure, Scan, applies_to}
 use Rattle.fio_input.specs.FilterRule.{latest_are}
@@ -35,24 +34,7 @@ run_ends false x before is = absurd (cc (beq-same before, is))
 -- of one of two levels
 one_of_two : (zeros ones : ℕ) (x : Bool) (older : List Bool) → 1 ≤ zeros → 1 ≤ ones → (latest_are zeros false (x ∷ older) || latest_are ones true (x ∷ older)) ≡ true
     → (if x then ones else zeros) ≤ length (x ∷ older)
-one_of_two zeros ones true older some_zeros some is = by (latest_are zeros false (true ∷ older)) refl is
-  where
-    none : (n : ℕ) → 1 ≤ n → latest_are n false (true ∷ older) ≡ false
-    none zero low = absurd (omega (arith, low))
-    none (suc n) low = refl
-
-    by : (first : Bool) → latest_are zeros false (true ∷ older) ≡ first → (first || latest_are ones true (true ∷ older)) ≡ true → ones ≤ length (true ∷ older)
-    by true at is = absurd (cc (sym at ∙ none zeros some_zeros))
-    by false at is = run_within ones true (true ∷ older) is
-one_of_two zeros ones false older some some_ones is = by (latest_are zeros false (false ∷ older)) refl is
-  where
-    none : (n : ℕ) → 1 ≤ n → latest_are n true (false ∷ older) ≡ false
-    none zero low = absurd (omega (arith, low))
-    none (suc n) low = refl
-
-    by : (first : Bool) → latest_are zeros false (false ∷ older) ≡ first → (first || latest_are ones true (false ∷ older)) ≡ true → zeros ≤ length (false ∷ older)
-    by true at is = run_within zeros false (false ∷ older) at
-    by false at is = absurd (cc (sym is ∙ none ones some_ones))
+one_of_two zeros ones x older some_zeros some is = grind (arith, run_within)
 
 by_level : (setting : Setting) (x : Bool) → filter_to setting x ≡ (if x then filter_in_force setting.trailing else filter_in_force setting.leading)
 by_level setting true = refl
@@ -61,17 +43,7 @@ by_level setting false = refl
 -- so the filter for a change is no longer than the samples since the latest configuration
 change_long : (input raw : ℕ) (history : List FilterEvent) → is_changed input raw history ≡ true
     → filter_to (input_setting input history) (input_state input (Scan raw ∷ history)) ≤ length (input_samples input history) + 1
-change_long input raw history changed =
-    let s = input_setting input history in
-    let older = input_samples input history in
-    let x = is_set raw input in
-    let base = state_at_configuration input history in
-    let ends = run_ends (ends_run s (x ∷ older)) x (filtered_state s base older) changed in
-    let long = one_of_two (filter_in_force s.leading) (filter_in_force s.trailing) x older (omega arith) (omega arith) ends.0 in
-    let state : input_state input (Scan raw ∷ history) ≡ x = ends.1 in
-    let filter : filter_to s (input_state input (Scan raw ∷ history)) ≡ (if x then filter_in_force s.trailing else filter_in_force s.leading) =
-    ap (filter_to s) state ∙ by_level s x in
-    omega arith
+change_long input raw history changed = grind (arith, by_level, one_of_two, run_ends)
 
 -- ---- two changes
 

@@ -1,7 +1,6 @@
 -- The stamps that the CPU hears, and the scans when the module received their commands.
-use Rattle.fio_ends.proofs.Names.{◌≡◌, ◌∙◌, ◌≤◌, ℕ, false, List, [], ◌∷◌, ◌++◌, length, Option, Some, None, refl, ap, sym, subst, arith, if◌then◌else◌, AllByRecursion, is_some_and, same_Some, length-append, Answer, Command, Block, answered_block, says_again, Life, Occurrence, Commanded, life_of, scans_of, ContentFacts, Clock, Event, Machine, block_answer, breaks_answer, counter_of, is_before, option_and_then, scans_asked, scans_stamped, stamp_of, without_excuse}
+use Rattle.fio_ends.proofs.Names.{◌≡◌, ◌∙◌, ◌≤◌, ℕ, false, List, [], ◌∷◌, ◌++◌, length, Option, Some, refl, ap, sym, subst, arith, AllByRecursion, is_some_and, length-append, Answer, Command, Block, answered_block, Life, Occurrence, Commanded, life_of, scans_of, ContentFacts, Clock, Event, Machine, block_answer, breaks_answer, counter_of, is_before, option_and_then, scans_asked, scans_stamped, stamp_of, without_excuse}
 use Rattle.fio_message.specs.declared.answers.Answer.TheVariants as answers
-use Rattle.fio_message.specs.declared.commands.Command.TheVariants as commands
 use Rattle.fio_ends.proofs.Answered.{Says}
 use Rattle.fio_ends.proofs.Clocks.{clock, offset_of}
 use Rattle.fio_ends.proofs.Following.{GoesOn, IsNoCommand, IsSince}
@@ -70,20 +69,12 @@ clock_is facts other = refl
 
 pub none_before : (stamp above : Option ℕ) → ((s c : ℕ) → stamp ≡ Some s → above ≡ Some c → is_before s c ≡ false)
     → is_some_and stamp (λ s. is_some_and above (is_before s)) ≡ false
-none_before None above kept = refl
-none_before (Some s) None kept = refl
-none_before (Some s) (Some c) kept = kept s c refl refl
+none_before stamp above kept = grind arith
 
 -- the stamp of an answer is the counter after the life
 pub stamp_says : (life : Life) (command : Command) (answer : Answer) → Says life command answer → (stamp : ℕ) → stamp_of answer ≡ Some stamp → stamp ≡ counter_of life
-stamp_says life (commands.Status clear) answer says stamp is = sym (same_Some _ _ (sym (ap stamp_of says.is) ∙ is))
-stamp_says life commands.RawInputs answer says stamp is = sym (same_Some _ _ (sym (ap stamp_of says.is) ∙ is))
-stamp_says life commands.FilteredInputs answer says stamp is = sym (same_Some _ _ (sym (ap stamp_of says.is) ∙ is))
-stamp_says life (commands.Poll number) answer says stamp is = absurd says
-stamp_says life other answer says stamp is = absurd (cc (sym (ap stamp_of says.is) ∙ is))
+stamp_says life other answer says stamp is = grind arith
 
 -- of the block that a frame has
 pub block_stamp : (found : Option Answer) (block : Block) → answered_block found ≡ Some block → option_and_then stamp_of found ≡ stamp_of (block_answer block)
-block_stamp None block is = absurd (cc is)
-block_stamp (Some (answers.Block number entries status stamp)) block is = ap (λ (b : Block). if says_again b.status then None else Some b.stamp) (same_Some _ _ is)
-block_stamp (Some other) block is = absurd (cc is)
+block_stamp found block is = grind arith

@@ -26,9 +26,7 @@ module _ (settings : Settings) (first : ℕ) (begin : Machine) (above : Option �
   -- the answer with the states says those of the life
   states_say : (life : Life) (command : Command) (inputs stamp : ℕ) → Says life command (answers.FilteredInputs inputs stamp)
       → (command ≡ commands.FilteredInputs) × (inputs ≡ states_of life) × (stamp ≡ counter_of life)
-  states_say life commands.FilteredInputs inputs stamp says = (refl, cc says.is, cc says.is)
-  states_say life (commands.Poll number) inputs stamp says = absurd says
-  states_say life other inputs stamp says = absurd (cc says.is)
+  states_say life other inputs stamp says = grind arith
 
   pub state_kept : (facts : ContentFacts) (answer : Answer) (seen : Option Seen) → broken_state facts (Heard answer) seen ≡ None
   state_kept facts answer None = refl

@@ -1,5 +1,5 @@
 -- What the rule `state` asks for, by the inputs that are watched and by times.
-use Rattle.fio_ends.proofs.Names.{◌≡◌, ◌∙◌, ◌+◌, ◌-◌, ◌%◌, ◌^◌, ◌<◌, ◌≤◌, ◌&&◌, inl, inr, ℕ, zero, suc, Bool, true, false, not, Option, Some, None, refl, ap, arith, ◌==◌, nat_le, nat_tests, eqb_tells, beq, is_some_and, Life, filter_events, ContentFacts, ContentEvent, Seen, bit_at-word_of, bit_of, comes_to, differing, earliest_above, input_state, is_before, is_later, state_breach, steady_state}
+use Rattle.fio_ends.proofs.Names.{◌≡◌, ◌∙◌, ◌+◌, ◌^◌, ◌<◌, ◌≤◌, ℕ, zero, suc, Bool, true, false, not, Option, Some, None, refl, ap, arith, ◌==◌, beq, is_some_and, Life, filter_events, ContentFacts, ContentEvent, Seen, bit_at-word_of, bit_of, comes_to, differing, earliest_above, input_state, is_before, is_later, state_breach, steady_state}
 use Rattle.fio_message.specs.Bits.{is_set}
 use Rattle.fio_check.specs.ContentRules.{first_differing}
 use Rattle.fio_ends.proofs.Answered.{states_of}
@@ -10,42 +10,11 @@ use Rattle.fio_ends.proofs.Watching.{state_of}
 
 -- a time that is not later
 pub not_later : (offset earlier later : ℕ) → earlier ≤ later → later < earlier + 2 ^ 31 → is_later (clock offset earlier) (clock offset later) ≡ false
-not_later offset earlier later low near =
-    elim (eqb_tells (clock offset earlier) (clock offset later)) as (λ _. is_later (clock offset earlier) (clock offset later) ≡ false) [
-      | inl same ↦ ap (λ b. not b && not (is_before (clock offset earlier) (clock offset later))) same.0
-      | inr apart ↦
-          let before : is_before (clock offset earlier) (clock offset later) ≡ true = half offset earlier later low near apart.1 in
-          by (clock offset earlier == clock offset later) (is_before (clock offset earlier) (clock offset later)) before
-    ]
-  where
-    by : (same before : Bool) → before ≡ true → (not same && not before) ≡ false
-    by true before is = refl
-    by false before is = ap not is
-
-    half : (offset earlier later : ℕ) → earlier ≤ later → later < earlier + 2 ^ 31 → (clock offset earlier ≡ clock offset later → ⊥) → is_before (clock offset earlier) (clock offset later) ≡ true
-    half offset earlier later low near apart = at-least _ (around ((offset + earlier) % 2 ^ 32) ((offset + later) % 2 ^ 32) (later - earlier) (ahead offset earlier later low) (omega arith) apart (omega arith) (omega arith))
-      where
-        ahead : (offset earlier later : ℕ) → earlier ≤ later → (offset + later) % 2 ^ 32 ≡ ((offset + earlier) % 2 ^ 32 + (later - earlier)) % 2 ^ 32
-        ahead offset earlier later low = omega arith
-
-        around : (a b d : ℕ) → b ≡ (a + d) % 2 ^ 32 → d < 2 ^ 31 → (a ≡ b → ⊥) → a < 2 ^ 32 → b < 2 ^ 32 → 2 ^ 31 ≤ (a + 2 ^ 32 - b) % 2 ^ 32
-        around a b d is near apart one two = omega arith
-
-        at-least : (n : ℕ) → 2 ^ 31 ≤ n → nat_le (2 ^ 31) n ≡ true
-        at-least n more = grind (arith, nat_tests)
+not_later offset earlier later low near = grind (arith, clock)
 
 -- a time that is before
 pub before_clock : (offset earlier later : ℕ) → earlier < later → later < earlier + 2 ^ 31 → is_before (clock offset earlier) (clock offset later) ≡ true
-before_clock offset earlier later less near = at-least _ (around ((offset + earlier) % 2 ^ 32) ((offset + later) % 2 ^ 32) (later - earlier) (ahead offset earlier later less) (omega arith) (omega arith) (omega arith) (omega arith))
-  where
-    ahead : (offset earlier later : ℕ) → earlier < later → (offset + later) % 2 ^ 32 ≡ ((offset + earlier) % 2 ^ 32 + (later - earlier)) % 2 ^ 32
-    ahead offset earlier later low = omega arith
-
-    around : (a b d : ℕ) → b ≡ (a + d) % 2 ^ 32 → 0 < d → d < 2 ^ 31 → a < 2 ^ 32 → b < 2 ^ 32 → 2 ^ 31 ≤ (a + 2 ^ 32 - b) % 2 ^ 32
-    around a b d is some near one two = omega arith
-
-    at-least : (n : ℕ) → 2 ^ 31 ≤ n → nat_le (2 ^ 31) n ≡ true
-    at-least n more = grind (arith, nat_tests)
+before_clock offset earlier later less near = grind arith
 
 -- ---- the rule
 

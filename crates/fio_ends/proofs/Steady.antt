@@ -1,5 +1,5 @@
 -- The counter jumps where a load of it takes effect. Where none has taken effect since a life, none had above.
-use Rattle.fio_ends.proofs.Names.{◌≡◌, ◌+◌, ◌++◌, ◌∷◌, ◌==◌, ℕ, Bool, true, false, List, Option, None, Some, refl, ap, subst, arith, if◌then◌else◌, Block, Command, block_in, command_in, items_of_block, Settings, Life, life_of, life_after_command, loads_of, Event, SentFrame, Machine, number_of, after, after_delivered_block, after_delivery_to_cpu, after_delivery_to_module, item_numbered, LoadsAreSent, loads_sent}
+use Rattle.fio_ends.proofs.Names.{◌≡◌, ◌+◌, ◌∷◌, ℕ, List, Option, None, Some, refl, subst, arith, Command, command_in, Settings, Life, life_of, life_after_command, loads_of, Event, SentFrame, Machine, after, after_delivery_to_cpu, after_delivery_to_module, LoadsAreSent, loads_sent}
 use Rattle.fio_message.specs.declared.commands.Command.TheVariants as commands
 use Rattle.fio_link.specs.declared.event.Event.TheVariants as events
 use Rattle.fio_ends.proofs.Following.{GoesOn}
@@ -29,32 +29,14 @@ loads-command command life = grind arith
 
 module _ (settings : Settings) (first : ℕ) (machine : Machine) where
   pub heard-life : (index : ℕ) (found : Option SentFrame) → (after_delivery_to_cpu first machine index found).history ≡ machine.history
-  heard-life index None = refl
-  heard-life index (Some frame) = by_block (block_in frame.octets)
-    where
-      by_number : (same : Bool) (block : Block)
-          → (if same then (record machine { last_to_cpu = index; round = machine.round + 1; items = machine.items ++ items_of_block block }) else (record machine { last_to_cpu = index })).history ≡ machine.history
-      by_number true block = refl
-      by_number false block = refl
-
-      by_block : (block : Option Block) → (after_delivered_block first (record machine { last_to_cpu = index }) block).history ≡ machine.history
-      by_block None = refl
-      by_block (Some block) = by_number (block.number == number_of first machine.round) block
+  heard-life index found = grind arith
 
   received-life : (index : ℕ) (found : Option SentFrame) → loads_of (life_of (after_delivery_to_module settings machine index found).history) ≡ loads_of (life_of machine.history)
   received-life index None = refl
   received-life index (Some frame) = loads-command (command_in frame.octets) (life_of machine.history)
 
   loads_same : (event : Event) → IsCalm event → loads_of (life_of (after settings first machine event).history) ≡ loads_of (life_of machine.history) + loads_sent event
-  loads_same events.LineSync calm = absurd calm
-  loads_same events.Restart calm = absurd calm
-  loads_same (events.Send (commands.LoadCounter load)) calm = absurd calm
-  loads_same (events.Send other) calm = omega arith
-  loads_same events.Poll calm = omega arith
-  loads_same (events.Scan raw) calm = omega arith
-  loads_same (events.Raise mask) calm = omega arith
-  loads_same (events.ToModule index) calm = (let same = received-life index (item_numbered machine.to_module index) in omega (arith, same))
-  loads_same (events.ToCpu index) calm = (let same = ap (λ h. loads_of (life_of h)) (heard-life index (item_numbered machine.to_cpu index)) in omega (arith, same))
+  loads_same event calm = grind (arith, heard-life, received-life)
 
   -- above them no more take effect either
   pub loads_on : (event : Event) (rest : List Event) → IsCalm event

@@ -1,6 +1,6 @@
 -- Inputs whose latest entry is watched, and that no item ignores which was sent since the clear block above it: their changes
 -- that are still to be recorded alternate.
-use Rattle.fio_ends.proofs.Names.{◌≡◌, ◌≢◌, ◌∙◌, ◌+◌, ◌<◌, ◌≤◌, ◌&&◌, ◌||◌, inl, inr, ℕ, Bool, true, false, not, List, [], ◌∷◌, ◌++◌, length, Option, Some, None, refl, ap, sym, subst, arith, if◌then◌else◌, ◌==◌, InputItem, slice_get, slice_get_within, eqb_tells, nat_lt, nat_tests, same_Some, Command, Block, command_in, command_octets, IsCommand, says_again, says_more, Settings, AreInRange, Life, Occurrence, Scanned, LineSynced, Raised, Commanded, life_of, life_after_command, log_of, Transition, entry_of, MadeBlock, blocks_in, ContentFacts, InputAbove, content_with, Ended, Recorded, Sent, Gap, Event, SentFrame, Machine, start, after, after_sending, after_delivery_to_module, IsKept, get_after_push, SentItem, WatchedState, coming, content_begun, end_of_blocks, ignores, input_below_clear, input_coming, input_ended, input_with_entry, input_with_item, item_for, item_parts, items_sent, settled_now, steady_state, unnamed, watched_now}
+use Rattle.fio_ends.proofs.Names.{◌≡◌, ◌≢◌, ◌∙◌, ◌+◌, ◌<◌, ◌≤◌, ◌&&◌, ◌||◌, inl, inr, ℕ, Bool, true, false, not, List, [], ◌∷◌, ◌++◌, length, Option, Some, None, refl, ap, sym, subst, arith, if◌then◌else◌, ◌==◌, InputItem, slice_get, slice_get_within, eqb_tells, nat_lt, nat_tests, same_Some, Command, Block, command_in, command_octets, IsCommand, says_again, says_more, Settings, AreInRange, Life, Occurrence, Scanned, LineSynced, Raised, Commanded, life_of, life_after_command, log_of, Transition, entry_of, MadeBlock, blocks_in, ContentFacts, InputAbove, content_with, Ended, Recorded, Sent, Gap, Event, SentFrame, Machine, start, after, after_sending, after_delivery_to_module, IsKept, get_after_push, SentItem, coming, content_begun, end_of_blocks, ignores, input_below_clear, input_coming, input_ended, input_with_entry, input_with_item, item_for, item_parts, items_sent, settled_now, steady_state, unnamed, watched_now}
 use Rattle.fio_message.specs.declared.commands.Command.TheVariants as commands
 use Rattle.fio_input.specs.Widening.{wide_time_of}
 use Rattle.fio_ends.proofs.BlockPlaces.{end_at, ends_within}
@@ -95,28 +95,12 @@ fewer life frames last upto input clear hidden watched steady still k = record {
 -- an input that is steady below an item was so above it, and the item does not ignore it
 pub still_steady : (above : InputAbove) (item : Option InputItem) (level : Bool) → steady_state (input_with_item (unnamed above) item).watched ≡ Some level
     → (if ignores item then None else steady_state above.watched) ≡ Some level
-still_steady above None level is = is
-still_steady above (Some item) level is = by item.ignore refl above.watched refl
-  where
-    by : (ignore : Bool) → item.ignore ≡ ignore → (watched : Option WatchedState) → above.watched ≡ watched → (if item.ignore then None else steady_state above.watched) ≡ Some level
-    by true ignored None at = absurd (cc (rw (ignored, at) at is))
-    by true ignored (Some state) at = absurd (cc (rw (ignored, at) at is))
-    by false ignored None at = absurd (cc (rw (ignored, at) at is))
-    by false ignored (Some state) at = rw (ignored, at) (kept state.level state.shaded (rw (ignored, at) at is))
-      where
-        kept : (own shaded : Bool) → steady_state (if shaded then None else Some (record { level = own; shaded = shaded })) ≡ Some level
-            → steady_state (Some (record { level = own; shaded = shaded })) ≡ Some level
-        kept own true is = absurd (cc is)
-        kept own false is = is
+still_steady above item level is = grind arith
 
 -- an entry that is steady is open
 pub steady_now : (clear level now : Bool) (above : InputAbove) → steady_state (watched_now clear level above) ≡ Some now
     → (if clear && not above.hidden then Some level else None) ≡ Some now
-steady_now clear level now above is = by clear above.reopened above.hidden is
-  where
-    by : (clear reopened hidden : Bool) → steady_state (if clear && not reopened then Some (record { level = level; shaded = hidden }) else None) ≡ Some now
-        → (if clear && not hidden then Some level else None) ≡ Some now
-    by clear reopened hidden is = grind arith
+steady_now clear level now above is = grind arith
 
 -- ---- the CPU takes a block
 

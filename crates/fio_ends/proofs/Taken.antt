@@ -1,7 +1,6 @@
 -- What is asked of the blocks that the CPU takes in a log is asked of those that it has taken so far.
-use Rattle.fio_ends.proofs.Names.{◌≡◌, ◌∙◌, ◌+◌, ◌≤◌, ℕ, Bool, true, false, List, [], ◌∷◌, ◌++◌, length, take, drop, Option, Some, None, refl, ap, sym, subst, arith, append-nil, append_assoc, length-take, if◌then◌else◌, slice_get, slice_get_within, Block, Command, command_in, Settings, AreInRange, Life, life_of, life_after_command, MadeBlock, newest_poll, is_new, blocks_of, next_block, Event, Machine, Leads, HaveNoRestart, after, blocks_in, take_one_more, after_taken, IsKept, kept_all, carries_own, blocks_taken, drop-append-le}
+use Rattle.fio_ends.proofs.Names.{◌≡◌, ◌∙◌, ◌+◌, ◌≤◌, ℕ, List, [], ◌∷◌, ◌++◌, length, take, drop, Option, Some, refl, ap, sym, subst, arith, append-nil, append_assoc, length-take, slice_get, slice_get_within, Block, Command, command_in, Settings, AreInRange, Life, life_of, life_after_command, MadeBlock, blocks_of, Event, Machine, Leads, HaveNoRestart, after, blocks_in, take_one_more, after_taken, IsKept, kept_all, carries_own, blocks_taken, drop-append-le}
 use Rattle.std.proofs.lemmas.List.{take-append-le}
-use Rattle.fio_message.specs.declared.commands.Command.TheVariants as commands
 use Rattle.fio_link.specs.declared.event.Event.TheVariants as events
 use Rattle.fio_link.proofs.Events.{IsKeptByEvents}
 use Rattle.fio_link.proofs.OneLifeRows.{kept_in_life}
@@ -10,15 +9,7 @@ use Rattle.fio_ends.proofs.ContentSteps.{IsKnown, Takes}
 -- the first blocks of a life stay the first
 pub blocks_stay : (settings : Settings) (life : Life) (command : Option Command) (round : ℕ) → round ≤ length (blocks_of settings life)
     → take round (blocks_of settings (life_after_command command life)) ≡ take round (blocks_of settings life)
-blocks_stay settings life None round few = refl
-blocks_stay settings life (Some (commands.Poll number)) round few = if-new (is_new (newest_poll life) number)
-  where
-    if-new : (new : Bool)
-        → take round (if new then blocks_of settings life ++ next_block settings life ∷ [] else blocks_of settings life)
-        ≡ take round (blocks_of settings life)
-    if-new true = take-append-le round (blocks_of settings life) (next_block settings life ∷ []) few
-    if-new false = refl
-blocks_stay settings life (Some other) round few = refl
+blocks_stay settings life command round few = grind (arith, take-append-le)
 
 -- all blocks that the CPU has taken
 abbrev all_taken : Settings → Machine → List MadeBlock

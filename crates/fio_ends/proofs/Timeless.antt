@@ -1,6 +1,6 @@
 -- The events that keep the rules on time, and those that a load of the counter excuses: below an excused event nothing is known
 -- of times till the next clear block.
-use Rattle.fio_ends.proofs.Names.{nat_lt, option_and_then, is_some_and, ◌≡◌, ◌∙◌, ◌&&◌, ℕ, Bool, true, false, not, List, [], ◌∷◌, Option, Some, None, refl, ap, ap₂, sym, subst, fold, if◌then◌else◌, is_some, ◌==◌, Answer, Item, Entry, Gap, ContentFacts, content_with, ContentEvent, Ended, Heard, Recorded, Sent, Apart, Clock, Fresh, Order, State, INPUTS, InputAbove, KeepsRule, Seen, SentItem, breaks_answer, broken_state, comes_to, coming, content_step, forgetting, if_comes, input_below_clear, input_coming, input_ended, input_with_entry, is_before, is_clear_end, seen_below, settled_now, stamp_of, state_breach, without_excuse}
+use Rattle.fio_ends.proofs.Names.{nat_lt, option_and_then, is_some_and, ◌≡◌, ◌∙◌, ◌&&◌, ℕ, Bool, true, false, not, List, [], ◌∷◌, Option, Some, None, refl, ap, ap₂, sym, subst, fold, if◌then◌else◌, ◌==◌, Answer, Item, Entry, Gap, ContentFacts, content_with, ContentEvent, Ended, Heard, Recorded, Sent, Apart, Clock, Fresh, Order, State, INPUTS, InputAbove, KeepsRule, Seen, SentItem, breaks_answer, broken_state, comes_to, coming, content_step, forgetting, if_comes, input_below_clear, input_coming, input_ended, input_with_entry, is_before, is_clear_end, seen_below, settled_now, stamp_of, state_breach, without_excuse, arith}
 use Rattle.std.specs.Prelude.{◌||◌}
 use Rattle.fio_check.specs.ContentSaid.{is_again_end}
 use Rattle.fio_check.specs.ContentKnown.{shown_after, unlogged_after}
@@ -25,11 +25,7 @@ WouldKeep facts event = KeepsTimeRules (without_excuse facts) event
 
 -- one that would keep them is not excused
 breaks_none : (facts : ContentFacts) (event : ContentEvent) → WouldKeep facts event → breaks_time (without_excuse facts) event ≡ false
-breaks_none facts (Sent command) k = refl
-breaks_none facts (Heard answer) k = k.clock
-breaks_none facts (Recorded Gap) k = refl
-breaks_none facts (Recorded (Entry input level low wide)) k = rw (k.state.0, k.order, k.fresh, k.apart, k.state.1) refl
-breaks_none facts (Ended status stamp) k = ap is_some k.state
+breaks_none facts event k = grind arith
 
 pub not_excused : (facts : ContentFacts) (event : ContentEvent) → WouldKeep facts event → is_excused facts event ≡ false
 unfolding is_excused
@@ -70,9 +66,7 @@ module _ (facts : ContentFacts) (excuses : (facts.excuses == 0) ≡ false) where
 -- one that would keep them keeps them
 module _ (facts : ContentFacts) where
   states-judged : (judged : Bool) → (facts.excuses == 0) ≡ judged → (event : ContentEvent) (seen : Option Seen) → broken_state (without_excuse facts) event seen ≡ None → broken_state facts event seen ≡ None
-  states-judged judged is event None k = refl
-  states-judged true is event (Some seen) k = rw is (judged_alike facts event seen k)
-  states-judged false is event (Some seen) k = rw is refl
+  states-judged judged is event seen k = grind arith
 
   would-keep : (event : ContentEvent) → (facts.excuses == 0) ≡ true → WouldKeep facts event → KeepsTimeRules facts event
   would-keep (Sent command) is k = record { order = tt; fresh = tt; apart = tt; clock = tt; state = states-judged true is (Sent command) facts.seen k.state }

@@ -174,18 +174,7 @@ module _ (settings : Settings) (range : AreInRange settings) (first : ℕ) (begi
   loads_by command = 0
 
   pub sends_loads : (machine : Machine) (event : Event) (command : Command) → IsSending first machine event command → loads_sent event ≡ loads_by command
-  sends_loads machine events.Poll command may = ap loads_by (sym may)
-  sends_loads machine (events.Send sent) command may = by sent ∙ ap loads_by (sym may.0)
-    where
-      by : (sent : Command) → loads_sent (events.Send sent) ≡ loads_by sent
-      by (commands.LoadCounter load) = refl
-      by other = refl
-  sends_loads machine (events.Scan raw) command may = absurd may
-  sends_loads machine (events.Raise mask) command may = absurd may
-  sends_loads machine events.LineSync command may = absurd may
-  sends_loads machine (events.ToModule index) command may = absurd may
-  sends_loads machine (events.ToCpu index) command may = absurd may
-  sends_loads machine events.Restart command may = absurd may
+  sends_loads machine event command may = grind arith
 
   pub sent_has : (facts : ContentFacts) (command : Command) (s jumps : ℕ) → HasExcuses (began + s) jumps facts.excuses
       → HasExcuses (began + (s + loads_by command)) jumps (content_step facts (Sent command)).excuses

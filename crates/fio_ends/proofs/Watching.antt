@@ -76,9 +76,7 @@ module _ (input : ℕ) (low : input < 64) where
   setting_kept : (applied : Bool) (items : List InputItem) (found : Option InputItem) (setting : Setting) → ignores (item_for input items) ≡ false
       → last_item_of input (if applied then items else []) ≡ found
       → ((setting_by found setting).ignore ≡ false) ⊎ (setting_by found setting ≡ setting)
-  setting_kept applied items None setting none is = inr refl
-  setting_kept true items (Some item) setting none is = inl (ap ignores (sym (item_is input low items ∙ is)) ∙ none)
-  setting_kept false items (Some item) setting none is = absurd (cc is)
+  setting_kept applied items found setting none is = grind (arith, item_is)
 
   none_hidden-opened : (life : Life) (upto : ℕ) (items : ArrayVec InputItem) → ignores (item_for input items.items) ≡ false
       → NoneHidden life upto input → NoneHidden (Commanded (commands.ConfigureInputs items) ∷ life) upto input
@@ -219,13 +217,7 @@ rest_at (first ∷ log) (suc upto) transition at =
 -- an entry of an input that is watched
 pub watched-entry : (life : Life) (upto input : ℕ) (level : Bool) (transition : Transition) → slice_get (log_of life) upto ≡ Some transition → transition.input ≡ input
     → IsWatched life upto input level → (transition.level ≡ not level) × IsWatched life (upto + 1) input transition.level
-watched-entry life upto input level transition at same w =
-    by (subst (λ log. Alternate input level log (state_of input life)) (rest_at (log_of life) upto transition at) w.alternate)
-  where
-    by : Alternate input level (transition ∷ drop (upto + 1) (log_of life)) (state_of input life)
-        → (transition.level ≡ not level) × IsWatched life (upto + 1) input transition.level
-    by (inl here) = (here.1, record { opened = w.opened; alternate = here.2 })
-    by (inr apart) = absurd (apart.0 same)
+watched-entry life upto input level transition at same w = grind (arith, rest_at)
 
 -- and of another
 pub watched-other : (life : Life) (upto input : ℕ) (level : Bool) (transition : Transition) → slice_get (log_of life) upto ≡ Some transition → transition.input ≢ input
