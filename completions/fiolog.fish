@@ -56,6 +56,7 @@ complete -c fiolog -n '__fish_seen_subcommand_from plan' -l rate -x -d 'the line
 complete -c fiolog -n '__fish_seen_subcommand_from plan' -l sync -d 'the line is synchronous (SDLC)'
 complete -c fiolog -n '__fish_seen_subcommand_from plan' -l async -x -d 'it is asynchronous, with 1 or 2 stop bits'
 complete -c fiolog -n '__fish_seen_subcommand_from plan' -l answer-time -x -d 'the module begins its answer so late'
+complete -c fiolog -n '__fish_seen_subcommand_from plan' -l plot -r -d 'a picture of the lateness at each pace of this rate (by matplotlib)'
 complete -c fiolog -n '__fish_seen_subcommand_from plan' -s v -l verbose -d 'also the clause that each number is from'
 complete -c fiolog -n '__fish_seen_subcommand_from plan' -l json -d 'a list of objects'
 complete -c fiolog -n '__fish_seen_subcommand_from convert' -l to -x -a 'transcript frames pcapng vcd'

@@ -90,6 +90,7 @@ _fiolog() {
             '--sync[the line is synchronous (SDLC)]'
             '--async[it is asynchronous, with 1 or 2 stop bits]:stop:'
             '--answer-time[the module begins its answer so late]:ms:'
+            '--plot[a picture of the lateness at each pace of this rate (by matplotlib)]:file:_files'
             {-v,--verbose}'[also the clause that each number is from]'
             '--json[a list of objects]') ;|
     convert)

@@ -187,7 +187,9 @@ def check_numbers(check):
                 rounds.found(r'5 of each 100 rounds lost +(\d+) ms'))
     for words, expected in PLANS:
         check.equal('plan ' + words, expected, list(planned(words).values())[:len(expected)])
-    for words in (['--group', '60'], ['--group', '60:20', '--group', '5:1'], ['--group', '8:5', '--every', '5'], ['--inputs', '8'], []):
+    for words in (['--group', '60'], ['--group', '60:20', '--group', '5:1'], ['--group', '8:5', '--every', '5'], ['--inputs', '8'], [],
+                  ['--inputs', '8', '--filter', '5', '--rate', '9600'], ['--inputs', '8', '--filter', '5', '--sync'],
+                  ['--inputs', '8', '--filter', '5', '--plot', 'x.png'], ['--group', '8:5', '--rate', '9600', '--sync']):
         check.equal('plan ' + ' '.join(words), 2, fiolog('plan', *words).status)
     check.holds('6 rounds after the longest outage', rounds.found(r'nothing between the rounds +6 rounds'), rounds)
 
@@ -331,6 +333,9 @@ def check_plot(check, folder):
                     (done.returncode, done.stdout + done.stderr, octets.startswith(begins)))
     check.equal('the inputs of a picture', {'12', '13', '14'}, set(re.findall(
         r'<!-- input (\d+) -->', Path(folder, 'picture.svg').read_text(encoding='utf-8'))))
+    words = [python, *TOOL[1:], 'plan', '--inputs', '16', '--filter', '10', '--rate', '153600', '--sync', '--plot', os.path.join(folder, 'plan.svg')]
+    done = subprocess.run(words, stdout=subprocess.PIPE, stderr=subprocess.PIPE, env=ENVIRONMENT, universal_newlines=True)
+    check.equal('a plan as a picture', (0, '', 4), (done.returncode, done.stderr, Path(folder, 'plan.svg').read_text(encoding='utf-8').count('fill: #d3d3d3')))
     for name, words in (('picture.xyz', '.png, .svg and .pdf'), ('no-folder/picture.png', 'No such file')):
         done = plotted(python, name)
         check.equal('--plot ' + name, (3, True), (done.returncode, words in done.stderr and 'Traceback' not in done.stderr))

@@ -2,11 +2,11 @@
 words *computed, not proved*."""
 
 
-from . import terminal
+from . import plot, terminal
 from .options import counted, number_in
 from .output import Refused
 from .protocol import BLOCK_ENTRIES, INPUTS, MOST_WAITING, STANDARD_WAITING
-from .rate import MOST_RATE, Line, Traffic, rows as rows_at_rate
+from .rate import MOST_RATE, Line, Traffic, drawn, rows as rows_at_rate
 
 WAITING = {'standard': STANDARD_WAITING, 'largest': MOST_WAITING}
 COMPUTED = 'computed, not proved'
@@ -41,6 +41,7 @@ def add_arguments(parser):
                       help='it is asynchronous, with 1 or 2 stop bits')
     parser.add_argument('--answer-time', type=number_in(0, MOST_SCANS), default=0, metavar='MS',
                         help='the module begins its answer so late')
+    parser.add_argument('--plot', metavar='FILE', help='a picture of the lateness at each pace of this rate (by matplotlib)')
     parser.add_argument('-v', '--verbose', action='store_true', help='also the clause that each number is from')
     parser.add_argument('--json', action='store_true', help='a list of objects')
 
@@ -124,8 +125,10 @@ def row(option, per_block, waiting):
     if option.outage is not None:
         yield from outage(option, inputs, length, per_block, waiting, ridden_out)
     if option.rate:
-        yield from rows_at_rate(Line(option.rate, option.stop_bits or 0, option.answer_time, lost=option.lost),
-                                Traffic(inputs, length, per_block, waiting))
+        at_rate = Line(option.rate, option.stop_bits or 0, option.answer_time, lost=option.lost), Traffic(inputs, length, per_block, waiting)
+        if option.plot:
+            plot.write(drawn(*at_rate, plot.figure(4)), option.plot)
+        yield from rows_at_rate(*at_rate)
 
 
 def bounds(inputs, length, per_block, every, every_lost):
@@ -176,6 +179,8 @@ def run(option):
         raise Refused('--group goes with --limits, --block, --waiting and --json alone')
     if (option.rate is None) != (not option.sync and option.stop_bits is None):
         raise Refused('--rate goes with --sync or --async')
+    if option.plot and not option.rate:
+        raise Refused('--plot goes with --rate')
     if option.group and option.rate:
         raise Refused('--group goes without --rate')
     if not option.group and (option.inputs is None or option.filter is None):

@@ -62,17 +62,22 @@ def lanes_of(logs):
     return found or [Lanes()]
 
 
-def figure_of(logs):
-    """The picture of the blocks of each log. Raises OSError without matplotlib."""
+def figure(height):
+    """An empty picture, so many inches high. Raises OSError without matplotlib."""
     try:
         from matplotlib.figure import Figure
     except ImportError:
         raise OSError('--plot needs matplotlib (Debian package python3-matplotlib)') from None
+    return Figure(figsize=(WIDTH, height), layout='constrained')
+
+
+def figure_of(logs):
+    """The picture of the blocks of each log."""
     lanes = lanes_of(logs)
     inputs, gaps, broken = (sum(len(getattr(one, what)) for one in lanes) for what in ('times', 'gaps', 'broken'))
     count = max(inputs, 1)
-    figure = Figure(figsize=(WIDTH, HEAD + LANE * min(count, HIGHEST)), layout='constrained')
-    axes = figure.subplots(count, sharex=True, squeeze=False)[:, 0]
+    found = figure(HEAD + LANE * min(count, HIGHEST))
+    axes = found.subplots(count, sharex=True, squeeze=False)[:, 0]
     rows = iter(axes)
     for one in lanes:
         one.draw(rows)
@@ -80,14 +85,13 @@ def figure_of(logs):
     title += ', %d breaches (crosses)' % broken if broken else ''
     axes[0].set_title(title, loc='left', fontsize=10)
     axes[-1].set_xlabel("milliseconds of the module's counter")
-    return figure
+    return found
 
 
-def write(logs, name):
-    """Writes the picture into a file, in the format of its ending. Raises OSError if that cannot be done."""
-    figure = figure_of(logs)
+def write(picture, name):
+    """Writes a picture into a file, in the format of its ending. Raises OSError if that cannot be done."""
     ending = name.rpartition('.')[2].lower()
-    if ending not in figure.canvas.get_supported_filetypes():
+    if ending not in picture.canvas.get_supported_filetypes():
         raise OSError('--plot: matplotlib writes no picture that ends in .%s; .png, .svg and .pdf are some that it writes' % ending)
     with made(name, is_binary=True) as file:
-        figure.savefig(file, format=ending)
+        picture.savefig(file, format=ending)

@@ -116,3 +116,18 @@ def rows(line, traffic):
         yield 'at %s' % name, 'no pace', '`none` of `plan`'
         for what, number in ways_out(line, traffic):
             yield what, number, '`plan` at each'
+
+
+def drawn(line, traffic, picture):
+    """Draws how late a transition is at each pace; paces that are none are grey."""
+    last = max(traffic.per_block * traffic.filter // (traffic.inputs * (line.lost + 1)), 1)
+    late = [found and found.late for found in (at_pace(line, traffic, every) for every in range(1, last + 1))]
+    axes = picture.subplots()
+    axes.plot(range(1, last + 1), [float('nan') if one is None else one for one in late], '.-')
+    for every, one in enumerate(late, 1):
+        if one is None:
+            axes.axvspan(every - 0.5, every + 0.5, color='lightgrey', linewidth=0)
+    axes.set_title('{:,} bit/s: {} open inputs, filters of at least {}; grey: no pace'.format(line.rate, traffic.inputs, traffic.filter),
+                   loc='left', fontsize=10)
+    axes.set(xlabel='poll every .. ms', ylabel='late at most, ms', xlim=(0.5, last + 0.5), ylim=(0, None))
+    return picture

@@ -218,7 +218,7 @@ def run(option):
         hires.write(record.logs(), option)
     elif option.plot:
         from . import plot
-        plot.write(record.logs(), option.plot)
+        plot.write(plot.figure_of(record.logs()), option.plot)
     elif option.vcd:
         draw(chain.from_iterable(blocks for _, blocks in record.logs()), sys.stdout)
     else:
