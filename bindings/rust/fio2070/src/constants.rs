@@ -168,3 +168,8 @@ pub const WIRE_NOTHING: u8 = 0;
 pub const WIRE_MESSAGE: u8 = 1;
 pub const WIRE_OTHER: u8 = 2;
 pub const WIRE_DAMAGED: u8 = 3;
+
+// What `plan` finds.
+pub const PACE_FOUND: u8 = 0;
+pub const NO_PACE: u8 = 1;
+pub const NO_LINE: u8 = 2;

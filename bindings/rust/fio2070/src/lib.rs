@@ -39,7 +39,7 @@ pub use judges::{LinkJudge, LogJudge, LogSigns};
 pub use logs::{Frames, LogBatch, LogReader, Verdict};
 pub use raw::{
     Answer, Breach, Command, ConfigurationItem, ContentBreach, Entry, ErrorCounts, Fault,
-    JudgeOutcome, LogCounts, LogPlace, Outputs, RecordItem, State,
+    JudgeOutcome, Line, LogCounts, LogPlace, Outputs, Pace, RecordItem, State,
 };
 pub use wire::{wire_check, wire_frame, Wire, WireBits, WireHeard};
 pub use written::Unwritten;
@@ -157,6 +157,15 @@ pub fn content_rule_text(rule: u8, out: &mut [u8]) -> Result<&str, Unwritten> {
     text(out, |out, room| unsafe {
         raw::fio2070_content_rule_text(rule, out, room)
     })
+}
+
+/// The least pace at which a line can be polled, so that each round ends before the next one and nothing is lost; `None` if the
+/// line has no pace, or its numbers are out of range.
+pub fn plan(line: &Line) -> Option<Pace> {
+    let mut pace = Pace::default();
+    // SAFETY: references.
+    let planned = unsafe { raw::fio2070_plan(line, &mut pace) };
+    (planned == constants::PACE_FOUND).then_some(pace)
 }
 
 /// The time in milliseconds, modulo 2^32, of an entry with this stamp in an answer with that one.

@@ -30,6 +30,34 @@ pub struct ConfigurationItem {
     pub trailing: u8,
 }
 
+/// A line between the two ends, and what may have to be reported over it: bits in 1,000 scans, the scans until the module begins
+/// its answer, bits of other traffic in a round, rounds lost in a row, entries that wait and that a block takes, open inputs and
+/// their shortest filter, and stop bits, 0 for a synchronous line.
+#[derive(Clone, Copy, Debug, Default, PartialEq, Eq)]
+#[repr(C)]
+pub struct Line {
+    pub rate: u32,
+    pub answer: u32,
+    pub other: u32,
+    pub lost: u16,
+    pub waiting: u16,
+    pub per_block: u8,
+    pub inputs: u8,
+    pub filter: u8,
+    pub stop_bits: u8,
+    pub reserved: [u8; 4],
+}
+
+/// A pace of a line, in scans; the load in thousandths.
+#[derive(Clone, Copy, Debug, Default, PartialEq, Eq)]
+#[repr(C)]
+pub struct Pace {
+    pub scans: u64,
+    pub round: u64,
+    pub late: u64,
+    pub load: u64,
+}
+
 /// A command: the fields of its type; the others are 0.
 #[derive(Clone, Copy, Debug, Default, PartialEq, Eq)]
 #[repr(C)]
@@ -423,6 +451,7 @@ extern "C" {
     pub(crate) fn fio2070_log_signs_batch(signs: &mut RawLogSigns, as_said: u8,
         batch: &RawLogBatch);
     pub(crate) fn fio2070_log_signs_sign(signs: &RawLogSigns) -> u8;
+    pub(crate) fn fio2070_plan(line: &Line, pace: &mut Pace) -> u8;
     pub(crate) fn fio2070_poller_start(poller: &mut RawPoller, number: u8);
     pub(crate) fn fio2070_poller_poll(poller: &RawPoller, out: *mut u8, out_count: usize) -> usize;
     pub(crate) fn fio2070_poller_hear(poller: &mut RawPoller, octets: *const u8,

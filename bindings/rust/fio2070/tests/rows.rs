@@ -134,6 +134,10 @@ fn numbers_have_texts() {
     assert_eq!(show(&[7], &mut text), Ok("unknown type 7\n"));
     assert_eq!((widen(0x10002, 65534), widen(0x10002, 2)), (65534, 0x10002));
     assert_eq!(wire_check(b"123456789"), 0x906e);
+    let line = Line { rate: 614_400, waiting: 1024, per_block: 255, inputs: 64, filter: 5, ..Line::default() };
+    let pace = plan(&line).unwrap();
+    assert_eq!((pace.scans, pace.round, pace.late, pace.load), (4, 4, 7, 833));
+    assert_eq!(plan(&Line { rate: 153_600, ..line }), None);
 }
 
 #[test]
