@@ -1,11 +1,9 @@
 -- The outcomes and the answers of a module that was started anew, as a judge of a link sees them.
-use Rattle.fio_ends.proofs.Names.{◌≡◌, ◌∙◌, ◌==◌, Accepted, Cleared, Clock, ◌⊎◌, inl, inr, ◌&&◌, not, ℕ, Bool, true, false, List, [], ◌∷◌, length, Option, Some, None, refl, ap, ap₂, sym, subst, arith, if◌then◌else◌, is_some, option_and_then, AllByRecursion, Answer, Command, IsCommand, answered_block, command_octets, says_error, ContentFacts, ContentKept, content_events, kept_with, Heard, Done, Facts, RuleLimits, first_broken_within, is_some_and, observation_of, Watchdog, AccusesNeither, Block, Excused, FrameOutcome, HaveRestarts, IsRight, Judging, Kept, Load, NotJudged, Restarted, answer_code, any_stamp_of, breach_among, breaks_answer, filter, is_answer_set_back, is_before, is_restart, stamp_of}
-use Rattle.fio_message.specs.declared.answers.Answer.TheVariants as answers
+use Rattle.fio_ends.proofs.Names.{◌≡◌, ◌∙◌, Accepted, Cleared, Clock, ◌⊎◌, ◌&&◌, ℕ, Bool, true, false, List, [], ◌∷◌, length, Option, Some, None, refl, ap, ap₂, sym, subst, arith, if◌then◌else◌, is_some, option_and_then, AllByRecursion, Answer, Command, IsCommand, answered_block, command_octets, ContentFacts, ContentKept, content_events, kept_with, Heard, Done, Facts, RuleLimits, first_broken_within, is_some_and, observation_of, Watchdog, AccusesNeither, Block, Excused, FrameOutcome, HaveRestarts, IsRight, Judging, Kept, Load, NotJudged, Restarted, any_stamp_of, breach_among, breaks_answer, filter, is_answer_set_back, is_before, is_restart, stamp_of}
 use Rattle.fio_check.specs.LinkJudges.{stamp_above}
 use Rattle.fio_check.specs.declared.content.ContentBreach.{ContentBreach}
 use Rattle.fio_check.specs.declared.observation.Observation.TheVariants as seen
 use Rattle.fio_check.specs.declared.rules.Rule.TheVariants as tried
-use Rattle.fio_check.specs.Observations.{accepts}
 use Rattle.fio_ends.proofs.ContentLines.{EventsKeep}
 use Rattle.fio_ends.proofs.JudgeStamps.{StampState, stamps_heard}
 use Rattle.fio_ends.proofs.Sends.{read_back}
@@ -42,14 +40,7 @@ one_quiet outcome outcomes is rest =
 -- the outcome of a frame below which the place is lost
 pub one_back : (outcome : FrameOutcome) (outcomes : List FrameOutcome) → (outcome ≡ Restarted) ⊎ (outcome ≡ Excused Load) → AllByRecursion IsQuiet outcomes
     → HaveOneRestart (outcome ∷ outcomes)
-one_back outcome outcomes (inl is) quiet =
-    let rest = are_quiet outcomes quiet in
-    let none = rest.none in
-    subst (λ o. HaveOneRestart (o ∷ outcomes)) (sym is) (record { none_accused = (tt, rest.none_accused); few = omega (arith, none) })
-one_back outcome outcomes (inr is) quiet =
-    let rest = are_quiet outcomes quiet in
-    let none = rest.none in
-    subst (λ o. HaveOneRestart (o ∷ outcomes)) (sym is) (record { none_accused = (tt, rest.none_accused); few = omega (arith, none) })
+one_back outcome outcomes is quiet = grind (arith, are_quiet)
 
 pub quiet_of : (outcomes : List FrameOutcome) → AllByRecursion IsRight outcomes → AllByRecursion IsQuiet outcomes
 quiet_of [] right = tt
@@ -120,11 +111,7 @@ never_asked limits facts code accepted none broken =
 
 only_watchdog : (facts : ContentFacts) (answer : Answer) → breaks_answer facts answer Done ≡ false → breaks_answer facts answer Accepted ≡ false → breaks_answer facts answer Cleared ≡ false
     → breaks_answer facts answer Clock ≡ false → IsOfWatchdog (breach_among facts 0 (Heard answer ∷ []))
-only_watchdog facts answer done accepted cleared clock = by (breaks_answer facts answer Watchdog) refl
-  where
-    by : (dog : Bool) → breaks_answer facts answer Watchdog ≡ dog → IsOfWatchdog (breach_among facts 0 (Heard answer ∷ []))
-    by true is = inr (record { items = 0; input = None; rule = Watchdog }, rw (done, accepted, cleared, is) refl, refl)
-    by false is = inl (rw (done, accepted, cleared, is, clock) refl)
+only_watchdog facts answer done accepted cleared clock = grind arith
 
 module _ (limits : RuleLimits) (above facts : Facts) (content kept : ContentKept) (same : IsSame above facts content.facts kept.facts) where
   -- the rules on content that this answer does not break
@@ -134,76 +121,17 @@ module _ (limits : RuleLimits) (above facts : Facts) (content kept : ContentKept
 
   plain : (answer : Answer) → is_some (any_stamp_of answer) ≡ false → first_broken_within limits facts (observation_of None (Some answer)) ≡ None → KeepsTwo answer
       → IsPlain limits above content (Some answer)
-  plain (answers.LoadCounter status) none rules keeps = record {
-    code = answer_code (answers.LoadCounter status);
-    accepted = accepts (answers.LoadCounter status);
-    said = refl;
-    rules = answer_alike limits above facts (answer_code (answers.LoadCounter status)) (accepts (answers.LoadCounter status)) same.awaited same.named rules;
-    found = only_watchdog content.facts (answers.LoadCounter status) keeps.done refl refl (never (content.facts.excuses == 0));
-    no_stamp = refl;
-    no_stamp_at_all = refl;
-    no_block = refl;
-  }
-  plain (answers.ConfigureInputs status) none rules keeps = record {
-    code = answer_code (answers.ConfigureInputs status);
-    accepted = accepts (answers.ConfigureInputs status);
-    said = refl;
-    rules = answer_alike limits above facts (answer_code (answers.ConfigureInputs status)) (accepts (answers.ConfigureInputs status)) same.awaited same.named rules;
-    found = only_watchdog content.facts (answers.ConfigureInputs status) refl (ap (λ n. says_error status && not n) same.absent ∙ keeps.accepted) refl (never (content.facts.excuses == 0));
-    no_stamp = refl;
-    no_stamp_at_all = refl;
-    no_block = refl;
-  }
-  plain (answers.Watchdog status) none rules keeps = record {
-    code = answer_code (answers.Watchdog status);
-    accepted = accepts (answers.Watchdog status);
-    said = refl;
-    rules = answer_alike limits above facts (answer_code (answers.Watchdog status)) (accepts (answers.Watchdog status)) same.awaited same.named rules;
-    found = only_watchdog content.facts (answers.Watchdog status) refl refl refl (never (content.facts.excuses == 0));
-    no_stamp = refl;
-    no_stamp_at_all = refl;
-    no_block = refl;
-  }
-  plain (answers.Other kind body) none rules keeps = record {
-    code = answer_code (answers.Other kind body);
-    accepted = accepts (answers.Other kind body);
-    said = refl;
-    rules = answer_alike limits above facts (answer_code (answers.Other kind body)) (accepts (answers.Other kind body)) same.awaited same.named rules;
-    found = only_watchdog content.facts (answers.Other kind body) refl refl refl (never (content.facts.excuses == 0));
-    no_stamp = refl;
-    no_stamp_at_all = refl;
-    no_block = refl;
-  }
-  plain (answers.Block number entries status stamp) none rules keeps = absurd (cc none)
-  plain (answers.Status flags receive transmit stamp) none rules keeps = absurd (cc none)
-  plain (answers.RawInputs inputs stamp) none rules keeps = absurd (cc none)
-  plain (answers.FilteredInputs inputs stamp) none rules keeps = absurd (cc none)
+  plain answer none rules keeps = grind (arith, answer_alike, never, only_watchdog)
 
 -- the same of what is heard, by what is known of the command directly above
 module _ (limits : RuleLimits) (above facts : Facts) (content kept : ContentKept) (same : (facts.awaited ≡ None) ⊎ IsSame above facts content.facts kept.facts) where
   plain_of : (answer : Answer) → is_some (any_stamp_of answer) ≡ false → first_broken_within limits facts (observation_of None (Some answer)) ≡ None
       → breaks_answer kept.facts answer Done ≡ false → breaks_answer kept.facts answer Accepted ≡ false → IsPlain limits above content (Some answer)
-  plain_of answer none rules done accepted = elim same as (λ _. IsPlain limits above content (Some answer)) [
-    | inl nothing ↦ absurd (never_asked limits facts _ _ nothing (by answer none rules))
-    | inr is ↦ plain limits above facts content kept is answer none rules (record { done = done; accepted = accepted })
-  ]
-    where
-      by : (answer : Answer) → is_some (any_stamp_of answer) ≡ false → first_broken_within limits facts (observation_of None (Some answer)) ≡ None
-          → first_broken_within limits facts (seen.Answer (answer_code answer) (accepts answer)) ≡ None
-      by (answers.Block number entries status stamp) none rules = absurd (cc none)
-      by other none rules = rules
+  plain_of answer none rules done accepted = grind (arith, kept, never_asked, plain)
 
   pub plain_heard : (answer : Option Answer) → is_some (option_and_then any_stamp_of answer) ≡ false → first_broken_within limits facts (observation_of None answer) ≡ None
       → EventsKeep Done kept.facts (content_events kept.number None answer) → EventsKeep Accepted kept.facts (content_events kept.number None answer) → IsPlain limits above content answer
-  plain_heard None none rules done accepted = absurd (let is : Some tried.Readable ≡ None = rules in cc is)
-  plain_heard (Some (answers.Block number entries status stamp)) none rules done accepted = absurd (cc none)
-  plain_heard (Some (answers.LoadCounter status)) none rules done accepted = plain_of (answers.LoadCounter status) none rules done.0 accepted.0
-  plain_heard (Some (answers.ConfigureInputs status)) none rules done accepted = plain_of (answers.ConfigureInputs status) none rules done.0 accepted.0
-  plain_heard (Some (answers.Watchdog status)) none rules done accepted = plain_of (answers.Watchdog status) none rules done.0 accepted.0
-  plain_heard (Some (answers.Other kind body)) none rules done accepted = plain_of (answers.Other kind body) none rules done.0 accepted.0
-  plain_heard (Some (answers.Status flags receive transmit stamp)) none rules done accepted = absurd (cc none)
-  plain_heard (Some (answers.RawInputs inputs stamp)) none rules done accepted = absurd (cc none)
-  plain_heard (Some (answers.FilteredInputs inputs stamp)) none rules done accepted = absurd (cc none)
+  plain_heard answer none rules done accepted = grind (arith, plain_of)
 
 -- no answer without a stamp is set back
 pub not_back : (judging : Judging) (answer : Option Answer) → option_and_then any_stamp_of answer ≡ None → is_some_and answer (is_answer_set_back judging) ≡ false

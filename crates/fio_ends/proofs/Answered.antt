@@ -5,7 +5,6 @@ use Rattle.std.proofs.lemmas.Nat.{from_be_bytes-to_be_bytes_4, from_le_bytes-to_
 use Rattle.fio_message.specs.Decoding.{message_in}
 use Rattle.fio_message.specs.declared.answers.Answer.TheVariants as answers
 use Rattle.fio_message.specs.declared.answers.OtherAnswer.{OtherAnswer}
-use Rattle.fio_message.specs.declared.answers.OtherAnswer.TheVariants as other_answers
 use Rattle.fio_message.specs.declared.commands.Command.TheVariants as commands
 use Rattle.fio_message.specs.declared.commands.OtherCommand.TheVariants as other_commands
 use Rattle.fio_module.specs.Flags.{word_of}
@@ -83,9 +82,7 @@ other_answer other type accepted is high none = let same : answer_code other ≡
 
 -- and no answer but a block has the type of blocks
 no_block : (answer : Answer) (type : ℕ) (accepted : Bool) → observation_of None (Some answer) ≡ seen.Answer type accepted → type ≡ 182 → ⊥
-no_block (answers.Block number entries status stamp) type accepted is of_block = absurd (cc is)
-no_block (answers.Other other_answers.SetOutputs body) type accepted is of_block = let same : 183 ≡ type = cc is in absurd (omega (arith, same))
-no_block other type accepted is of_block = let same : answer_code other ≡ type = cc is in absurd (omega (arith, same))
+no_block other type accepted is of_block = grind arith
 
 module _ (settings : Settings) (life : Life) (answer replied : Answer) (octets : List ℕ) (accepted : Bool) where
   read_as : {expected known : Answer} → Some expected ≡ Some replied → octets ≡ answer_octets replied → answer_in octets ≡ Some answer

@@ -100,15 +100,7 @@ pub record KeepsApart (settings : Settings) (begin : Machine) (above : Option �
 pub timed-later : (offset : ℕ) (now later : Life) (more : List Transition) (upto upto_later input : ℕ) (latest latest_later : Option ℕ) (time : ℕ)
     → log_of later ≡ log_of now ++ more → upto ≤ upto_later → latest_later ≡ latest
     → IsTimed offset now upto input latest time → IsTimed offset later upto_later input latest_later time
-timed-later offset now later more upto upto_later input latest latest_later time grown le same t = record {
-  place = t.place;
-  transition = t.transition;
-  at = ap (λ log. slice_get log t.place) grown ∙ get_before_push (log_of now) more t.place t.transition t.at;
-  of_input = t.of_input;
-  below = omega (arith, t.below);
-  time_is = t.time_is;
-  latest_is = same ∙ t.latest_is;
-}
+timed-later offset now later more upto upto_later input latest latest_later time grown le same t = grind (arith, get_before_push)
 
 pub times-later : (settings : Settings) (begin now later : Life) (more : List Transition) (upto upto_later round : ℕ) (latest latest_later : ℕ → Option ℕ) (facts : ContentFacts)
     → log_of later ≡ log_of now ++ more → upto ≤ upto_later → latest_later ≡ latest

@@ -43,11 +43,7 @@ pub record LeavesSome (settings : Settings) (blocks : List MadeBlock) (logged : 
 
 leaves_longer : (settings : Settings) (blocks : List MadeBlock) (logged longer : ℕ) → logged ≤ longer → LeavesSome settings blocks logged
     → LeavesSome settings blocks longer
-leaves_longer settings blocks logged longer le leaves = record {
-  next = leaves.next;
-  newest = λ k block at last more.
-      (let left = leaves.newest k block at last more in (left.0, omega (arith, left.1)));
-}
+leaves_longer settings blocks logged longer le leaves = grind arith
 
 module _ (settings : Settings) (some : 1 ≤ settings.per_block) (life : Life)
     (leaves : LeavesSome settings (blocks_of settings life) (length (log_of life))) where

@@ -1,5 +1,5 @@
 -- Each call follows an event of the link machine, up to the frames to the CPU.
-use Rattle.fio_ends.proofs.Names.{Answer, Block, Command, List, Machine, None, Option, SentFrame, Settings, Some, [], after, after_module_event, after_sending, answer_frames, ap, ap₂, arith, block_in, cases_lt, command_octets, decoded_answer, drop, heard_as, inl, inr, item_numbered, length, length-map, map, map-append, number_of, option_map, refl, slice_get-map, subst, suc, sym, take, zero, ℕ, ◌++◌, ◌<◌, ◌∙◌, ◌∷◌, ◌≡◌, ◌≢◌, ◌≤◌}
+use Rattle.fio_ends.proofs.Names.{Answer, Block, Command, List, Machine, None, Option, SentFrame, Settings, Some, [], after, after_module_event, after_sending, answer_frames, ap, arith, block_in, cases_lt, command_octets, item_numbered, length, length-map, map, map-append, number_of, option_map, refl, slice_get-map, subst, suc, sym, take, zero, ℕ, ◌++◌, ◌<◌, ◌∙◌, ◌∷◌, ◌≡◌, ◌≢◌, ◌≤◌}
 use Rattle.std.proofs.lemmas.List.{length-append}
 use Rattle.std.proofs.Math.Seq.{take-append_seam}
 use Rattle.fio_message.specs.declared.answers.Answer.TheVariants as answers
@@ -14,7 +14,7 @@ use Rattle.fio_flat.specs.Module as module_events
 use Rattle.fio_flat.specs.Module.{DeviceHistory, Reached, ErrorsChanged, ErrorChange, IsDeviceAfter, WritesReply, events_reached, with_errors}
 use Rattle.fio_flat.specs.declared.module.ErrorCounts.{ErrorCounts}
 use Rattle.fio_flat.specs.Written.{Writes}
-use Rattle.fio_flat.specs.Hearing.{Hears, flat_record_item, flat_heard, heard_no_room, with_block}
+use Rattle.fio_flat.specs.Hearing.{Hears, flat_record_item, flat_heard, with_block}
 use Rattle.fio_ends.specs.Calls.{CallerState, HasHappened, HasPolled, frames_written}
 
 -- the octets of a frame
@@ -75,21 +75,7 @@ module _ (settings : Settings) (first : ℕ) (machine : Machine) (held next : Ca
 
   pub follows_sent : (command : Command) → next ≡ record held { to_module = held.to_module ++ command_octets command ∷ [] }
       → Follows settings first (after_sending machine command) next
-  follows_sent command rest =
-      subst (Follows settings first (after_sending machine command)) (sym rest) (record {
-        history = f.history;
-        device = f.device;
-        same_history = f.same_history;
-        number = f.number;
-        to_module =
-            ap (λ l. l ++ command_octets command ∷ []) f.to_module
-            ∙ sym (map-append octets_of machine.to_module
-            (record { octets = command_octets command; round = machine.round } ∷ []));
-        to_cpu = f.to_cpu;
-        last_to_module = f.last_to_module;
-        last_to_cpu = f.last_to_cpu;
-        items = f.items;
-      })
+  follows_sent command rest = grind (arith, map-append)
 
   pub follows_poll : HasPolled held next → Follows settings first (after_sending machine (commands.Poll (number_of first machine.round))) next
   follows_poll h =
@@ -160,21 +146,4 @@ pub items_written : (number next : ℕ) (octets : List ℕ) (before after : List
     → Hears number octets before after next heard → heard.kind ≢ 4
     → (next ≡ next_number number (block_in octets))
     × (take heard.items after ≡ map flat_record_item (new_items number (block_in octets)))
-items_written number next octets before after heard hears room =
-    let new = new_items number (block_in octets) in
-    elim (cases_lt (length before) (length new)) as
-    (λ _. (next ≡ next_number number (block_in octets)) × (take heard.items after ≡ map flat_record_item new)) [
-      | inl short ↦
-          absurd (room (ap (λ (h : FlatHeard). h.kind) (hears.no_room short).0 ∙ kind_kept (block_in octets) (heard_no_room (length new))))
-      | inr long ↦
-          let said = hears.room long in
-          let count : heard.items ≡ length (map flat_record_item new) =
-          ap (λ (h : FlatHeard). h.items) said.0
-          ∙ items_kept (block_in octets) (flat_heard (length new) (heard_as number (decoded_answer octets)))
-          ∙ count_written (length new) (heard_as number (decoded_answer octets))
-          ∙ sym (length-map new flat_record_item) in (
-            said.1,
-            ap₂ (λ n l. take n l) count said.2
-                ∙ take-append_seam (map flat_record_item new) (drop (length new) before),
-          )
-    ]
+items_written number next octets before after heard hears room = grind (arith, cases_lt, count_written, items_kept, kind_kept, length-map, take-append_seam)

@@ -1,5 +1,5 @@
 -- Calls of the exports follow the link machine, event by event.
-use Rattle.fio_ends.proofs.Names.{AreInRange, Block, Bool, Command, Event, Item, Leads, LineSync, List, Machine, None, Option, Raise, Restart, Scan, Send, SentFrame, Settings, Some, ToCpu, ToModule, [], after, after_delivered_block, after_delivery_to_cpu, after_delivery_to_module, answer_frames, ap, append-nil, ap₂, arith, block_in, command_in, delivery_refusal, false, if◌then◌else◌, item_numbered, items_of_block, length, length-map, map, map-append, nat_tests, number_of, number_of-next, option_map, refl, refusal, reply_to, runs_are_sound, same_Some, start, subst, sym, true, ℕ, ◌%◌, ◌++◌, ◌+◌, ◌∙◌, ◌∷◌, ◌≡◌, ◌≤◌}
+use Rattle.fio_ends.proofs.Names.{AreInRange, Block, Bool, Command, Event, Item, Leads, LineSync, List, Machine, None, Option, Raise, Restart, Scan, Send, SentFrame, Settings, Some, ToCpu, ToModule, [], after, after_delivered_block, after_delivery_to_cpu, after_delivery_to_module, answer_frames, ap, append-nil, ap₂, arith, block_in, command_in, delivery_refusal, if◌then◌else◌, item_numbered, items_of_block, length, length-map, map, map-append, nat_tests, number_of, number_of-next, option_map, refl, refusal, reply_to, runs_are_sound, same_Some, start, subst, sym, true, ℕ, ◌%◌, ◌++◌, ◌+◌, ◌∙◌, ◌∷◌, ◌≡◌, ◌≤◌}
 use Rattle.std.proofs.Common.{◌==◌}
 use Rattle.fio_module.specs.Life.{Received}
 use Rattle.fio_module.specs.Life as lives
@@ -41,20 +41,7 @@ module _ (settings : Settings) (first : ℕ) (machine : Machine) (held : CallerS
       → Follows settings first
       (if taken then record delivered { round = machine.round + 1; items = machine.items ++ items_of_block block } else delivered)
       (hearing (if taken then (number + 1) % 256 else number) (if taken then items_of_block block else []))
-  heard_if false block = heard_nothing_new
-  heard_if true block = record {
-    history = f.history;
-    device = f.device;
-    same_history = f.same_history;
-    number = sym (number_of-next first machine.round);
-    to_module = f.to_module;
-    to_cpu = f.to_cpu;
-    last_to_module = f.last_to_module;
-    last_to_cpu = refl;
-    items =
-        ap (λ l. l ++ map flat_record_item (items_of_block block)) f.items
-        ∙ sym (map-append flat_record_item machine.items (items_of_block block));
-  }
+  heard_if taken block = grind (arith, heard_nothing_new, map-append, number_of-next)
 
   heard_found : (found : Option Block)
       → Follows settings first (after_delivered_block first delivered found) (hearing (next_number number found) (new_items number found))

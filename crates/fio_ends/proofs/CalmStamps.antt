@@ -1,5 +1,5 @@
 -- What the judge of a link keeps of stamps where no load takes effect.
-use Rattle.fio_ends.proofs.Names.{◌≡◌, ◌∙◌, ℕ, Bool, true, false, List, Option, Some, None, refl, ap, ap₂, sym, arith, ◌==◌, if◌then◌else◌, option_and_then, Answer, answer_in, facts_with, is_some_and, Facts, observation_in, observation_of, Judging, is_answer_set_back, judging_at, judging_kept, judging_taken, option_or, stamp_in, stamp_of}
+use Rattle.fio_ends.proofs.Names.{◌≡◌, ◌∙◌, ℕ, Bool, true, false, List, Option, Some, None, refl, ap, arith, option_and_then, Answer, answer_in, facts_with, is_some_and, Facts, observation_in, observation_of, Judging, is_answer_set_back, judging_at, judging_kept, option_or, stamp_of}
 use Rattle.std.specs.Prelude.{◌||◌}
 use Rattle.fio_check.specs.LinkJudges.{asked_below}
 use Rattle.fio_check.specs.declared.observation.Observation.TheVariants as seen
@@ -51,31 +51,12 @@ module _ (judging : Judging) (s : StampState) (polled : Option ℕ) (h : HasStam
 -- below a frame that is kept it is the same
 pub heard_stamps : (judging : Judging) (s : StampState) (facts : Facts) (octets : List ℕ) → HasStamps judging facts.polled s
     → HasStamps (judging_kept judging false octets) (facts_with facts (observation_in false octets)).polled (stamps_heard s (answer_in octets))
-heard_stamps judging s facts octets h =
-    let answer = answer_in octets in
-    let stamp = stamp_in false octets in
-    let taken = judging_taken judging judging.checker false octets in
-    let rest = heard_rest judging s facts.polled h answer in
-    record {
-      latest = latest_at taken stamp ∙ heard_latest judging s facts.polled h answer;
-      asked = asked_at taken stamp ∙ heard_asked judging s facts.polled h answer ∙ h.asked ∙ sym rest.0;
-      polled = heard_polled judging s facts.polled h facts answer ∙ h.polled ∙ sym rest.1;
-    }
+heard_stamps judging s facts octets h = grind (arith, asked_at, heard_asked, heard_latest, heard_polled, heard_rest, latest_at)
 
 pub polled_stamps : (judging : Judging) (s : StampState) (facts : Facts) (octets : List ℕ) (number : ℕ) → judging.checker.facts ≡ facts → observation_in true octets ≡ seen.Poll number
     → HasStamps judging facts.polled s → HasStamps (judging_kept judging true octets) (facts_with facts (observation_in true octets)).polled (stamps_polled s number)
-polled_stamps judging s facts octets number known says h = record {
-  latest = h.latest;
-  asked = ap (asked_below judging) says ∙ ap (λ (f : Facts). option_and_then (λ polled. if number == polled then judging.asked else judging.latest) f.polled) known
-      ∙ ap₂ (λ asked latest. option_and_then (λ polled. if number == polled then asked else latest) facts.polled) h.asked h.latest
-      ∙ ap (option_and_then (λ polled. if number == polled then s.asked else s.latest)) h.polled;
-  polled = ap (λ said. (facts_with facts said).polled) says;
-}
+polled_stamps judging s facts octets number known says h = grind arith
 
 pub sent_stamps : (judging : Judging) (s : StampState) (facts : Facts) (octets : List ℕ) (answer : ℕ) (absent : Bool) → observation_in true octets ≡ seen.Command answer absent
     → HasStamps judging facts.polled s → HasStamps (judging_kept judging true octets) (facts_with facts (observation_in true octets)).polled s
-sent_stamps judging s facts octets answer absent says h = record {
-  latest = h.latest;
-  asked = ap (asked_below judging) says ∙ h.asked;
-  polled = ap (λ said. (facts_with facts said).polled) says ∙ h.polled;
-}
+sent_stamps judging s facts octets answer absent says h = grind arith

@@ -164,8 +164,4 @@ clock_above begun = record { asked = 0; before = scans_above begun }
 
 -- at the start of both ends the counter is that of the block above
 pub clock_begun : KeepsClock [] (clock_above true) [] start content_begun
-clock_begun = record {
-  stamped = λ stamp at.
-      subst (IsStamped (offset_of []) [] (Some 0)) (same_Some _ _ at)
-      (record { scans = 0; before_is = refl; time = refl; within = omega arith });
-}
+clock_begun = grind (arith, offset_of, same_Some, time)

@@ -1,5 +1,5 @@
 -- Where no load of the counter takes effect since a life, each counter since then is the scans and an offset.
-use Rattle.fio_ends.proofs.Names.{◌≡◌, ◌∙◌, ◌∷◌, ◌+◌, ◌-◌, ◌%◌, ◌^◌, ◌<◌, ◌≤◌, ℕ, true, false, Some, sym, subst, arith, slice_get, Settings, Life, Scanned, loads_of, scans_of, Transition, MadeBlock, each-at, BlockTimely, IsTimely, counter_of, is_before, is_later, milliseconds_between}
+use Rattle.fio_ends.proofs.Names.{◌≡◌, ◌∷◌, ◌+◌, ◌-◌, ◌%◌, ◌^◌, ◌<◌, ◌≤◌, ℕ, true, false, Some, sym, subst, arith, slice_get, Settings, Life, Scanned, loads_of, scans_of, Transition, MadeBlock, each-at, BlockTimely, counter_of, is_before, is_later, milliseconds_between}
 use Rattle.fio_input.specs.Counter.{counter}
 use Rattle.fio_input.specs.Widening.{wide_time_of}
 use Rattle.fio_input.proofs.Ticks.{counter-append}
@@ -72,22 +72,10 @@ module _ (begin now : Life) (g : GoesOn begin now) (steady : loads_of now ≡ lo
     pub upto : block.scans ≤ scans_of now
 
   pub block_stamped : (settings : Settings) (block : MadeBlock) → IsMadeSince settings begin now block → IsStamped block
-  block_stamped settings block m =
-      let low = loads_grow begin m.life m.begun in
-      let high = loads_grow m.life now m.upto in
-      let loads : loads_of m.life ≡ loads_of begin = omega arith in
-      subst IsStamped (sym m.is)
-      (record {
-        stamp = counter_is_clock begin m.life m.begun loads;
-        loads = loads;
-        from_begin = scans_grow begin m.life m.begun;
-        upto = scans_grow m.life now m.upto;
-      })
+  block_stamped settings block m = grind (arith, counter_is_clock, loads_grow, scans_grow)
 
   -- the wide time of an entry that waited briefly
   pub wide_is : (block : MadeBlock) (transition : Transition) → BlockTimely block → (k : ℕ) → slice_get block.transitions k ≡ Some transition
       → IsStamped block → IsClocked transition → block.scans < transition.scans + 2 ^ 16
       → wide_time_of block.stamp (transition.counter % 2 ^ 16) ≡ clock offset transition.scans
-  wide_is block transition timely k at stamped clocked brief =
-      let t = each-at (IsTimely block.stamp block.scans block.loads) block.transitions k transition timely at in
-      wide_time block transition t (record { few_scans = brief; no_load = stamped.loads ∙ sym clocked.loads }) ∙ clocked.counter
+  wide_is block transition timely k at stamped clocked brief = grind (arith, each-at, wide_time)

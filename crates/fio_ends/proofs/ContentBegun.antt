@@ -1,5 +1,5 @@
 -- What is above a log that begins with both ends: events that break no rule, and what is known of each input.
-use Rattle.fio_ends.proofs.Names.{◌∙◌, None, Answer, content_step, ◌≡◌, ◌<◌, ◌&&◌, ◌++◌, not, ℕ, Bool, true, false, [], ◌∷◌, refl, ap, sym, subst, arith, if◌then◌else◌, nat_lt, ContentFacts, content_with, no_content, Ended, Heard, Sent, ContentRule, Accepted, Clock, State, KeepsRule, block_answer, breaks_answer, broken_state, events_above, gap_if, items_and_end, no_input, sent_step, step_only}
+use Rattle.fio_ends.proofs.Names.{◌∙◌, None, Answer, content_step, ◌≡◌, ◌<◌, ℕ, Bool, [], ◌∷◌, refl, ap, arith, if◌then◌else◌, nat_lt, ContentFacts, content_with, no_content, Ended, Heard, Sent, ContentRule, State, KeepsRule, block_answer, broken_state, events_above, no_input, sent_step, step_only}
 use Rattle.fio_message.specs.declared.answers.Answer.TheVariants as answers
 use Rattle.fio_check.specs.ContentFacts.{input_begun}
 use Rattle.fio_check.proofs.ContentStart.{block_at_start, command_at_start, no_again, no_error, no_lost}
@@ -33,15 +33,10 @@ none_heard : (facts : ContentFacts) (answer : Answer) → facts.seen ≡ None �
 none_heard facts answer none = ap (broken_state facts (Heard answer)) none
 
 taken_keeps : (rule : ContentRule) → KeepsRule rule sent_facts (Heard (answers.ConfigureInputs 0))
-taken_keeps Accepted = ap (λ error. error && not sent_facts.absent_named) no_error
-taken_keeps Clock = ap (λ facts. breaks_answer facts (answers.ConfigureInputs 0) Clock) sent_is ∙ refl
-taken_keeps State = none_heard sent_facts (answers.ConfigureInputs 0) (ap (λ (facts : ContentFacts). facts.seen) sent_is)
-taken_keeps rule = refl
+taken_keeps rule = grind (arith, no_error, none_heard, sent_is)
 
 heard_keeps : (rule : ContentRule) → KeepsRule rule taken_facts (Heard (block_answer block_at_start))
-heard_keeps Clock = ap (λ facts. breaks_answer facts (block_answer block_at_start) Clock) taken_is ∙ rw no_again refl
-heard_keeps State = none_heard taken_facts (block_answer block_at_start) (ap (λ (facts : ContentFacts). facts.seen) taken_is)
-heard_keeps rule = refl
+heard_keeps rule = grind (arith, block_at_start, no_again, none_heard, taken_is)
 
 ended_keeps : (rule : ContentRule) → EventsKeep rule heard_facts (Ended 0 0 ∷ [])
 ended_keeps State = (ap (broken_state heard_facts (Ended 0 0)) (ap (λ (facts : ContentFacts). facts.seen) heard_is), tt)
@@ -49,14 +44,7 @@ ended_keeps rule = (tt, tt)
 
 -- the events above a log break no rule
 pub start_keeps : (rule : ContentRule) (begun : Bool) → EventsKeep rule no_content (events_above begun)
-start_keeps rule false = tt
-start_keeps rule true = (
-  sent_keeps rule no_content command_at_start,
-  (
-    taken_keeps rule,
-    (heard_keeps rule, subst (λ lost. EventsKeep rule heard_facts (items_and_end (gap_if lost ++ []) 0 0)) (sym no_lost) (ended_keeps rule)),
-  ),
-)
+start_keeps rule begun = grind (arith, command_at_start, ended_keeps, heard_keeps, no_lost, sent_keeps, taken_keeps)
 
 -- ---- each input
 

@@ -21,13 +21,7 @@ pub record Agrees (settings : Settings) (first : ℕ) (machine : Machine) (facts
 
 pub agrees-start : (settings : Settings) (begun : Bool) (first : ℕ) (machine : Machine) → PollsKnown settings machine (kept_at_start begun).facts
     → Agrees settings first machine no_facts (kept_at_start begun)
-agrees-start settings begun first machine polls =
-    record {
-      number = λ polled is. absurd (cc is);
-      unpolled = λ is. refl;
-      awaits = λ code command is. absurd (cc is);
-      polls = polls;
-    }
+agrees-start settings begun first machine polls = grind arith
 
 -- where the number is another or none, and the facts say the same, all else that is kept may be another
 pub agrees-below : (settings : Settings) (first : ℕ) (machine later : Machine) (facts : Facts) (kept : ContentKept) → later.round ≡ machine.round
@@ -55,15 +49,7 @@ pub one_frame : (settings : Settings) (rule : ContentRule) (P : Machine → Cont
     → EventsKeep rule kept.facts events → P machine (fold content_with kept.facts events)
     → Agrees settings first machine (facts_with facts said) (record { number = number; facts = fold content_with kept.facts events })
     → KeepsContent settings rule P first facts kept (frame ∷ []) machine
-one_frame settings rule P first facts kept frame machine said number events says below are keep holds agrees =
-    record {
-      keep = (subst (EventsKeep rule kept.facts) (sym are) keep, tt);
-      holds = subst (λ es. P machine (fold content_with kept.facts es)) (sym are) holds;
-      agrees =
-          subst (λ s. Agrees settings first machine (facts_with facts s) (content_below kept (frame ∷ []))) (sym says)
-          (subst (λ n. Agrees settings first machine (facts_with facts said) (record { number = n; facts = fold content_with kept.facts (events_in kept.number frame.from_cpu frame.octets) })) (sym below)
-          (subst (λ es. Agrees settings first machine (facts_with facts said) (record { number = number; facts = fold content_with kept.facts es })) (sym are) agrees));
-    }
+one_frame settings rule P first facts kept frame machine said number events says below are keep holds agrees = grind (arith, content_below)
 
 -- ---- a command is sent
 

@@ -1,4 +1,5 @@
 -- What is to be shown of an invariant, event by event, so that a rule on content never accuses.
+use Rattle.std.proofs.Common.{arith}
 use Rattle.fio_ends.proofs.Names.{◌≡◌, ◌+◌, ◌<◌, ◌≤◌, ℕ, true, false, List, ◌∷◌, length, Some, None, is_some, fold, slice_get, Answer, Command, Block, IsCommand, answer_in, command_in, says_again, Settings, Life, life_of, MadeBlock, newest_poll, is_new, ContentFacts, content_with, no_content, Heard, Sent, events_of_block, names_absent, ContentRule, Event, SentFrame, Machine, number_of, sending_refusal, after, after_sending, after_delivery_to_module, HasBlock, blocks_in, after_taken, IsKept, CarriesBlock, KeepsRule, item_for, items_sent}
 use Rattle.fio_message.specs.declared.commands.Command.TheVariants as commands
 use Rattle.fio_check.specs.ContentAbove.{flags_cleared}
@@ -17,14 +18,7 @@ IsPastBus other = ⊥
 
 -- what is shown of each of them
 pub past_cases : (P : Event → Type 0) → ((raw : ℕ) → P (events.Scan raw)) → P events.LineSync → ((mask : ℕ) → P (events.Raise mask)) → (event : Event) → IsPastBus event → P event
-past_cases P scan sync raise (events.Scan raw) past = scan raw
-past_cases P scan sync raise events.LineSync past = sync
-past_cases P scan sync raise (events.Raise mask) past = raise mask
-past_cases P scan sync raise events.Poll past = absurd past
-past_cases P scan sync raise (events.Send command) past = absurd past
-past_cases P scan sync raise (events.ToModule index) past = absurd past
-past_cases P scan sync raise (events.ToCpu index) past = absurd past
-past_cases P scan sync raise events.Restart past = absurd past
+past_cases P scan sync raise event past = grind arith
 
 -- an event sends this command, as the CPU's end may
 abbrev pub IsSending : ℕ → Machine → Event → Command → Type 0

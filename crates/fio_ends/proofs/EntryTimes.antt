@@ -1,5 +1,5 @@
 -- The times of a block that the CPU takes in a log, and of its entries.
-use Rattle.fio_ends.proofs.Names.{◌≡◌, ◌∙◌, ◌+◌, ◌^◌, ◌<◌, ◌≤◌, ℕ, false, length, Some, ap, sym, arith, slice_get, AllByRecursion, length-append, Block, says_again, Settings, Life, life_of, loads_of, log_of, Transition, entry_of, MadeBlock, blocks_of, Machine, each-at, BlockTimely, blocks_timely, blocks_without_more_take_all}
+use Rattle.fio_ends.proofs.Names.{◌≡◌, ◌∙◌, ◌+◌, ◌^◌, ◌<◌, ◌≤◌, ℕ, false, length, Some, ap, arith, slice_get, AllByRecursion, length-append, Block, says_again, Settings, Life, life_of, loads_of, log_of, Transition, entry_of, MadeBlock, blocks_of, Machine, each-at, BlockTimely, blocks_timely, blocks_without_more_take_all}
 use Rattle.fio_input.specs.Widening.{wide_time_of}
 use Rattle.fio_ends.proofs.Clocks.{IsClocked, block_stamped, clock, offset_of, transition_clocked, wide_is}
 use Rattle.fio_ends.proofs.ContentSteps.{IsKnown, Takes}
@@ -36,10 +36,7 @@ module _ (settings : Settings) (first : ℕ) (begin : Machine) (from : Life) (ma
 
   -- and where it has no C it took all that was logged then
   pub end_is : (few : length (blocks_of settings begin_life) ≤ machine.round) → block.more ≡ false → block.end ≡ length (log_of (made few).life)
-  end_is few all =
-      let m = made few in
-      let took = blocks_without_more_take_all settings m.life (ap (λ (b : MadeBlock). b.more) (sym m.is) ∙ all) in
-      ap (λ (b : MadeBlock). b.end) m.is ∙ took
+  end_is few all = grind (arith, blocks_without_more_take_all, made)
 
   timely : BlockTimely block
   timely = each-at BlockTimely (blocks_of settings now) machine.round block (blocks_timely settings now) t.made

@@ -1,6 +1,6 @@
 -- A life of a module that has logged any given entries, and stands at any levels, counter and open inputs, with filters of one
 -- sample: before each entry its input alone is opened, and the counter is loaded.
-use Rattle.fio_ends.proofs.Names.{◌≡◌, ◌≢◌, ◌∙◌, ◌+◌, ◌<◌, ◌≤◌, ◌%◌, ◌^◌, ◌==◌, inl, ℕ, zero, suc, Bool, true, false, not, List, [], ◌∷◌, ◌++◌, length, map, None, refl, ap, ap₂, sym, arith, if◌then◌else◌, nat_lt, nat_tests, append_assoc, append-nil, beq, AllByRecursion, Life, Scanned, scans_of, loads_of, Transition, entry_of, log_of, newest_poll, blocks_of, Settings, map_push}
+use Rattle.fio_ends.proofs.Names.{◌≡◌, ◌∙◌, ◌+◌, ◌<◌, ◌^◌, ◌==◌, inl, ℕ, zero, suc, Bool, true, false, not, List, [], ◌∷◌, ◌++◌, length, map, None, refl, ap, ap₂, sym, arith, if◌then◌else◌, nat_lt, nat_tests, append_assoc, append-nil, beq, AllByRecursion, Life, Scanned, scans_of, loads_of, Transition, entry_of, log_of, newest_poll, blocks_of, Settings, map_push}
 use Rattle.std.specs.Prelude.{◌*◌}
 use Rattle.fio_message.specs.declared.fields.Entry.{Entry}
 use Rattle.fio_module.specs.Flags.{word_of}
@@ -61,31 +61,11 @@ module _ (entry : Entry) (life : Life) where
       by : (is : Bool) → (count == entry.input) ≡ is
           → (if nat_lt entry.input count then the_change ∷ [] else []) ++ (if is then change_at the_levels alone load_before (scans_of opened) (loads_of opened) 1 count ∷ [] else [])
           ≡ (if nat_lt entry.input (suc count) then the_change ∷ [] else [])
-      by true at =
-          let same : count ≡ entry.input = grind (arith, nat_tests) in
-          let above : nat_lt entry.input count ≡ false = grind (arith, nat_tests) in
-          let below : nat_lt entry.input (suc count) ≡ true = grind (arith, nat_tests) in
-          rw (above, below) (ap (λ i. change_at the_levels alone load_before (scans_of opened) (loads_of opened) 1 i ∷ []) same)
-      by false at =
-          let other : count ≢ entry.input = grind (arith, nat_tests) in
-          let alike : nat_lt entry.input count ≡ nat_lt entry.input (suc count) = tests (nat_lt entry.input count) (nat_lt entry.input (suc count)) refl refl in
-          append-nil _ ∙ ap (λ (b : Bool). if b then the_change ∷ [] else []) alike
-        where
-          tests : (a b : Bool) → nat_lt entry.input count ≡ a → nat_lt entry.input (suc count) ≡ b → a ≡ b
-          tests true true p q = refl
-          tests false false p q = refl
-          tests true false p q = absurd (let low : entry.input < count = grind (arith, nat_tests) in let high : suc count ≤ entry.input = grind (arith, nat_tests) in omega arith)
-          tests false true p q = absurd (let high : count ≤ entry.input = grind (arith, nat_tests) in let low : entry.input < suc count = grind (arith, nat_tests) in let ne : count ≢ entry.input = grind (arith, nat_tests) in omega arith)
+      by is at = grind (arith, change_at, nat_tests)
 
   module _ (low : entry.input < 64) (fits : entry.stamp < 2 ^ 16) where
     entry_is : entry_of the_change ≡ entry
-    entry_is =
-        let level : new_level entry.input ≡ entry.level = ap (λ (b : Bool). if b then entry.level else not entry.level) (itself entry.input) in
-        let stamp : (load_before + 1) % 2 ^ 32 % 2 ^ 16 ≡ entry.stamp = omega arith in
-        ap₂ (λ (l : Bool) (t : ℕ). record { input = entry.input; level = l; stamp = t }) level stamp
-      where
-        itself : (n : ℕ) → (n == n) ≡ true
-        itself n = grind (arith, nat_tests)
+    entry_is = grind (arith, nat_tests)
 
     log_is : log_of logs_entry ≡ log_of life ++ the_change ∷ []
     log_is =

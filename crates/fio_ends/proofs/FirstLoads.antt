@@ -1,5 +1,5 @@
 -- In a log that begins with both ends no more loads of the counter take effect than are sent in it: each frame is received once.
-use Rattle.fio_ends.proofs.Names.{◌≡◌, ◌+◌, ◌<◌, ◌≤◌, ℕ, zero, suc, Bool, true, false, List, [], ◌∷◌, ◌++◌, take, Option, Some, None, refl, ap, subst, arith, if◌then◌else◌, ◌==◌, slice_get, AllByRecursion, same_Some, Block, Command, IsCommand, block_in, command_in, command_octets, asked_number, counter_events, Settings, Life, LineSynced, life_of, life_after_command, loads_of, Event, SentFrame, Machine, start, number_of, after_sending, after_delivery_to_module, after_delivered_block, after_delivery_to_cpu, after, Leads, item_numbered, HaveNoRestart, ArePrompt, IsPrompt, IsNotRestart, refusal, due_after, IsWithinRanges, number_of-fits, after_delivery, items_of_block, LoadsAreSent, loads_sent}
+use Rattle.fio_ends.proofs.Names.{◌≡◌, ◌+◌, ◌<◌, ◌≤◌, ℕ, zero, suc, List, [], ◌∷◌, ◌++◌, take, Option, Some, None, refl, ap, subst, arith, slice_get, AllByRecursion, same_Some, Command, IsCommand, command_in, asked_number, counter_events, Settings, Life, LineSynced, life_of, life_after_command, loads_of, Event, SentFrame, Machine, start, number_of, after_sending, after_delivery_to_module, after_delivery_to_cpu, after, Leads, item_numbered, HaveNoRestart, ArePrompt, IsPrompt, IsNotRestart, refusal, due_after, IsWithinRanges, number_of-fits, after_delivery, LoadsAreSent, loads_sent}
 use Rattle.fio_message.specs.declared.commands.Command.TheVariants as commands
 use Rattle.fio_link.specs.declared.event.Event.TheVariants as events
 use Rattle.fio_ends.proofs.Sends.{read_back}
@@ -71,27 +71,12 @@ counted-most machine sent c = omega (arith, c.all, c.asked, front-all machine.la
 
 -- a command is sent
 counted-sent : (machine : Machine) (sent : ℕ) (command : Command) → IsCommand command → IsCounted machine sent → IsCounted (after_sending machine command) (sent + is_load (Some command))
-counted-sent machine sent command within c =
-    let frame : SentFrame = record { octets = command_octets command; round = machine.round } in
-    let reads : is_load (command_in frame.octets) ≡ is_load (Some command) = ap is_load (read_back command within) in
-    let more = among-append machine.to_module frame in
-    let front = front-append machine.last_to_module machine.to_module frame in
-    record { all = omega (arith, c.all, reads, more); asked = omega (arith, c.asked, front) }
+counted-sent machine sent command within c = grind (arith, among-append, front-append, read_back)
 
 -- the CPU hears a frame
 counted-heard : (first : ℕ) (machine : Machine) (sent index : ℕ) (found : Option SentFrame) → IsCounted machine sent
     → IsCounted (after_delivery_to_cpu first machine index found) sent
-counted-heard first machine sent index None c = record { all = c.all; asked = c.asked }
-counted-heard first machine sent index (Some frame) c = by_block (block_in frame.octets)
-  where
-    by_number : (same : Bool) (block : Block)
-        → IsCounted (if same then (record machine { last_to_cpu = index; round = machine.round + 1; items = machine.items ++ items_of_block block }) else (record machine { last_to_cpu = index })) sent
-    by_number true block = record { all = c.all; asked = c.asked }
-    by_number false block = record { all = c.all; asked = c.asked }
-
-    by_block : (block : Option Block) → IsCounted (after_delivered_block first (record machine { last_to_cpu = index }) block) sent
-    by_block None = record { all = c.all; asked = c.asked }
-    by_block (Some block) = by_number (block.number == number_of first machine.round) block
+counted-heard first machine sent index found c = grind arith
 
 module _ (settings : Settings) (first : ℕ) where
   -- the module receives one, for the first time

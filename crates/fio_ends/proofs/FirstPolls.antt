@@ -76,14 +76,7 @@ module _ (settings : Settings) (frames : List SentFrame) (polls : List ℕ) (las
     (p : KnowsPolls settings frames polls last round now clear polled since) where
   happened : (occurrence : Occurrence) → blocks_of settings (occurrence ∷ now) ≡ blocks_of settings now → ((input : ℕ) → LeavesInput input occurrence)
       → KnowsPolls settings frames polls last round (occurrence ∷ now) clear polled since
-  happened occurrence same leaves = record {
-    unpolled = p.unpolled;
-    first_poll = λ on held. (let h = p.first_poll on held in record { place = h.place; inside = h.inside; earlier = h.earlier; names = h.names; below = by h.place h.below });
-  }
-    where
-      by : (place : ℕ) → IsBelow settings frames last round now since place → IsBelow settings frames last round (occurrence ∷ now) since place
-      by place (inl early) = inl (omega (arith, early, ap length same))
-      by place (inr late) = inr (late.0, left-more settings round now since occurrence (λ input free. leaves input) late.1)
+  happened occurrence same leaves = grind (arith, left-more)
 
   pub polls_scanned : (raw : ℕ) → KnowsPolls settings frames polls last round (Scanned raw ∷ now) clear polled since
   polls_scanned raw = happened (Scanned raw) refl (λ input. tt)
@@ -234,7 +227,4 @@ polls_begin settings frames polls last round now polled since = record { unpolle
 
 -- with both ends
 pub polls_begun : (settings : Settings) (since : ℕ → Bool) → KnowsPolls settings [] [] 0 0 [] true false since
-polls_begun settings since = record {
-  unpolled = λ on free. record { sent = λ place n r low has. absurd (cc has.at_place); received = omega arith };
-  first_poll = λ on held. absurd (cc held);
-}
+polls_begun settings since = grind arith

@@ -102,13 +102,7 @@ module _ (target : ℕ → Bool) (life : Life) where
   start_count = loaded_number (counter_events closed) + ticks_after_load (counter_events closed)
 
   closed_levels : HasLevels (two_levels states target) (λ input. false) start_count (scans_of life) (loads_of life) closed 0
-  closed_levels = record {
-    counter = omega arith;
-    scans = omega arith;
-    loads_are = refl;
-    setting = λ input low. inl (setting_is (λ input. true) life input low);
-    state = state_is (λ input. true) life;
-  }
+  closed_levels = grind (arith, setting_is, state_is)
 
   turned_states : (input : ℕ) → input < 64 → input_state input (filter_events turned) ≡ target input
   turned_states = (levels-scan (two_levels states target) (λ input. false) start_count (scans_of life) (loads_of life) closed 0 closed_levels).state

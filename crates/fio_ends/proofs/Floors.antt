@@ -1,6 +1,5 @@
 -- A floor: each entry that is still to be recorded comes after it.
-use Rattle.fio_ends.proofs.Names.{◌≡◌, ◌∙◌, ◌-◌, ◌<◌, ◌≤◌, ◌&&◌, ◌||◌, inl, inr, ℕ, Bool, true, false, not, ◌∷◌, length, Option, Some, None, refl, ap, sym, arith, ◌==◌, slice_get, nat_lt, nat_tests, is_some_and, Settings, Life, life_of, Scanned, scans_of, log_of, Transition, ContentFacts, Machine, get_in_front, Floor, IsNear, blocks_taken, cases_lt, comes_after, get_in_back, is_later, is_out_of_order, is_stale, scans_now}
-use Rattle.fio_module.specs.Log.{transitions_below}
+use Rattle.fio_ends.proofs.Names.{◌≡◌, ◌≤◌, ◌&&◌, ◌||◌, ℕ, Bool, true, false, not, ◌∷◌, Option, Some, None, refl, ap, arith, slice_get, nat_tests, is_some_and, Settings, Life, life_of, Scanned, scans_of, log_of, Transition, ContentFacts, Machine, get_in_front, Floor, IsNear, blocks_taken, cases_lt, comes_after, get_in_back, is_later, is_out_of_order, is_stale, scans_now}
 use Rattle.fio_ends.proofs.Ahead.{IsAhead, ahead_later}
 use Rattle.fio_ends.proofs.BlockPlaces.{end_at}
 use Rattle.fio_ends.proofs.Clocks.{clock, later_clock, offset_of}
@@ -27,18 +26,7 @@ or_true false = refl
 pub behind : (offset : ℕ) (floor : Option ℕ) (scans : ℕ) (transition : Transition) → IsAhead floor scans transition
     → IsNear (Some scans) transition.scans
     → IsBehind (record { time = clock offset scans; input = floor }) transition.input (clock offset transition.scans)
-behind offset None scans transition ahead near =
-    behind-none (clock offset scans) (clock offset transition.scans) transition.input (later_clock offset scans transition.scans ahead near)
-behind offset (Some above) scans transition (inl less) near =
-    behind-some (clock offset scans) (clock offset transition.scans) above transition.input
-    (ap (λ later. later || ((clock offset transition.scans == clock offset scans) && nat_lt above transition.input)) (later_clock offset scans transition.scans less near))
-behind offset (Some above) scans transition (inr same) near =
-    let alike : clock offset transition.scans ≡ clock offset scans = ap (clock offset) (sym same.0) in
-    let higher : above < transition.input = same.1 in
-    let met : ((clock offset transition.scans == clock offset scans) && nat_lt above transition.input) ≡ true = grind (arith, nat_tests) in
-    behind-some (clock offset scans) (clock offset transition.scans) above transition.input
-    (ap (λ found. is_later (clock offset transition.scans) (clock offset scans) || found) met
-    ∙ or_true (is_later (clock offset transition.scans) (clock offset scans)))
+behind offset floor scans transition ahead near = grind (arith, behind-none, behind-some, clock, later_clock, nat_tests, or_true)
 
 -- so it keeps a rule of a floor
 pub none_breaks : (test : Floor → Bool) (timely aged : Bool) (floor : Option Floor)
@@ -66,30 +54,10 @@ pub record KeepsFloor (settings : Settings) (begin : Machine) (above : Option �
 -- the floor stays where something happens
 pub floor-scan : (offset : ℕ) (now : Life) (raw upto : ℕ) (before : Option ℕ) (floor : Floor) → IsFloor offset now upto before floor
     → IsFloor offset (Scanned raw ∷ now) upto before floor
-floor-scan offset now raw upto before floor f =
-    record {
-      scans = f.scans;
-      time = f.time;
-      low = f.low;
-      within = omega (arith, f.within);
-      ahead = λ k transition low at.
-          (let log = log_of now in
-          elim (cases_lt k (length log)) as (λ _. IsAhead floor.input f.scans transition) [
-            | inl old ↦ f.ahead k transition low (get_in_front log (transitions_below 64 raw now) k transition old at)
-            | inr new ↦
-                let newest = scans_now raw now (k - length log) transition (get_in_back log (transitions_below 64 raw now) k transition new at) in
-                ahead_later floor.input f.scans transition (omega (arith, f.within))
-          ]);
-    }
+floor-scan offset now raw upto before floor f = grind (arith, ahead_later, cases_lt, get_in_back, get_in_front, scans_now)
 
 -- and where the log of the life stays, and more is recorded, or as much
 pub floor-same : (offset : ℕ) (now later : Life) (upto upto_later : ℕ) (before before_later : Option ℕ) (floor : Floor)
     → log_of later ≡ log_of now → scans_of later ≡ scans_of now → upto ≤ upto_later → before_later ≡ before
     → IsFloor offset now upto before floor → IsFloor offset later upto_later before_later floor
-floor-same offset now later upto upto_later before before_later floor log scans place point found = record {
-  scans = found.scans;
-  time = found.time;
-  low = λ full is. found.low full (sym point ∙ is);
-  within = omega (arith, found.within, scans);
-  ahead = λ k transition low at. found.ahead k transition (omega (arith, low, place)) (ap (λ l. slice_get l k) (sym log) ∙ at);
-}
+floor-same offset now later upto upto_later before before_later floor log scans place point found = grind arith

@@ -1,5 +1,5 @@
 -- What a prompt run keeps of its transcript and its machine.
-use Rattle.fio_ends.proofs.Names.{◌≡◌, ◌∙◌, ◌+◌, ◌<◌, ◌≤◌, ◌⊎◌, inl, inr, ℕ, Bool, true, false, List, [], ◌∷◌, ◌++◌, length, Some, refl, ap, sym, subst, arith, append_assoc, slice_get, AllByRecursion, Command, block_in, command_in, says_again, Settings, Life, Occurrence, Commanded, Event, life_of, newest_poll, is_new, MadeBlock, blocks_of, facts_with, no_facts, number_due, answer_type_to, names_absent, Facts, RuleLimits, SentFrame, Machine, start, number_of, HasPoll, next_round, CpuFrame, SuitModule, History}
+use Rattle.fio_ends.proofs.Names.{◌≡◌, ◌∙◌, ◌+◌, ◌<◌, ◌≤◌, ◌⊎◌, inl, inr, ℕ, Bool, true, false, List, [], ◌∷◌, ◌++◌, length, Some, ap, sym, subst, arith, append_assoc, slice_get, AllByRecursion, Command, block_in, command_in, says_again, Settings, Life, Occurrence, Commanded, Event, life_of, newest_poll, is_new, MadeBlock, blocks_of, facts_with, no_facts, number_due, answer_type_to, names_absent, Facts, RuleLimits, SentFrame, Machine, start, number_of, HasPoll, next_round, CpuFrame, SuitModule, History}
 use Rattle.fio_message.specs.declared.commands.Command.TheVariants as commands
 use Rattle.fio_message.specs.Blocks.{Block as BlockOf}
 use Rattle.fio_link.specs.declared.event.Event.TheVariants as events
@@ -124,14 +124,7 @@ pub record Follows (settings : Settings) (first : ℕ) (from : Life) (machine : 
 
 -- at the start
 pub follows-start : (settings : Settings) (first : ℕ) → Follows settings first [] start 0 no_facts
-follows-start settings first =
-    record {
-      number = λ n is. absurd (cc is);
-      answered = λ is. absurd (cc is);
-      more = λ m is. absurd (cc is);
-      now = record { more = []; is = refl };
-      stage = inl (record { all = refl; past = omega arith });
-    }
+follows-start settings first = grind arith
 
 -- the facts below frames
 abbrev pub facts_below : Facts → List CpuFrame → Facts
@@ -218,9 +211,4 @@ may_send settings first from machine due facts f =
 -- where nothing is known of the lines above, as at a command with which a log begins
 pub may_begin : (settings : Settings) (first : ℕ) (from : Life) (machine : Machine) (due : ℕ) (facts : Facts) → Follows settings first from machine due facts
     → MaySend settings first machine no_facts
-may_begin settings first from machine due facts f = record {
-  number = λ n is. absurd (cc is);
-  answered = λ is. absurd (cc is);
-  more = λ m is. absurd (cc is);
-  sent = last_is_sent settings first from facts machine due f.stage;
-}
+may_begin settings first from machine due facts f = grind (arith, last_is_sent)

@@ -115,15 +115,7 @@ module _ (settings : Settings) (range : AreInRange settings) (first : ℕ) (begi
     pub short : (life : Life) → GoesOn life now → scans_of life < scans_of begun_life + 2 ^ 31
 
   calm_now : (machine : Machine) (later : List Event) → IsCalmOn machine later → IsCalm (life_of machine.history)
-  calm_now machine later a =
-      let now = life_of machine.history in
-      let last = life_of a.last.history in
-      let on = lives_on later machine a.last a.leads a.none in
-      record {
-        steady = λ life begun upto.
-            (let low = loads_grow begun_life life begun in let high = loads_grow life last (goes_on-both life now last upto on) in let same = a.steady in omega (arith, low, high, same));
-        short = λ life upto. (let high = scans_grow life last (goes_on-both life now last upto on) in let short = a.short in omega (arith, high, short));
-      }
+  calm_now machine later a = grind (arith, goes_on-both, lives_on, loads_grow, scans_grow)
 
   -- the counter of a life is a stamp of it, and is not before one of an earlier life
   of_counter : (now life : Life) → IsCalm now → GoesOn begun_life life → GoesOn life now → IsOf life (counter_of life)
@@ -335,11 +327,7 @@ module _ (settings : Settings) (range : AreInRange settings) (first : ℕ) (begi
 
   stamps_past : (s : StampState) (from : Life) (machine : Machine) (facts : ContentFacts) (event : Event) → IsPastBus event → KeepsStamps s from machine facts
       → KeepsStamps (stamps_after first s machine event) from (after settings first machine event) facts
-  stamps_past s from machine facts event past p = past_cases (λ event. KeepsStamps (stamps_after first s machine event) from (after settings first machine event) facts)
-      (λ raw. record { none = p.none; latest = p.latest; asked = p.asked; any = p.any; polled = p.polled })
-      (record { none = p.none; latest = p.latest; asked = p.asked; any = p.any; polled = p.polled })
-      (λ mask. record { none = p.none; latest = p.latest; asked = p.asked; any = p.any; polled = p.polled })
-      event past
+  stamps_past s from machine facts event past p = grind (arith, past_cases)
 
   stamps_sent : (s : StampState) (from : Life) (machine : Machine) (facts : ContentFacts) (event : Event) (command : Command) → IsKnown settings first begin from machine
       → IsSending first machine event command → IsCommand command → KeepsStamps s from machine facts

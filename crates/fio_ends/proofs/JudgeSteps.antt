@@ -130,14 +130,7 @@ module _ (limits : RuleLimits) (judging : Judging) (at : LogPlace) (frame : CpuF
       → found_by judging.checker sent said_here ≡ None → found_in_frame (content_here judging) sent frame.octets ≡ None
       → checker_with judging.checker sent said_here ≡ taking limits facts → checking_with (content_here judging) sent frame.octets ≡ record { begun = true; kept = below }
       → KeepsFrame limits judging at frame facts below
-  by_kept facts below over back rules content checker checking =
-      let j = kept judging at sent frame.octets over back rules content in
-      record {
-        outcome = kept_is judging at sent frame.octets over back rules content;
-        is = j.is;
-        checker = ap (λ (j : Judging). j.checker) j.is ∙ kept_checker judging sent frame.octets ∙ checker;
-        content = ap (λ (j : Judging). j.content) j.is ∙ kept_content judging sent frame.octets ∙ checking;
-      }
+  by_kept facts below over back rules content checker checking = grind (arith, kept, kept_checker, kept_content, kept_is)
 
   -- where each frame is judged
   pub frame_kept : (facts : Facts) (kept : ContentKept) → judging.checker ≡ taking limits facts → judging.content ≡ record { begun = true; kept = kept } → turns_back judging frame ≡ false
@@ -156,14 +149,7 @@ pub frame_again : (limits : RuleLimits) (judging : Judging) (at : LogPlace) (oct
     → checking_above judging skips ≡ record { begun = false; kept = kept } → passes_over (checker_skipping skips limits) true (observation_in true octets) ≡ false
     → first_broken_within limits no_facts (observation_in true octets) ≡ None → content_found kept true octets ≡ None
     → KeepsFrame limits judging at (record { from_cpu = true; octets = octets }) (facts_with no_facts (observation_in true octets)) (kept_with kept true octets)
-frame_again limits judging at octets skips kept checker above over none finds =
-    let said_here = observation_in true octets in
-    let on : content_here judging ≡ record { begun = false; kept = kept } = ap (λ (c : Checker). checking_above judging c.skips) checker ∙ above in
-    let rules : found_by (checker_skipping skips limits) true said_here ≡ None = rw (over, none) refl in
-    let takes : checker_with (checker_skipping skips limits) true said_here ≡ taking limits (facts_with no_facts said_here) = rw (over, none) refl in
-    by_kept limits judging at (record { from_cpu = true; octets = octets }) (facts_with no_facts said_here) (kept_with kept true octets)
-    (ap (λ c. passes_over c true said_here) checker ∙ over) refl (ap (λ c. found_by c true said_here) checker ∙ rules)
-    (ap (λ c. found_in_frame c true octets) on ∙ finds) (ap (λ c. checker_with c true said_here) checker ∙ takes) (ap (λ c. checking_with c true octets) on)
+frame_again limits judging at octets skips kept checker above over none finds = grind (arith, by_kept, taking)
 
 -- ---- lines
 

@@ -1,7 +1,6 @@
 -- A block in whose time the counter jumped, or may have.
-use Rattle.fio_ends.proofs.Names.{Block, events_of_block, items_of_block, ◌<◌, ◌-◌, eqb_tells, ◌≡◌, ◌∙◌, ◌+◌, ◌≤◌, ◌⊎◌, inl, inr, ℕ, Bool, true, false, List, [], ◌∷◌, refl, ap, sym, subst, arith, fold, if◌then◌else◌, nat_tests, ◌==◌, Answer, Item, Entry, Gap, ContentFacts, content_with, ContentEvent, Ended, Heard, Recorded, block_answer, cases_lt, content_step, forgetting, items_and_end, one_excuse_more}
+use Rattle.fio_ends.proofs.Names.{Block, events_of_block, items_of_block, eqb_tells, ◌≡◌, ◌∙◌, ◌+◌, ◌≤◌, ◌⊎◌, ℕ, true, false, List, [], ◌∷◌, refl, arith, fold, nat_tests, ◌==◌, Answer, Item, Entry, Gap, ContentFacts, content_with, ContentEvent, Ended, Heard, Recorded, block_answer, cases_lt, content_step, items_and_end, one_excuse_more}
 use Rattle.fio_check.specs.ContentAbove.{one_excuse_less}
-use Rattle.fio_check.specs.ContentRules.{is_excused}
 use Rattle.fio_ends.proofs.ContentLines.{EachKeeps}
 use Rattle.fio_ends.proofs.Timeless.{IsTimeless, KeepsTimeRules, WouldKeep, ended_timeless, excuses_all, item_timeless, keeps, not_excused, timeless_forgetting}
 
@@ -13,20 +12,11 @@ pub record HasExcuses (sent jumps excuses : ℕ) : Type 0 where
 
 -- where no load is sent more
 pub as_many : (sent more jumps excuses : ℕ) → more ≡ 0 → HasExcuses sent jumps excuses → HasExcuses (sent + more) jumps excuses
-as_many sent more jumps excuses none h = record { enough = by h.enough }
-  where
-    by : (excuses ≡ 255) ⊎ (sent ≤ jumps + excuses) → (excuses ≡ 255) ⊎ (sent + more ≤ jumps + excuses)
-    by (inl full) = inl full
-    by (inr enough) = inr (omega (arith, none, enough))
+as_many sent more jumps excuses none h = grind arith
 
 -- one load more
 pub one_more : (sent jumps excuses : ℕ) → HasExcuses sent jumps excuses → HasExcuses (sent + 1) jumps (one_excuse_more excuses)
-one_more sent jumps excuses h = record { enough = by h.enough (cases_lt excuses 255) }
-  where
-    by : (excuses ≡ 255) ⊎ (sent ≤ jumps + excuses) → (excuses < 255) ⊎ (255 ≤ excuses) → (one_excuse_more excuses ≡ 255) ⊎ (sent + 1 ≤ jumps + one_excuse_more excuses)
-    by (inl full) few = inl (omega (arith, full))
-    by (inr enough) (inl few) = inr (omega (arith, enough, few))
-    by (inr enough) (inr many) = inl (omega (arith, many))
+one_more sent jumps excuses h = grind (arith, cases_lt)
 
 -- so many more loads took effect than were sent before, or an excuse is left
 pub some_left : (sent jumps now excuses : ℕ) → jumps + 1 ≤ now → now ≤ sent → HasExcuses sent jumps excuses → (excuses == 0) ≡ false
@@ -34,13 +24,7 @@ some_left sent jumps now excuses more most h = grind arith
 
 -- one more jump for one excuse less
 pub one_less : (sent jumps later excuses : ℕ) → jumps + 1 ≤ later → (excuses ≡ 0 → ⊥) → HasExcuses sent jumps excuses → HasExcuses sent later (one_excuse_less excuses)
-one_less sent jumps later excuses more some h = by (eqb_tells excuses 255) h.enough
-  where
-    by : (((excuses == 255) ≡ true) × (excuses ≡ 255)) ⊎ (((excuses == 255) ≡ false) × (excuses ≡ 255 → ⊥)) → (excuses ≡ 255) ⊎ (sent ≤ jumps + excuses)
-        → HasExcuses sent later (one_excuse_less excuses)
-    by (inl full) enough = record { enough = inl (ap (λ b. if b then 255 else excuses - 1) full.0) }
-    by (inr few) (inl full) = absurd (few.1 full)
-    by (inr few) (inr enough) = record { enough = inr (subst (λ n. sent ≤ later + n) (sym (ap (λ b. if b then 255 else excuses - 1) few.0)) (omega (arith, enough, more, some))) }
+one_less sent jumps later excuses more some h = grind (arith, eqb_tells)
 
 -- an event of an answer or a block uses none, if it is not excused
 step_excuses : (facts : ContentFacts) (item : Item) → (content_step facts (Recorded item)).excuses ≡ facts.excuses
@@ -69,19 +53,12 @@ module _ (sent jumps later : ℕ) (more : jumps + 1 ≤ later) where
   -- an event where none is excused yet
   jumped_step : (facts : ContentFacts) (event : ContentEvent) → (content_step facts event).excuses ≡ facts.excuses → (facts.excuses == 0) ≡ false → HasExcuses sent jumps facts.excuses
       → Jumped sent jumps later (content_with facts event)
-  jumped_step facts event same some has = by (is_excused facts event) refl
-    where
-      by : (excused : Bool) → is_excused facts event ≡ excused → Jumped sent jumps later (forgetting (is_excused facts event) (content_step facts event))
-      by true is = rw is (Used (timeless_forgetting (content_step facts event))
-          (subst (λ n. HasExcuses sent later (one_excuse_less n)) (sym same) (one_less sent jumps later facts.excuses more (zero_not facts.excuses some) has)))
-      by false is = rw is (NotYet (ap (λ n. n == 0) same ∙ some) (subst (HasExcuses sent jumps) (sym same) has))
+  jumped_step facts event same some has = grind (arith, one_less, timeless_forgetting, zero_not)
 
   -- an event below one
   used_step : (facts : ContentFacts) (event : ContentEvent) → (content_step facts event).excuses ≡ facts.excuses → WouldKeep facts event → IsTimeless (content_step facts event)
       → HasExcuses sent later facts.excuses → Jumped sent jumps later (content_with facts event)
-  used_step facts event same k timeless has =
-      subst (λ b. Jumped sent jumps later (forgetting b (content_step facts event))) (sym (not_excused facts event k))
-      (Used timeless (subst (HasExcuses sent later) (sym same) has))
+  used_step facts event same k timeless has = grind (arith, not_excused)
 
   item_jumped : (facts : ContentFacts) (item : Item) → Jumped sent jumps later facts → KeepsTimeRules facts (Recorded item) × Jumped sent jumps later (content_with facts (Recorded item))
   item_jumped facts item (NotYet some has) = (excuses_all facts some (Recorded item), jumped_step facts (Recorded item) (step_excuses facts item) some has)

@@ -1,5 +1,5 @@
 -- The least filters that can be in force for the changes of an input that are still to be recorded.
-use Rattle.fio_ends.proofs.Names.{◌≡◌, ◌∙◌, ◌+◌, ◌-◌, ◌<◌, ◌≤◌, inl, inr, ℕ, Bool, true, false, List, [], ◌∷◌, ◌++◌, length, Option, Some, None, refl, ap, sym, subst, arith, append-nil, if◌then◌else◌, slice_get, slice_get_within, AllByRecursion, same_Some, Command, command_in, InputItem, ArrayVec, Life, Occurrence, Scanned, LineSynced, Raised, Commanded, life_after_command, all_present, log_of, log_of-with_command, Transition, FilterPair, SentFrame, get_after_push, get_in_front, IsOfScan, Setting, applied_items, cases_lt, filter_in_force, get_in_back, item_for, items_sent, last_item_of, of_scan, setting_by}
+use Rattle.fio_ends.proofs.Names.{◌≡◌, ◌∙◌, ◌+◌, ◌-◌, ◌<◌, ◌≤◌, inl, inr, ℕ, Bool, List, [], ◌∷◌, ◌++◌, length, Option, Some, None, refl, ap, sym, subst, arith, append-nil, if◌then◌else◌, slice_get, slice_get_within, AllByRecursion, same_Some, Command, command_in, InputItem, ArrayVec, Life, Occurrence, Scanned, LineSynced, Raised, Commanded, life_after_command, log_of, log_of-with_command, Transition, FilterPair, SentFrame, get_after_push, get_in_front, IsOfScan, Setting, cases_lt, filter_in_force, get_in_back, item_for, items_sent, last_item_of, of_scan, setting_by}
 use Rattle.fio_message.specs.declared.commands.Command.TheVariants as commands
 use Rattle.fio_module.specs.Log.{transitions_below}
 use Rattle.fio_check.specs.ContentAbove.{least_with, one_sample}
@@ -61,22 +61,10 @@ no_more-lower : (lower pair : FilterPair) (setting : Setting) → IsLower lower 
 no_more-lower lower pair setting l a = record { leading = omega (arith, l.leading, a.leading); trailing = omega (arith, l.trailing, a.trailing) }
 
 with-lower : (lower pair : FilterPair) (now : Life) (transition : Transition) → IsLower lower pair → IsLoggedWith pair now transition → IsLoggedWith lower now transition
-with-lower lower pair now transition l w = record {
-  raw = w.raw;
-  life = w.life;
-  upto = w.upto;
-  of_scan = w.of_scan;
-  filters = no_more-lower lower pair (setting_of transition.input w.life) l w.filters;
-}
+with-lower lower pair now transition l w = grind (arith, no_more-lower, of_scan, setting_of)
 
 with-more : (pair : FilterPair) (now : Life) (occurrence : Occurrence) (transition : Transition) → IsLoggedWith pair now transition → IsLoggedWith pair (occurrence ∷ now) transition
-with-more pair now occurrence transition w = record {
-  raw = w.raw;
-  life = w.life;
-  upto = goes_on-more (Scanned w.raw ∷ w.life) now occurrence w.upto;
-  of_scan = w.of_scan;
-  filters = w.filters;
-}
+with-more pair now occurrence transition w = grind (arith, goes_on-more, of_scan)
 
 -- ---- at first
 
@@ -157,16 +145,11 @@ module _ (frames : List SentFrame) (last upto input : ℕ) (pair : FilterPair) (
   -- the module receives a command
   set_below : (applied : Bool) (items : List InputItem) (found : Option InputItem) (setting : Setting) → AreBelowItem pair (item_for input items)
       → AreNoMore pair setting → last_item_of input (if applied then items else []) ≡ found → AreNoMore pair (setting_by found setting)
-  set_below applied items None setting all a is = a
-  set_below true items (Some item) setting all a is = (let b = subst (AreBelowItem pair) (item_is input low items ∙ is) all in record { leading = b.0; trailing = b.1 })
-  set_below false items (Some item) setting all a is = absurd (cc is)
+  set_below applied items found setting all a is = grind (arith, item_is)
 
   now-command : (life : Life) (command : Option Command) → BelowCommand pair input command → AreNoMore pair (setting_of input life)
       → AreNoMore pair (setting_of input (life_after_command command life))
-  now-command life None below a = a
-  now-command life (Some (commands.ConfigureInputs items)) below a =
-      set_below (all_present items.items) items.items (last_item_of input (applied_items items.items)) (setting_of input life) (below items refl) a refl
-  now-command life (Some other) below a = record { leading = a.leading; trailing = a.trailing }
+  now-command life command below a = grind (arith, set_below, setting_of)
 
   with-command : (life : Life) (command : Option Command) (transition : Transition) → IsLoggedWith pair life transition → IsLoggedWith pair (life_after_command command life) transition
   with-command life None transition w = w
@@ -184,11 +167,7 @@ module _ (frames : List SentFrame) (last upto input : ℕ) (pair : FilterPair) (
 
   -- more is recorded
   pub least-further : (life : Life) (further : ℕ) → upto ≤ further → KeepsLeast life frames last upto input pair → KeepsLeast life frames last further input pair
-  least-further life further le p = record {
-    now = p.now;
-    coming = p.coming;
-    logged = λ k transition high at of_input. p.logged k transition (omega arith) at of_input;
-  }
+  least-further life further le p = grind arith
 
 -- ---- where an item was settled, and all of the log at a life is recorded
 

@@ -97,13 +97,7 @@ module _ (levels : ℕ → ℕ → Bool) (is_open : ℕ → Bool) (base since lo
 
   -- one scan more
   pub levels-scan : (life : Life) (scan : ℕ) → HasLevels life scan → HasLevels (Scanned (raw_at (suc scan)) ∷ life) (suc scan)
-  levels-scan life scan h = record {
-    counter = omega (arith, h.counter);
-    scans = omega (arith, h.scans);
-    loads_are = h.loads_are;
-    setting = h.setting;
-    state = state_after life scan h;
-  }
+  levels-scan life scan h = grind (arith, state_after)
 
   not-not : (b : Bool) → not (not b) ≡ b
   not-not true = refl

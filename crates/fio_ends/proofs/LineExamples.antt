@@ -150,13 +150,7 @@ no_part : (part : List ℕ) (A : Type 0) → None ≡ Some part → A
 no_part part A is = absurd (cc is)
 
 leads_1 : Follow (ends_at_start 125) sent_first
-leads_1 = (
-  (refl, (omega arith, ((omega arith, omega arith, omega arith), tt))),
-  (
-    λ flag part is. absurd (omega (arith, flag)),
-    (λ flag part is. no_part part _ is, refl),
-  ),
-)
+leads_1 = grind (arith, no_part)
 
 leads_2 : Follow ends_1 configured
 unfolding message_in is_set wide_time_of transitions_below divided with_octet

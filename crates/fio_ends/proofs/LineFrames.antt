@@ -1,6 +1,5 @@
 -- One line of octets follows the frames of the link machine.
-use Rattle.fio_ends.proofs.Names.{◌≡◌, ◌∙◌, ◌≤◌, ◌==◌, ℕ, zero, suc, false, List, [], ◌∷◌, ◌++◌, append-nil, length, Option, Some, None, slice_get, refl, ap, sym, subst, arith, option_map, nat_lt, nat_tests, same_Some, slice_get_within, AllByRecursion, Answer, answer_octets, SentFrame, Arrives, ComesWhole, EndOf, FLAG, Framing, IsFraming, Loss, MayBring, Octet, WireLine, answer_frames, delivery_refusal, item_numbered, line_after, map_push, message_heard, sent, slice_get-map, with_answer_written, with_written}
-use Rattle.std.specs.Prelude.{◌||◌}
+use Rattle.fio_ends.proofs.Names.{◌≡◌, ◌∙◌, ◌≤◌, ℕ, zero, suc, List, [], ◌∷◌, ◌++◌, append-nil, length, Option, Some, None, slice_get, refl, ap, sym, subst, arith, option_map, nat_tests, same_Some, slice_get_within, AllByRecursion, Answer, answer_octets, SentFrame, Arrives, ComesWhole, EndOf, FLAG, Framing, IsFraming, Loss, MayBring, Octet, WireLine, answer_frames, delivery_refusal, item_numbered, line_after, map_push, message_heard, sent, slice_get-map, with_answer_written, with_written}
 use Rattle.fio_ends.specs.LineRuns.{written_of}
 use Rattle.fio_ends.proofs.LineMessages.{IsMessage}
 use Rattle.fio_ends.proofs.LineParts.{IsReading, octet_heard, whole_heard, read_flag, read_loss}
@@ -41,25 +40,13 @@ written_numbered framing frames (suc place) = slice_get-map (λ frame. sent fram
 -- a frame that was sent, and none after it was delivered, may be delivered
 not_refused : (frames : List SentFrame) (last number : ℕ) (frame : SentFrame) → item_numbered frames number ≡ Some frame → last ≤ number
     → delivery_refusal (length frames) last number ≡ None
-not_refused frames last zero frame is le = absurd (cc is)
-not_refused frames last (suc place) frame is le =
-    let within = slice_get_within frames place frame is in
-    let there : (suc place == 0 || nat_lt (length frames) (suc place)) ≡ false = grind (arith, nat_tests) in
-    let order : nat_lt (suc place) last ≡ false = grind (arith, nat_tests) in
-    rw (there, order) refl
+not_refused frames last number frame is le = grind (arith, nat_tests, slice_get_within)
 
 module _ (framing : Framing) (is_framing : IsFraming framing) (frames : List SentFrame) (last : ℕ) (line : WireLine) (l : IsLine framing frames last line) where
   -- one message more is written
   pub line_written : (frame : SentFrame) → IsMessage frame.octets
       → IsLine framing (frames ++ frame ∷ []) last (with_written framing line frame.octets)
-  line_written frame is = record {
-    written =
-        ap (λ before. before ++ sent framing.address framing.control frame.octets ∷ []) l.written
-        ∙ sym (map_push (λ (f : SentFrame). sent framing.address framing.control f.octets) frames frame);
-    same_last = l.same_last;
-    messages = all_push frames frame l.messages is;
-    reading = l.reading;
-  }
+  line_written frame is = grind (arith, all_push, map_push)
 
   -- an answer is written, if there is one
   pub line_answered : (reply : Option Answer) (round : ℕ) → ((answer : Answer) → reply ≡ Some answer → IsMessage (answer_octets answer))
@@ -111,8 +98,4 @@ module _ (framing : Framing) (is_framing : IsFraming framing) (frames : List Sen
       }
 
   pub line_ended : (number : ℕ) → ComesWhole line number → Ended number
-  line_ended number whole =
-      ended_if number whole (item_numbered frames number) refl
-      (sym (written_numbered framing frames number)
-      ∙ ap (λ written. item_numbered written number) (sym l.written)
-      ∙ whole.is_written)
+  line_ended number whole = grind (arith, ended_if, written_numbered)

@@ -16,9 +16,7 @@ abbrev pub IsMessage : List ℕ → Type 0
 IsMessage octets = IsOctets octets × IsFrameLength (length octets)
 
 pub command_is_message : (command : Command) → IsCommand command → IsMessage (command_octets command)
-command_is_message command within =
-    let a = command_again command within in
-    (a.octets, (omega arith, omega (arith, a.short)))
+command_is_message command within = grind (arith, command_again)
 
 -- ---- Replies
 

@@ -76,13 +76,7 @@ nothing_said reading o other =
 
 deaf_next : (octets : List ℕ) (phase : Phase) (o : ℕ) → o ≢ FLAG → IsDeaf phase
     → IsDeaf (next (record { octets = octets; phase = phase }) o).phase
-deaf_next octets Hunting o other deaf =
-    subst (λ b. IsDeaf (if b then ended_by (ending Hunting octets) else record { octets = octets; phase = Hunting }).phase) (sym (no_flag o other)) tt
-deaf_next octets Lost o other deaf =
-    subst (λ b. IsDeaf (if b then ended_by (ending Lost octets) else record { octets = octets; phase = Lost }).phase) (sym (no_flag o other)) tt
-deaf_next octets Within o other deaf = absurd deaf
-deaf_next octets Escaped o other deaf = absurd deaf
-deaf_next octets Whole o other deaf = absurd deaf
+deaf_next octets phase o other deaf = grind (arith, no_flag)
 
 -- one octet more that is no flag
 read_more : (part : Option (List ℕ)) (reading : Reading) (o : ℕ) → o ≢ FLAG → IsReading part reading

@@ -1,7 +1,7 @@
 -- What a line may bring leaves open that frames come, whole and struck.
-use Rattle.fio_ends.proofs.Names.{◌≡◌, ◌∙◌, ◌≤◌, ℕ, List, [], ◌∷◌, ◌++◌, Option, Some, None, option_map, refl, ap, sym, subst, arith, append-nil, append_assoc, same_Some, if◌then◌else◌, Settings, Arrives, AtCpu, AtModule, EndOf, FLAG, Framing, HasNoFlag, IsStruck, MayBring, MayFollow, Octet, WireEvent, WireLine, WiredEnds, after_line_event, after_message, after_receipt, frame_of, item_numbered, line_after, message_heard, no_flag, part_after, part_brought, sent, stuffed}
+use Rattle.fio_ends.proofs.Names.{◌≡◌, ◌∙◌, ◌≤◌, ℕ, List, [], ◌∷◌, ◌++◌, Option, Some, None, option_map, refl, ap, sym, subst, arith, append-nil, append_assoc, same_Some, if◌then◌else◌, Settings, Arrives, AtCpu, AtModule, EndOf, FLAG, Framing, HasNoFlag, IsStruck, MayBring, MayFollow, Octet, WireEvent, WireLine, WiredEnds, after_line_event, after_message, after_receipt, frame_of, item_numbered, line_after, no_flag, part_after, part_brought, sent, stuffed}
 use Rattle.fio_wire.proofs.Sent.{free_of_flags}
-use Rattle.fio_ends.specs.Lines.{Brought, MayCome, arrival_of}
+use Rattle.fio_ends.specs.Lines.{Brought, MayCome}
 use Rattle.fio_ends.proofs.LineParts.{struck_noise}
 use Rattle.fio_ends.specs.LineRuns.{EachFrameMayCome, EachStruckFrameMayCome}
 
@@ -21,18 +21,10 @@ heard_by_cpu ends None = refl
 heard_by_cpu ends (Some message) = refl
 
 pub at_module : IsDirection (λ ends. ends.to_module) AtModule
-at_module = record {
-  may = λ framing ends brought m. m;
-  goes = λ settings framing ends brought.
-      received settings framing (record ends { to_module = line_after ends.to_module brought }) (message_heard framing.own ends.to_module.reading (arrival_of brought));
-}
+at_module = grind (arith, received)
 
 pub at_cpu : IsDirection (λ ends. ends.to_cpu) AtCpu
-at_cpu = record {
-  may = λ framing ends brought m. m;
-  goes = λ settings framing ends brought.
-      heard_by_cpu (record ends { to_cpu = line_after ends.to_cpu brought }) (message_heard framing.own ends.to_cpu.reading (arrival_of brought));
-}
+at_cpu = grind (arith, heard_by_cpu)
 
 -- a line as another, but for these octets since the latest flag
 record HasPart (part : List ℕ) (before line : WireLine) : Type 0 where

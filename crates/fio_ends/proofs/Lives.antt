@@ -1,5 +1,5 @@
 -- A life and those that go on from it: what stays, and what is since.
-use Rattle.fio_ends.proofs.Names.{◌≡◌, ◌∙◌, ◌+◌, ◌-◌, ◌≤◌, inl, inr, ℕ, Bool, true, false, List, [], ◌∷◌, ◌++◌, length, Some, refl, ap, sym, subst, arith, append-nil, append_assoc, if◌then◌else◌, slice_get, slice_get_within, AllByRecursion, LoadCounter, Poll, Command, Settings, Life, Occurrence, Scanned, LineSynced, Raised, Commanded, counter_events, loads_of, scans_of, Transition, log_of, MadeBlock, newest_poll, is_new, blocks_of, next_block, get_in_front, get_after_push, IsOfScan, cases_lt, get_in_back, later_log, of_scan, ticks_in}
+use Rattle.fio_ends.proofs.Names.{◌≡◌, ◌∙◌, ◌+◌, ◌-◌, ◌≤◌, inl, inr, ℕ, Bool, true, false, List, [], ◌∷◌, ◌++◌, length, Some, refl, ap, sym, arith, append-nil, append_assoc, if◌then◌else◌, slice_get, slice_get_within, AllByRecursion, LoadCounter, Poll, Command, Settings, Life, Occurrence, Scanned, LineSynced, Raised, Commanded, counter_events, loads_of, scans_of, Transition, log_of, MadeBlock, newest_poll, is_new, blocks_of, next_block, get_in_front, get_after_push, IsOfScan, cases_lt, get_in_back, later_log, of_scan, ticks_in}
 use Rattle.fio_input.specs.Counter.{AskLoad, CounterEvent, LineSync, Tick}
 use Rattle.fio_input.proofs.Ticks.{loads_in-append}
 use Rattle.fio_module.specs.Log.{transitions_below}
@@ -101,9 +101,7 @@ logged-append (other ∷ more) before k transition since at =
 
 pub logged_since : (before now : Life) (k : ℕ) (transition : Transition) → GoesOn before now → length (log_of before) ≤ k
     → slice_get (log_of now) k ≡ Some transition → IsLoggedSince before now transition
-logged_since before now k transition g since at =
-    subst (λ life. IsLoggedSince before life transition) (sym g.is)
-    (logged-append g.more before k transition since (subst (λ life. slice_get (log_of life) k ≡ Some transition) g.is at))
+logged_since before now k transition g since at = grind (arith, logged-append)
 
 -- a block of a life was made after an earlier one, by a poll that the module received after this life
 pub record IsMadeSince (settings : Settings) (before now : Life) (block : MadeBlock) : Type 0 where
@@ -151,9 +149,7 @@ made-append settings (other ∷ more) before k block since at =
 
 pub made_since : (settings : Settings) (before now : Life) (k : ℕ) (block : MadeBlock) → GoesOn before now → length (blocks_of settings before) ≤ k
     → slice_get (blocks_of settings now) k ≡ Some block → IsMadeSince settings before now block
-made_since settings before now k block g since at =
-    subst (λ life. IsMadeSince settings before life block) (sym g.is)
-    (made-append settings g.more before k block since (subst (λ life. slice_get (blocks_of settings life) k ≡ Some block) g.is at))
+made_since settings before now k block g since at = grind (arith, made-append)
 
 -- ---- since a command
 

@@ -75,19 +75,7 @@ pub record Agree (known : ℕ → Known) (levels : ℕ → Bool) (es : List Time
   pub none : (input : ℕ) → (known input).level ≡ None → levels input ≡ turned_from es input
 
 agree_with : (known : ℕ → Known) (levels : ℕ → Bool) (e : Timed) (es : List Timed) → Agree known levels (e ∷ es) → Agree (known_with known e) (with_level levels e) es
-agree_with known levels e es a = record {
-  some = λ input level is. some_by input level (input == e.input) is;
-  none = λ input is. none_by input (input == e.input) refl is;
-}
-  where
-    some_by : (input : ℕ) (level : Bool) (same : Bool) → (if same then with_entry e.level (known input) else known input).level ≡ Some level → (if same then e.level else levels input) ≡ level
-    some_by input level true is = same_Some _ _ is
-    some_by input level false is = a.some input level is
-
-    none_by : (input : ℕ) (same : Bool) → (input == e.input) ≡ same → (if same then with_entry e.level (known input) else known input).level ≡ None
-        → (if same then e.level else levels input) ≡ turned_from es input
-    none_by input true at is = absurd (cc is)
-    none_by input false at is = a.none input is ∙ ap (λ (b : Bool). if b then not e.level else turned_from es input) at
+agree_with known levels e es a = grind (arith, same_Some)
 
 turns_here : (known : ℕ → Known) (levels : ℕ → Bool) (e : Timed) (es : List Timed) → Agree known levels (e ∷ es) → IsChange (known e.input) e.level → e.level ≡ not (levels e.input)
 turns_here known levels e es a c = grind (arith, not-not)
@@ -108,14 +96,7 @@ shown_first (At e ∷ marks) known input bit pass low is has = by (shown_first m
     by : (((known_with known e input).shown ≡ Some bit) ⊎ ((known_with known e input).unlogged ≡ true) → has_entry (entries_in marks) input ≡ true → turned_from (entries_in marks) input ≡ bit)
         → (same : Bool) → (input == e.input) ≡ same → (same || has_entry (entries_in marks) input) ≡ true
         → (if same then not e.level else turned_from (entries_in marks) input) ≡ bit
-    by rest true at has =
-        let equal : input ≡ e.input = grind (arith, nat_tests) in
-        elim is as (λ _. not e.level ≡ bit) [
-          | inl shown ↦ ap not (pass.0.of_shown bit (ap (λ (i : ℕ). (known i).shown) (sym equal) ∙ shown)) ∙ not-not bit
-          | inr unlogged ↦ absurd (cc (sym unlogged ∙ ap (λ (i : ℕ). (known i).unlogged) equal ∙ pass.0.logged))
-        ]
-    by rest false at has =
-        rest (subst (λ (k : Known). (k.shown ≡ Some bit) ⊎ (k.unlogged ≡ true)) (sym (ap (λ (b : Bool). if b then with_entry e.level (known input) else known input) at)) is) has
+    by rest same at has = grind (arith, nat_tests, not-not)
 shown_first (Seen look ∷ marks) known input bit pass low is has =
     shown_first marks (known_seen known look.levels) input bit pass.1 low (by (is_set look.levels input) is) has
   where

@@ -1,5 +1,5 @@
 -- Lives that follow a plan: how they stand below a scan, a request and a poll.
-use Rattle.fio_ends.proofs.Names.{◌≡◌, ◌∙◌, ◌+◌, ◌≤◌, ◌==◌, ℕ, Bool, true, false, not, ◌∷◌, length, Option, Some, None, refl, ap, ap₂, subst, arith, if◌then◌else◌, option_map, nat_tests, answer_octets, block_in, Life, Scanned, Commanded, MadeBlock, newest_poll, is_new, blocks_of, end_of_blocks, next_block, last_end-append, number_of, number_of-fits, number_of-next, next_fits, Sending, again_carries, answer_of_sending, carried_back, first_carries, first_sending, latest_sending, repeat_of, said, sending_of}
+use Rattle.fio_ends.proofs.Names.{◌≡◌, ◌+◌, ◌≤◌, ◌==◌, ℕ, Bool, true, not, ◌∷◌, length, Option, Some, None, refl, ap₂, subst, arith, nat_tests, answer_octets, block_in, Life, Scanned, Commanded, MadeBlock, next_block, last_end-append, number_of, number_of-fits, number_of-next, next_fits, Sending, again_carries, answer_of_sending, carried_back, first_carries, first_sending, latest_sending, repeat_of, said, sending_of}
 use Rattle.fio_message.specs.declared.commands.Command.TheVariants as commands
 use Rattle.fio_module.specs.Laws.{Carries}
 use Rattle.fio_module.proofs.Stretches.{blocks_new, blocks_old}
@@ -38,33 +38,13 @@ module _ (plan : Plan) where
     polled_life = Commanded (commands.Poll (number_of plan.first round)) ∷ life
 
     pub come-poll : (kept : Option Sending) (later : ℕ) → AwaitsPoll plan kept polled_life later → HasCome plan polled_life scan (made_at plan scan taken).end later kept
-    come-poll kept later polled =
-        let number = number_of plan.first round in
-        let blocks = blocks_new plan.settings life number h.polled.new in
-        let next = next_is life scan taken round None h t in
-        record {
-          levels_are = record {
-            counter = h.levels_are.counter;
-            scans = h.levels_are.scans;
-            loads_are = h.levels_are.loads_are;
-            setting = h.levels_are.setting;
-            state = h.levels_are.state;
-          };
-          log = h.log;
-          end = ap end_of_blocks blocks ∙ last_end-append 0 (blocks_of plan.settings life) (next_block plan.settings life) ∙ ap (λ (b : MadeBlock). b.end) next;
-          polled = polled;
-        }
+    come-poll kept later polled = grind (arith, blocks_new, last_end-append, next_is)
 
     pub next_awaited : IsNext plan polled_life (round + 1)
-    next_awaited = record {
-      new = differ round (number_of plan.first round == number_of plan.first (round + 1)) refl;
-      in_sequence = (let after = number_of-next plan.first round in grind (arith, nat_tests));
-    }
+    next_awaited = grind (arith, differ, nat_tests, number_of-next)
 
     pub latest_is : latest_sending plan.settings polled_life ≡ Some (sending_at plan scan taken round)
-    latest_is =
-        ap (λ (new : Bool). if new then Some (first_sending plan.settings life (number_of plan.first round)) else option_map repeat_of (latest_sending plan.settings life)) h.polled.new
-        ∙ ap Some (sending_is life scan taken round h t)
+    latest_is = grind (arith, sending_is)
 
     carries_made : Carries (sending_at plan scan taken round) (next_block plan.settings life)
     carries_made = subst (λ sending. Carries sending (next_block plan.settings life)) (sending_is life scan taken round h t)
@@ -86,27 +66,7 @@ module _ (plan : Plan) where
   -- a poll for which a block is sent again leaves no other
   pub repeated : (life : Life) (scan taken round : ℕ) (sending : Sending) → HasCome plan life scan taken round (Some sending)
       → HasCome plan (Commanded (commands.Poll (number_of plan.first round)) ∷ life) scan taken (round + 1) None
-  repeated life scan taken round sending h =
-      let old : is_new (newest_poll life) (number_of plan.first round) ≡ false = ap (λ latest. is_new latest (number_of plan.first round)) h.polled.newest ∙ itself (number_of plan.first round) in
-      let blocks = blocks_old plan.settings life (number_of plan.first round) old in
-      record {
-        levels_are = record {
-          counter = h.levels_are.counter;
-          scans = h.levels_are.scans;
-          loads_are = h.levels_are.loads_are;
-          setting = h.levels_are.setting;
-          state = h.levels_are.state;
-        };
-        log = h.log;
-        end = ap end_of_blocks blocks ∙ h.end;
-        polled = record {
-          new = differ round (number_of plan.first round == number_of plan.first (round + 1)) refl;
-          in_sequence = (let after = number_of-next plan.first round in grind (arith, nat_tests));
-        };
-      }
-    where
-      itself : (n : ℕ) → not (n == n) ≡ false
-      itself n = grind (arith, nat_tests)
+  repeated life scan taken round sending h = grind (arith, blocks_old, differ, nat_tests, number_of-next)
 
   pub repeats : (life : Life) (scan taken round : ℕ) (sending : Sending) → HasCome plan life scan taken round (Some sending)
       → latest_sending plan.settings (Commanded (commands.Poll (number_of plan.first round)) ∷ life) ≡ Some (repeat_of sending)

@@ -39,19 +39,7 @@ module _ (facts : ContentFacts) (full : ℕ) (floor : Floor) (seen : Option Seen
   })
 
   pub after_lost : (command : Command) → IsQuiet command → Within (content_with facts (Sent command)) full floor seen known
-  after_lost (commands.Poll number) quiet = absurd quiet
-  after_lost (commands.LoadCounter load) quiet = absurd quiet
-  after_lost (commands.ConfigureInputs items) quiet = absurd quiet
-  after_lost other quiet = subst (λ f. Within f full floor seen known) (sym (sent_step facts other)) (record {
-    judged = w.judged;
-    clear = w.clear;
-    timely = w.timely;
-    full_is = w.full_is;
-    aged = w.aged;
-    seen_is = w.seen_is;
-    floor_is = w.floor_is;
-    inputs = λ input low. unnamed_watched (facts.inputs input) (known input) input (w.inputs input low);
-  })
+  after_lost other quiet = grind (arith, sent_step, unnamed_watched)
 
   -- nor does a block that is heard soon
   pub after_heard : (number : ℕ) (again : Bool) (entries : List Entry) (stamp : ℕ) → milliseconds_between full stamp < 2 ^ 16

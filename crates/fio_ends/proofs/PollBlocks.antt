@@ -83,28 +83,7 @@ module _ (facts : ContentFacts) (full : ℕ) (floor : Floor) (seen : Option Seen
 
   after_end : (e : Bool) → status e ≡ status again → Within (if not e then below_clear (ended_at facts e stamp) stamp else ended_at facts e stamp) stamp (block_floor stamp)
       (seen_below end_event seen) known_end
-  after_end false same = record {
-    judged = w.judged;
-    clear = refl;
-    timely = known_then;
-    full_is = ap (λ (k : Bool). if k then Some stamp else None) known_then;
-    aged = w.aged;
-    seen_is = ap₂ (λ s seen. seen_below (Ended s stamp) seen) same w.seen_is;
-    floor_is = refl;
-    inputs = λ input low. below-end true (input_coming input (coming facts (Ended (status false) stamp)) (facts.inputs input)) (known_end input)
-        (subst (λ s. IsWatched (input_coming input (coming facts (Ended s stamp)) (facts.inputs input)) (known_end input)) (sym same) (inputs_then input low));
-  }
-  after_end true same = record {
-    judged = w.judged;
-    clear = w.clear;
-    timely = w.timely;
-    full_is = ap (λ (k : Bool). if k then Some stamp else None) w.timely;
-    aged = w.aged;
-    seen_is = ap₂ (λ s seen. seen_below (Ended s stamp) seen) same w.seen_is;
-    floor_is = refl;
-    inputs = λ input low. below-end (facts.clear && not (facts.since_poll input)) (input_coming input (coming facts (Ended (status true) stamp)) (facts.inputs input)) (known_end input)
-        (subst (λ s. IsWatched (input_coming input (coming facts (Ended s stamp)) (facts.inputs input)) (known_end input)) (sym same) (inputs_then input low));
-  }
+  after_end e same = grind (arith, below-end, inputs_then, known_then)
 
   pub within_end : Within (content_with facts end_event) stamp (block_floor stamp) (seen_below end_event seen) known_end
   within_end = subst (λ f. Within f stamp (block_floor stamp) (seen_below end_event seen) known_end) (sym (step_only facts end_event w.judged ∙ end_is facts again stamp)) (after_end again refl)
@@ -152,14 +131,7 @@ module _ (now stamp gap full after : ℕ) (again : Bool) (fits : stamp < 2 ^ 32)
       → (age_of stamp entry < gap) × ((scan < now - age_of stamp entry) ⊎ ((now - age_of stamp entry ≡ scan) × (low ≤ entry.input)))
 
   below_entry : (above : Entry) → age_of stamp above < gap → FloorSays (now - age_of stamp above) (suc above.input) (record { time = wide_time_of stamp above.stamp; input = Some above.input })
-  below_entry above young = λ entry order fresh.
-      (let age = behind_age stamp entry above fits (order above.input refl) in (
-        elim age as (λ _. age_of stamp entry < gap) [ inl less ↦ omega arith | inr same ↦ omega (arith, same.0) ],
-        elim age as (λ _. (now - age_of stamp above < now - age_of stamp entry) ⊎ ((now - age_of stamp entry ≡ now - age_of stamp above) × (suc above.input ≤ entry.input))) [
-          | inl younger ↦ inl (omega arith)
-          | inr same ↦ inr (ap (λ a. now - a) same.0, same.1)
-        ],
-      ))
+  below_entry above young = grind (arith, age_of, behind_age)
 
   below_full : FloorSays (now - gap) 64 (block_floor full)
   below_full = λ entry order fresh.

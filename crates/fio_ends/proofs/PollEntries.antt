@@ -1,5 +1,5 @@
 -- What the entries of a log of polls without a fault keep: each is after the one above it, and turns the level of its input.
-use Rattle.fio_ends.proofs.Names.{ℕ, ◌==◌, ◌&&◌, sym, Bool, ContentEvent, ContentFacts, InputAbove, None, Option, Recorded, Some, State, ap, ap₂, arith, beq, false, if◌then◌else◌, inl, inr, is_some_and, nat_le, nat_lt, nat_tests, not, option_map, refl, suc, sym, true, zero, ℕ, ◌&&◌, ◌+◌, ◌<◌, ◌==◌, ◌^◌, ◌||◌, ◌∙◌, ◌≡◌, ◌≢◌, ◌≤◌, ◌⊎◌, BrokenRule, Floor, Seen, WatchedState, broken_state, cases_lt, comes_after, comes_to, differing, earliest_above, if_comes, input_coming, is_before, is_later, item_of, milliseconds_between, option_and_then, state_breach, steady_state}
+use Rattle.fio_ends.proofs.Names.{ℕ, ◌==◌, ◌&&◌, sym, Bool, ContentEvent, ContentFacts, InputAbove, None, Option, Recorded, Some, State, ap, arith, beq, false, if◌then◌else◌, inl, inr, is_some_and, nat_lt, nat_tests, not, option_map, refl, suc, sym, true, zero, ℕ, ◌&&◌, ◌+◌, ◌<◌, ◌==◌, ◌^◌, ◌||◌, ◌∙◌, ◌≡◌, ◌≢◌, ◌≤◌, ◌⊎◌, BrokenRule, Floor, Seen, WatchedState, broken_state, cases_lt, comes_after, comes_to, differing, earliest_above, if_comes, input_coming, is_before, is_later, item_of, milliseconds_between, option_and_then, state_breach, steady_state}
 use Rattle.fio_message.specs.declared.fields.Entry.{Entry}
 use Rattle.fio_input.specs.Widening.{wide_time_of}
 use Rattle.fio_message.specs.Bits.{is_set}
@@ -32,11 +32,7 @@ record IsAhead (time other : ℕ) : Type 0 where
   pub near : milliseconds_between other time < 2 ^ 31
 
 ahead : (time other : ℕ) → is_later time other ≡ true → IsAhead time other
-ahead time other is =
-    let parts = both (not (time == other)) (not (is_before time other)) is in
-    let differ : (time == other) ≡ false = not_true (time == other) parts.0 in
-    let near : nat_le (2 ^ 31) (milliseconds_between other time) ≡ false = not_true (is_before time other) parts.1 in
-    record { differ = grind (arith, nat_tests); near = grind (arith, nat_tests) }
+ahead time other is = grind (arith, both, nat_tests, not_true)
 
 -- an entry that is later than the block before is younger than it
 pub fresh_age : (stamp before : ℕ) (entry : Entry) → stamp < 2 ^ 32 → before < 2 ^ 32 → milliseconds_between before stamp < 2 ^ 16
@@ -131,26 +127,7 @@ known_coming (Some seen) known = known_seen known seen.levels
 
 pub coming_input : (comes : Option Seen) (above : InputAbove) (known : ℕ → Known) (input : ℕ) → input < 64 → IsWatched above (known input)
     → IsWatched (input_coming input comes above) (known_coming comes known input)
-coming_input None above known input low w = record {
-  reopened = w.reopened;
-  hidden = w.hidden;
-  touched = w.touched;
-  watched = w.watched;
-  shown = w.shown;
-  unlogged = w.unlogged;
-}
-coming_input (Some seen) above known input low w =
-    let there : nat_lt input 64 ≡ true = grind (arith, nat_tests) in
-    let bit = is_set seen.levels input in
-    record {
-      reopened = w.reopened;
-      hidden = w.hidden;
-      touched = w.touched;
-      watched = w.watched;
-      shown = ap₂ (λ (b t : Bool). if b then (if t then None else Some bit) else above.shown) there w.touched;
-      unlogged = ap₂ (λ (b t : Bool). (b && (not t && is_some_and above.shown (λ level. not (beq level bit)))) || above.unlogged) there w.touched
-          ∙ ap₂ (λ (l : Option Bool) (u : Bool). is_some_and l (λ level. not (beq level bit)) || u) w.shown w.unlogged;
-    }
+coming_input comes above known input low w = grind (arith, nat_tests)
 
 -- ---- an entry or the end of a block to which the record comes
 

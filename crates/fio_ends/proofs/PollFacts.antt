@@ -1,9 +1,9 @@
 -- What a log of polls without a fault keeps: its entries are one after the other, and turn the levels of their inputs.
-use Rattle.fio_ends.proofs.Names.{AllByRecursion, Answer, Block, Bool, Command, ContentEvent, ContentFacts, CpuFrame, Ended, Heard, IsCommand, List, None, Option, Recorded, Sent, Some, TranscriptLine, [], answer_in, answer_octets, ap, arith, content_with, false, cpu_frame_on, if◌then◌else◌, map, nat_tests, option_map, refl, rule_broken_by, subst, true, ℕ, ◌%◌, ◌++◌, ◌+◌, ◌<◌, ◌==◌, ◌^◌, ◌∙◌, ◌∷◌, ◌≡◌, ContentChecking, IsBlock, IsEntry, IsEntryOf64, block_frame, block_status, block_status-fits, breach_among, checking_with, command_frame, content_events, events_of_block, fold, found_first, found_in_frame, found_on, gap_if, item_of, number_after, number_with_command, option_or, status_back}
+use Rattle.fio_ends.proofs.Names.{AllByRecursion, Answer, Block, Bool, Command, ContentEvent, ContentFacts, CpuFrame, Ended, Heard, IsCommand, List, None, Option, Recorded, Sent, Some, TranscriptLine, [], answer_in, answer_octets, ap, arith, content_with, false, cpu_frame_on, if◌then◌else◌, map, nat_tests, option_map, refl, rule_broken_by, true, ℕ, ◌%◌, ◌++◌, ◌+◌, ◌<◌, ◌==◌, ◌^◌, ◌∙◌, ◌∷◌, ◌≡◌, ContentChecking, IsBlock, IsEntry, IsEntryOf64, block_frame, block_status, block_status-fits, breach_among, checking_with, command_frame, content_events, events_of_block, fold, found_first, found_in_frame, found_on, gap_if, item_of, number_after, number_with_command, option_or, status_back}
 use Rattle.fio_message.specs.declared.answers.Answer.TheVariants as answers
 use Rattle.fio_message.specs.declared.fields.Entry.{Entry}
 use Rattle.fio_message.proofs.MessageLaws.{answer_back}
-use Rattle.fio_check.specs.ContentCheckers.{breach_below, kept_below}
+use Rattle.fio_check.specs.ContentCheckers.{breach_below}
 use Rattle.fio_ends.specs.PollLogs.{states_frame}
 use Rattle.fio_ends.proofs.Sends.{read_back}
 
@@ -48,9 +48,7 @@ judging number facts = record { begun = true; kept = record { number = number; f
 module _ (begun : Bool) (number : Option ℕ) (facts : ContentFacts) (command : Command) (within : IsCommand command) (frames : List CpuFrame) where
   pub below_command : NoneFound (record { begun = begun; kept = record { number = number; facts = facts } }) (command_frame command ∷ frames)
       → NoneFound (judging (number_with_command number command) (content_with facts (Sent command))) frames
-  below_command n =
-      subst (λ read. NoneFound (record { begun = true; kept = kept_below (record { number = number; facts = facts }) (number_after number read None) (content_events number read None) }) frames)
-      (read_back command within) n.1
+  below_command n = grind (arith, read_back)
 
 -- below a block
 module _ (number : ℕ) (facts : ContentFacts) (again : Bool) (entries : List Entry) (stamp : ℕ) (fits : number < 256) (is_block : IsBlock entries stamp) (frames : List CpuFrame) where
@@ -92,11 +90,7 @@ module _ (number : ℕ) (facts : ContentFacts) (again : Bool) (entries : List En
 
   pub below_block : NoneFound (judging (Some number) facts) (block_frame number again entries stamp ∷ frames)
       → AllKeep facts block_events × NoneFound (judging (Some ((number + 1) % 256)) (fold content_with facts block_events)) frames
-  below_block n = (
-    all_keep facts 0 block_events (subst (λ es. breach_among facts 0 es ≡ None) events_are n.0),
-    subst (λ next. NoneFound (judging next (fold content_with facts block_events)) frames) number_is
-        (subst (λ es. NoneFound (judging (number_after (Some number) None (answer_in (answer_octets answer))) (fold content_with facts es)) frames) events_are n.1),
-  )
+  below_block n = grind (arith, all_keep, events_are, number_is)
 
 -- below the states of the inputs
 module _ (number : Option ℕ) (facts : ContentFacts) (levels stamp : ℕ) (fits_levels : levels < 2 ^ 64) (fits : stamp < 2 ^ 32) (frames : List CpuFrame) where
@@ -107,6 +101,4 @@ module _ (number : Option ℕ) (facts : ContentFacts) (levels stamp : ℕ) (fits
   states_read = answer_back states (answer_octets states) (record { within = (fits_levels, fits); spelled = refl })
 
   pub below_states : NoneFound (judging number facts) (states_frame levels stamp ∷ frames) → NoneFound (judging number (content_with facts (Heard states))) frames
-  below_states n =
-      subst (λ read. NoneFound (record { begun = true; kept = kept_below (record { number = number; facts = facts }) (number_after number None read) (content_events number None read) }) frames)
-      states_read n.1
+  below_states n = grind (arith, states_read)

@@ -1,5 +1,5 @@
 -- An entry of a log of polls without a fault.
-use Rattle.fio_ends.proofs.Names.{ℕ, ◌==◌, ◌&&◌, subst, sym, AllByRecursion, Bool, ContentEvent, ContentFacts, ContentRule, List, None, Option, Some, [], ap, ap₂, arith, beq, content_with, false, if◌then◌else◌, is_some_and, nat_lt, nat_tests, not, option_map, refl, rule_broken_by, subst, sym, true, ℕ, ◌&&◌, ◌<◌, ◌==◌, ◌||◌, ◌∙◌, ◌∷◌, ◌≡◌, Floor, Seen, TimedState, WatchedState, breaks_entry, broken_state, comes_after, coming, entry_rules, find, if_comes, input_coming, input_recorded, input_with_entry, is_later, is_out_of_order, is_shown_otherwise, is_some, is_stale, option_and_then, seen_below, step_only}
+use Rattle.fio_ends.proofs.Names.{ℕ, ◌==◌, ◌&&◌, subst, sym, AllByRecursion, Bool, ContentEvent, ContentFacts, ContentRule, List, None, Option, Some, [], ap, arith, beq, content_with, false, if◌then◌else◌, is_some_and, nat_lt, nat_tests, not, option_map, refl, rule_broken_by, subst, sym, true, ℕ, ◌&&◌, ◌<◌, ◌==◌, ◌||◌, ◌∙◌, ◌∷◌, ◌≡◌, Floor, Seen, TimedState, WatchedState, breaks_entry, broken_state, comes_after, coming, entry_rules, find, if_comes, input_coming, input_recorded, input_with_entry, is_later, is_shown_otherwise, option_and_then, seen_below, step_only}
 use Rattle.fio_message.specs.declared.fields.Entry.{Entry}
 use Rattle.fio_input.specs.Widening.{wide_time_of}
 use Rattle.fio_check.specs.ContentRules.{are_times_judged}
@@ -52,21 +52,7 @@ module _ (facts : ContentFacts) (full : ℕ) (floor : Floor) (seen : Option Seen
   entry_input : (input : ℕ) → input < 64 → (same : Bool)
       → IsWatched (if same && nat_lt input 64 then input_with_entry facts entry.level wide (input_coming input comes (facts.inputs input)) else input_coming input comes (facts.inputs input))
       (if same then with_entry entry.level (known_coming comes known input) else known_coming comes known input)
-  entry_input input within false = coming_input comes (facts.inputs input) known input within (w.inputs input within)
-  entry_input input within true =
-      let there : nat_lt input 64 ≡ true = grind (arith, nat_tests) in
-      let above = input_coming input comes (facts.inputs input) in
-      let old = coming_input comes (facts.inputs input) known input within (w.inputs input within) in
-      subst (λ (b : Bool). IsWatched (if b then input_with_entry facts entry.level wide above else above) (with_entry entry.level (known_coming comes known input))) (sym there)
-      (record {
-        reopened = old.reopened;
-        hidden = old.hidden;
-        touched = old.touched;
-        watched = ap₂ (λ (a b : Bool). if a && not b then Some (record { level = entry.level; shaded = above.hidden }) else None) w.clear old.reopened
-            ∙ ap (λ (h : Bool). Some (record { level = entry.level; shaded = h })) old.hidden;
-        shown = refl;
-        unlogged = old.unlogged;
-      })
+  entry_input input within same = grind (arith, coming_input, known_coming, nat_tests, with_entry)
 
   coming_is : coming facts event ≡ comes
   coming_is = ap (option_and_then (if_comes event)) w.seen_is
@@ -91,21 +77,13 @@ module _ (facts : ContentFacts) (full : ℕ) (floor : Floor) (seen : Option Seen
 
     -- the times of this entry are known
     known_time : (test : Floor → Bool) → (are_times_judged facts && is_some_and facts.floor test) ≡ test floor
-    known_time test =
-        ap₂ (λ (n : ℕ) (f : Option Floor). ((n == 0) && (facts.timely && not facts.aged)) && is_some_and f test) w.judged w.floor_is
-        ∙ ap₂ (λ (c a : Bool). (c && not a) && test floor) w.timely w.aged
+    known_time test = grind arith
 
     pub behind : (above : ℕ) → floor.input ≡ Some above → comes_after entry.input wide above floor.time ≡ true
-    behind above is =
-        not_false (comes_after entry.input wide above floor.time)
-        (sym (ap (λ (a : Option ℕ). is_some_and a (λ i. not (comes_after entry.input wide i floor.time))) is)
-        ∙ sym (known_time (is_out_of_order entry.input wide)) ∙ kept.0)
+    behind above is = grind (arith, known_time, not_false)
 
     pub later : floor.input ≡ None → is_later wide floor.time ≡ true
-    later is =
-        not_false (is_later wide floor.time)
-        (sym (ap (λ (a : Option ℕ). not (is_some a) && not (is_later wide floor.time)) is)
-        ∙ sym (known_time (is_stale wide)) ∙ kept.1.0)
+    later is = grind (arith, known_time, not_false)
 
     other_level : (a b : Bool) → beq a b ≡ false → a ≡ not b
     other_level a b is = grind arith

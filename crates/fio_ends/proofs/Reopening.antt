@@ -1,6 +1,5 @@
 -- An input whose changes that are still to be recorded alternate as long as it is not ignored and then opened again.
-use Rattle.fio_ends.proofs.Names.{◌≡◌, ◌≢◌, ◌∙◌, ◌+◌, ◌-◌, ◌<◌, ◌≤◌, ◌⊎◌, inl, inr, ℕ, Bool, true, false, not, List, [], ◌∷◌, ◌++◌, length, take, drop, Option, Some, refl, sym, subst, arith, slice_get, slice_get_within, take-append-drop, Command, command_in, Life, Occurrence, Scanned, LineSynced, Raised, Commanded, life_after_command, log_of, log_of-with_command, Transition, SentFrame, get_after_push, drop-append-le}
-use Rattle.fio_module.specs.Log.{transitions_below}
+use Rattle.fio_ends.proofs.Names.{◌≡◌, ◌≢◌, ◌∙◌, ◌+◌, ◌-◌, ◌<◌, ◌≤◌, ◌⊎◌, inl, inr, ℕ, Bool, true, false, not, List, [], ◌∷◌, ◌++◌, length, take, drop, Option, Some, refl, sym, subst, arith, slice_get, slice_get_within, take-append-drop, Command, command_in, Life, Occurrence, life_after_command, log_of, log_of-with_command, Transition, SentFrame, get_after_push, drop-append-le}
 use Rattle.fio_ends.proofs.Alternating.{Alternate, NoneOf, alternate-append, alternate-split, none-alternate, none_ignored}
 use Rattle.fio_ends.proofs.Following.{IsNoCommand}
 use Rattle.fio_ends.proofs.Shut.{KeepsShutBy, NoneOpens, ignored-command, silent-further, silent-quiet}
@@ -169,17 +168,7 @@ module _ (frames : List SentFrame) (last upto input : ℕ) (shaded : Bool) (low 
 module _ (frames : List SentFrame) (last upto input : ℕ) (shaded : Bool) (low : input < 64) (life : Life) (occurrence : Occurrence) (quiet : IsNoCommand occurrence)
     (within : upto ≤ length (log_of life)) where
   was-quiet : (occurrence : Occurrence) → IsNoCommand occurrence → (level : Bool) → WasWatched life upto input level → WasWatched (occurrence ∷ life) upto input level
-  was-quiet (Scanned raw) quiet level w =
-      let new = transitions_below 64 raw life in
-      record {
-        ignored = w.ignored;
-        state = w.state;
-        alternate = subst (λ log. Alternate input level log w.state) (sym (drop-append-le upto (log_of life) new within))
-            (alternate-append input level w.state w.state (drop upto (log_of life)) new w.alternate (none-alternate input w.state new (none_ignored input raw life w.ignored)));
-      }
-  was-quiet LineSynced quiet level w = record { ignored = w.ignored; state = w.state; alternate = w.alternate }
-  was-quiet (Raised mask) quiet level w = record { ignored = w.ignored; state = w.state; alternate = w.alternate }
-  was-quiet (Commanded command) quiet level w = absurd quiet
+  was-quiet occurrence quiet level w = grind (arith, alternate-append, drop-append-le, none-alternate, none_ignored)
 
   pub followed-quiet : (level : Bool) → IsFollowed life frames last upto input shaded level → IsFollowed (occurrence ∷ life) frames last upto input shaded level
   followed-quiet level (inl s) = inl (record { watched = watched-quiet life occurrence upto input level quiet within low s.watched; reopens = s.reopens; ignores = s.ignores })
@@ -257,11 +246,7 @@ module _ (life : Life) (frames : List SentFrame) (last upto input : ℕ) (transi
 
   -- and of another
   was-other : (level : Bool) → transition.input ≢ input → WasWatched life upto input level → WasWatched life (upto + 1) input level
-  was-other level apart w = by (subst (λ log. Alternate input level log w.state) (rest_at (log_of life) upto transition at) w.alternate)
-    where
-      by : Alternate input level (transition ∷ drop (upto + 1) (log_of life)) w.state → WasWatched life (upto + 1) input level
-      by (inl here) = absurd (apart here.0)
-      by (inr other) = record { ignored = w.ignored; state = w.state; alternate = other.1 }
+  was-other level apart w = grind (arith, rest_at)
 
   pub followed-other : (shaded level : Bool) → transition.input ≢ input → IsFollowed life frames last upto input shaded level
       → IsFollowed life frames last (upto + 1) input shaded level

@@ -1,5 +1,5 @@
 -- The frames of a module that was started anew, as a judge of a link sees them that does not know it.
-use Rattle.fio_ends.proofs.Names.{◌≡◌, ◌∙◌, ◌==◌, ◌⊎◌, inl, inr, ◌&&◌, not, ℕ, Bool, true, false, List, length, Option, Some, None, refl, ap, sym, arith, if◌then◌else◌, is_some, option_and_then, nat_tests, number_due, facts_with, ◌+◌, ◌%◌, ◌≤◌, Answer, says_again, Facts, RuleLimits, first_broken_within, is_some_and, observation_in, observation_of, Watchdog, BLOCK_ANSWER, Breach, ContentRule, Excused, FrameOutcome, Judging, Load, LogPlace, Observation, Restarted, any_stamp_in, any_stamp_of, breach_of, breaks_within, content_here, found_by, found_in_frame, is_absent, is_before, is_set_back, judging_below_outcome, list_any, loads_below, may_be_anew, nat_le, nat_lt, outcome_anew, outcome_in, outcome_set_back, passes_over, place_lost, polls_below, stamp_of}
+use Rattle.fio_ends.proofs.Names.{◌≡◌, ◌∙◌, ◌==◌, ◌⊎◌, inl, inr, ◌&&◌, not, ℕ, Bool, true, false, List, length, Option, Some, None, refl, ap, sym, arith, if◌then◌else◌, is_some, option_and_then, nat_tests, number_due, facts_with, ◌+◌, ◌≤◌, Answer, says_again, Facts, RuleLimits, first_broken_within, is_some_and, observation_in, observation_of, Watchdog, BLOCK_ANSWER, Breach, ContentRule, Excused, FrameOutcome, Judging, Load, LogPlace, Observation, Restarted, any_stamp_in, any_stamp_of, breach_of, breaks_within, content_here, found_by, found_in_frame, is_absent, is_before, is_set_back, judging_below_outcome, list_any, loads_below, may_be_anew, nat_le, nat_lt, outcome_anew, outcome_in, outcome_set_back, passes_over, place_lost, polls_below, stamp_of}
 use Rattle.std.specs.Prelude.{◌||◌}
 use Rattle.fio_message.specs.declared.answers.Answer.TheVariants as answers
 use Rattle.fio_check.specs.LinkJudges.{may_answer_anew, outcome_of_content}
@@ -38,21 +38,7 @@ one_more polls least one two = grind arith
 -- below a poll
 pub polls_polled : (above facts : Facts) (polls number : ℕ) → ((due : ℕ) → number_due facts ≡ Some due → due ≡ number) → KnowsPolls above facts polls
     → KnowsPolls (facts_with above (seen.Poll number)) (facts_with facts (seen.Poll number)) (polls_below polls (seen.Poll number))
-polls_polled above facts polls number due (inr k) = inr (record {
-  polled = refl;
-  once = one_more polls 1 (omega arith) (omega arith);
-  twice = λ is. (ap (λ polled. is_some_and polled (λ polled. not (number == polled))) k.polled ∙ is, (let once = k.once in one_more polls 2 (omega (arith, once)) (omega arith)));
-})
-polls_polled above facts polls number due (inl u) = by facts.polled refl
-  where
-    by : (polled : Option ℕ) → facts.polled ≡ polled
-        → KnowsPolls (facts_with above (seen.Poll number)) (facts_with facts (seen.Poll number)) (polls_below polls (seen.Poll number))
-    by None is = absurd (let none : is_some {T = ℕ} None ≡ true = sym (ap (is_some {T = ℕ}) is) ∙ u.polled in cc none)
-    by (Some polled) is =
-        let next : (polled + 1) % 256 ≡ number = due ((polled + 1) % 256) (rw (is, u.answered) refl) in
-        let other : (number == polled) ≡ false = grind (arith, nat_tests, next) in
-        let goes : (facts_with facts (seen.Poll number)).advanced ≡ true = ap (λ found. is_some_and found (λ before. not (number == before))) is ∙ ap not other in
-        inr (record { polled = refl; once = one_more polls 1 (omega arith) (omega arith); twice = λ not_so. absurd (let both : true ≡ false = sym goes ∙ not_so in cc both) })
+polls_polled above facts polls number due is = grind (arith, nat_tests, one_more)
 
 -- such a block breaks no rule but that on the rest, below facts of a judge that took lines above the life
 pub record IsAgain (limits : RuleLimits) (above facts : Facts) (polls : ℕ) (said : Observation) : Type 0 where

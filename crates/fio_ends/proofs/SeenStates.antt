@@ -3,7 +3,7 @@
 use Rattle.fio_ends.proofs.Names.{◌≡◌, ◌≢◌, ◌+◌, ◌<◌, ◌≤◌, ◌&&◌, inl, inr, ℕ, Bool, true, false, not, List, [], ◌∷◌, ◌++◌, length, drop, length-append, Option, Some, None, refl, ap, subst, arith, if◌then◌else◌, slice_get, AllByRecursion, same_Some, Life, Occurrence, Scanned, LineSynced, Raised, Commanded, Transition, log_of, drop-append-le, each-front, later_log}
 use Rattle.fio_message.specs.declared.commands.Command.TheVariants as commands
 use Rattle.fio_module.specs.Log.{transitions_below}
-use Rattle.fio_ends.proofs.Alternating.{Alternate, NoneOf, alternate-same, alternate-split, scan_below}
+use Rattle.fio_ends.proofs.Alternating.{Alternate, alternate-same, alternate-split, scan_below}
 use Rattle.fio_ends.proofs.Following.{IsNoCommand}
 use Rattle.fio_ends.proofs.Watching.{IsSilent, IsWatched, NoneHidden, none_hidden-further, opened-entry, state_of, watched-other}
 
@@ -20,12 +20,7 @@ watched-before life raw upto input level within low w =
     record { opened = w.opened; alternate = subst (Alternate input level (drop upto (log_of life))) same parts.1 }
 
 silent-before : (life : Life) (raw upto input : ℕ) → upto ≤ length (log_of life) → IsSilent (Scanned raw ∷ life) upto input → IsSilent life upto input
-silent-before life raw upto input within s =
-    let new = transitions_below 64 raw life in
-    record {
-      ignored = s.ignored;
-      none = each-front (λ transition. transition.input ≢ input) (drop upto (log_of life)) new (subst (NoneOf input) (drop-append-le upto (log_of life) new within) s.none);
-    }
+silent-before life raw upto input within s = grind (arith, drop-append-le, each-front)
 
 -- what is known at a life of the changes of an input that are still to be recorded, by what is known of content
 pub record WatchAt (life : Life) (upto input : ℕ) (clear hidden : Bool) (watched : Option Bool) : Type 0 where
@@ -105,7 +100,4 @@ watch_another life upto input transition clear hidden watched at apart w = recor
 -- a gap mark is recorded
 pub watch_gap : (life : Life) (upto further input : ℕ) (clear hidden : Bool) (watched : Option Bool) → upto ≤ further → WatchAt life upto input clear hidden watched
     → WatchAt life further input clear hidden None
-watch_gap life upto further input clear hidden watched le w = record {
-  open_ones = λ is none. none_hidden-further life upto further input le (w.open_ones is none);
-  watched_ones = λ level is. absurd (cc is);
-}
+watch_gap life upto further input clear hidden watched le w = grind (arith, none_hidden-further)

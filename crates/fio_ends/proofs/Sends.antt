@@ -160,10 +160,4 @@ module _ (settings : Settings) (first : ℕ) (machine : Machine) (facts : Facts)
 
   pub sends-other : (command : Command) → sending_refusal command ≡ None → IsCommand command
       → Keeps settings first (life_of machine.history) facts (record { from_cpu = true; octets = command_octets command } ∷ []) (after_sending machine command) 0
-  sends-other command fine within =
-      let said = said_of command within ∙ other_said command fine in
-      record {
-        rules = λ limits suit. (ap (first_broken_within limits facts) said ∙ refl, tt);
-        follows = subst (λ o. Follows settings first (life_of machine.history) (after_sending machine command) 0 (facts_with facts o)) (sym said)
-            (follows-other command fine within);
-      }
+  sends-other command fine within = grind (arith, follows-other, other_said, said_of)

@@ -1,5 +1,5 @@
 -- An item of an input that was taken is the one that the module has.
-use Rattle.fio_ends.proofs.Names.{◌≡◌, ◌∙◌, ◌+◌, ◌<◌, ◌≤◌, inl, inr, ℕ, Bool, true, false, List, [], ◌∷◌, ◌++◌, length, Option, Some, None, refl, ap, sym, subst, arith, if◌then◌else◌, option_map, is_some, InputAbove, slice_get, slice_get_within, AllByRecursion, same_Some, Command, command_in, InputItem, ArrayVec, Life, Occurrence, Commanded, life_after_command, filter_events, all_present, input_setting, SentFrame, get_after_push, SentItem, Setting, filter_in_force, input_with_item, item_for, items_sent, last_item_of, setting_by, unnamed}
+use Rattle.fio_ends.proofs.Names.{◌≡◌, ◌∙◌, ◌+◌, ◌<◌, ◌≤◌, inl, inr, ℕ, Bool, true, false, List, [], ◌∷◌, ◌++◌, length, Option, Some, None, refl, ap, sym, subst, arith, if◌then◌else◌, option_map, is_some, InputAbove, slice_get, slice_get_within, AllByRecursion, same_Some, Command, command_in, InputItem, ArrayVec, Life, Occurrence, Commanded, life_after_command, filter_events, all_present, input_setting, SentFrame, get_after_push, SentItem, Setting, filter_in_force, input_with_item, item_for, items_sent, last_item_of, unnamed}
 use Rattle.fio_message.specs.declared.commands.Command.TheVariants as commands
 use Rattle.fio_check.specs.ContentSaid.{item_kept}
 use Rattle.fio_ends.proofs.ContentFrame.{last_of}
@@ -41,27 +41,12 @@ module _ (input : ℕ) (low : input < 64) where
   set-item : (items : ArrayVec InputItem) (life : Life) (found : Option InputItem) (kept : SentItem) → all_present items.items ≡ true
       → last_item_of input items.items ≡ found → option_map item_kept found ≡ Some kept
       → HasItem (Commanded (commands.ConfigureInputs items) ∷ life) input kept
-  set-item items life None kept present is at = absurd (cc at)
-  set-item items life (Some item) kept present is at =
-      let set : setting_of input (Commanded (commands.ConfigureInputs items) ∷ life) ≡ (record { ignore = item.ignore; leading = item.leading; trailing = item.trailing }) =
-      ap (λ (p : Bool). setting_by (last_item_of input (if p then items.items else [])) (setting_of input life)) present
-      ∙ ap (λ found. setting_by found (setting_of input life)) is in
-      let same : item_kept item ≡ kept = same_Some _ _ at in
-      subst (HasItem (Commanded (commands.ConfigureInputs items) ∷ life) input) same
-      (record {
-        ignore = ap (λ (s : Setting). s.ignore) set;
-        leading = ap (λ (s : Setting). filter_in_force s.leading) set;
-        trailing = ap (λ (s : Setting). filter_in_force s.trailing) set;
-      })
+  set-item items life found kept present is at = grind (arith, same_Some)
 
 -- ---- the setting stays
 
 has-same : (life later : Life) (input : ℕ) (item : SentItem) → setting_of input later ≡ setting_of input life → HasItem life input item → HasItem later input item
-has-same life later input item same h = record {
-  ignore = ap (λ (s : Setting). s.ignore) same ∙ h.ignore;
-  leading = ap (λ (s : Setting). filter_in_force s.leading) same ∙ h.leading;
-  trailing = ap (λ (s : Setting). filter_in_force s.trailing) same ∙ h.trailing;
-}
+has-same life later input item same h = grind arith
 
 pub setting-quiet : (occurrence : Occurrence) (life : Life) (input : ℕ) → IsNoCommand occurrence → setting_of input (occurrence ∷ life) ≡ setting_of input life
 setting-quiet occurrence life input quiet = grind arith
@@ -122,13 +107,4 @@ module _ (frames : List SentFrame) (last input : ℕ) (named : Bool) (item : Opt
   pub item-taken : (life now : Life) (items : ArrayVec InputItem) → IsSentLast frames (commands.ConfigureInputs items) → last ≡ length frames
       → IsSince (commands.ConfigureInputs items) life now → all_present items.items ≡ true
       → is_some (item_for input items.items) ≡ true → named ≡ true → KeepsItem now frames last input named item taken → KeepsItem now frames last input false item true
-  item-taken life now items sent all since present some is_named k = record {
-    taken_one = λ is kept at. (
-      λ place frame high there. absurd (omega (arith, all, slice_get_within frames place frame there)),
-      has-same (Commanded (commands.ConfigureInputs items) ∷ life) now input kept
-          (ap (setting_of input) since.is ∙ setting-since since.more (Commanded (commands.ConfigureInputs items) ∷ life) input since.none)
-          (set-item input low items life (last_item_of input items.items) kept present refl
-          (ap (option_map item_kept) (sym (item_is input low items.items)) ∙ sym (k.sent_last is_named items sent some) ∙ at)),
-    );
-    sent_last = λ is. absurd (cc is);
-  }
+  item-taken life now items sent all since present some is_named k = grind (arith, has-same, item_is, set-item, setting-since, slice_get_within)

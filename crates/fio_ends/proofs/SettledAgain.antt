@@ -1,6 +1,6 @@
 -- A block that is sent again was made at a poll for it, and what was received since has no item of an input of which none was sent
 -- since the first of these polls. So, if it has no C, it settles the input as a clear block does.
-use Rattle.fio_ends.proofs.Names.{◌≡◌, ◌∙◌, ◌<◌, ◌≤◌, ◌&&◌, ◌⊎◌, inl, inr, ℕ, Bool, true, false, not, List, [], ◌∷◌, ◌++◌, length, length-append, Some, refl, ap, sym, subst, arith, slice_get_within, AllByRecursion, append_assoc, Block, Settings, AreInRange, Life, Occurrence, Scanned, LineSynced, Raised, Commanded, life_of, log_of, scans_of, MadeBlock, next_block, blocks_in, ContentFacts, Machine, blocks_without_more_take_all, each-front, ignores, later_log}
+use Rattle.fio_ends.proofs.Names.{◌≡◌, ◌∙◌, ◌<◌, ◌≤◌, ◌&&◌, ◌⊎◌, inl, inr, ℕ, Bool, true, false, not, List, [], ◌∷◌, ◌++◌, length, length-append, refl, ap, sym, subst, arith, slice_get_within, AllByRecursion, append_assoc, Block, Settings, AreInRange, Life, Occurrence, life_of, log_of, scans_of, MadeBlock, next_block, blocks_in, ContentFacts, Machine, blocks_without_more_take_all, each-front, later_log}
 use Rattle.std.proofs.lemmas.List.{append_cancel_right}
 use Rattle.fio_module.proofs.ListParts.{each-back}
 use Rattle.fio_ends.proofs.ContentSteps.{IsKnown, PollsKnown, Takes}
@@ -65,10 +65,7 @@ module _ (settings : Settings) (range : AreInRange settings) (first : ℕ) (begi
 module _ (input : ℕ) (low : input < 64) where
   hidden-left : (occurrence : Occurrence) (life : Life) (upto : ℕ) → LeavesInput input occurrence → upto ≤ length (log_of life) → NoneHidden life upto input
       → NoneHidden (occurrence ∷ life) upto input
-  hidden-left (Commanded command) life upto leaves within hidden = none_hidden-command input low life upto (Some command) (λ items is. ap ignores (leaves items is)) hidden
-  hidden-left (Scanned raw) life upto leaves within hidden = none_hidden-quiet life (Scanned raw) upto input tt within low hidden
-  hidden-left LineSynced life upto leaves within hidden = none_hidden-quiet life LineSynced upto input tt within low hidden
-  hidden-left (Raised mask) life upto leaves within hidden = none_hidden-quiet life (Raised mask) upto input tt within low hidden
+  hidden-left occurrence life upto leaves within hidden = grind (arith, none_hidden-command, none_hidden-quiet)
 
   pub hidden-since : (more life : List Occurrence) (upto : ℕ) → AllByRecursion (LeavesInput input) more → upto ≤ length (log_of life) → NoneHidden life upto input
       → NoneHidden (more ++ life) upto input

@@ -1,5 +1,5 @@
 -- In a run of fewer than 2^31 scans all that is compared is near.
-use Rattle.fio_ends.proofs.Names.{◌≡◌, ◌<◌, ◌≤◌, ◌^◌, ℕ, Bool, true, false, List, [], ◌∷◌, ◌++◌, take, drop, Option, Some, None, slice_get, refl, ap, arith, if◌then◌else◌, same_Some, AllByRecursion, flat_map, block_in, Block, Life, Occurrence, Commanded, life_of, scans_of, Transition, log_of, MadeBlock, newest_poll, is_new, blocks_of, newest_end, next_block, start_after, count_from, Settings, Event, ToCpu, SentFrame, Machine, item_numbered, after, Leads, HaveNoRestart, blocks_in, each-at, BlocksAreNear, EntriesNearStates, HasNearTimes, InputsAreNear, IsNear, IsNearStates, IsWithinAge, StampsAreNear, StatesAreNear, block_taken, blocks_taken, comes_with, each-append, each-map, hears_states, latest_with, option_and_then, scans_above, scans_asked, scans_below, scans_left, scans_seen, scans_stamped}
+use Rattle.fio_ends.proofs.Names.{◌≡◌, ◌<◌, ◌≤◌, ◌^◌, ℕ, Bool, true, false, List, [], ◌∷◌, ◌++◌, Option, Some, None, refl, ap, arith, if◌then◌else◌, same_Some, AllByRecursion, flat_map, Life, Occurrence, Commanded, life_of, scans_of, Transition, log_of, MadeBlock, newest_poll, is_new, blocks_of, next_block, Settings, Event, Machine, after, Leads, HaveNoRestart, each-at, BlocksAreNear, EntriesNearStates, HasNearTimes, InputsAreNear, IsNear, IsNearStates, IsWithinAge, StampsAreNear, StatesAreNear, block_taken, each-append, each-map, latest_with, scans_asked, scans_below, scans_left, scans_seen, scans_stamped}
 use Rattle.fio_message.specs.declared.commands.Command.TheVariants as commands
 use Rattle.fio_module.proofs.ScanTransitions.{each_logged}
 use Rattle.fio_link.proofs.Grown.{grows}
@@ -31,13 +31,7 @@ early : (life : Life) → scans_of life < 2 ^ 31 → AllByRecursion IsEarly (log
 early life short = each-map (IsWithin life) IsEarly (λ transition low. omega arith) (log_of life) (within life)
 
 next_short : (settings : Settings) (life : Life) → scans_of life < 2 ^ 31 → IsShort (next_block settings life)
-next_short settings life short =
-    let log = log_of life in
-    let start = start_after settings log (newest_end settings life) in
-    record {
-      scans = short;
-      transitions = each-take IsEarly (count_from settings log start) (drop start log) (each-drop IsEarly start log (early life short));
-    }
+next_short settings life short = grind (arith, each-drop, each-take, early)
 
 short-if : (new : Bool) (blocks : List MadeBlock) (block : MadeBlock) → AllByRecursion IsShort blocks → IsShort block
     → AllByRecursion IsShort (if new then blocks ++ block ∷ [] else blocks)
@@ -78,10 +72,7 @@ states_near scans (transition ∷ transitions) short all =
     (record { after = omega arith; before = omega (arith, all.0) }, λ low. states_near scans transitions short all.1)
 
 near_states : (scans : ℕ) (block : MadeBlock) → scans < 2 ^ 31 → IsShort block → IsNearStates scans block
-near_states scans block short b = record {
-  entries = states_near scans block.transitions short b.transitions;
-  made = λ none whole. record { after = omega arith; before = omega (arith, b.scans) };
-}
+near_states scans block short b = grind (arith, states_near)
 
 module _ (settings : Settings) (first : ℕ) (last : Machine) (short : scans_of (life_of last.history) < 2 ^ 31) where
   -- the scans above the end of a run
@@ -105,34 +96,14 @@ module _ (settings : Settings) (first : ℕ) (last : Machine) (short : scans_of 
   SeenShort seen = (scans : ℕ) → seen ≡ Some scans → scans < 2 ^ 31
 
   left_short : (block : Option MadeBlock) (seen : Option ℕ) → SeenShort seen → SeenShort (scans_left block seen)
-  left_short None seen low = low
-  left_short (Some block) None low = λ scans is. absurd (cc is)
-  left_short (Some block) (Some before) low = by (comes_with before block)
-    where
-      by : (comes : Bool) → SeenShort (if comes then None else Some before)
-      by true = λ scans is. absurd (cc is)
-      by false = low
+  left_short block seen low = grind arith
 
   seen_short : (machine : Machine) (asked : ℕ) (seen : Option ℕ) (event : Event) → asked < 2 ^ 31 → SeenShort seen → SeenShort (scans_seen settings machine asked seen event)
-  seen_short machine asked seen event low all = by (hears_states machine event)
-    where
-      by : (hears : Bool) → SeenShort (if hears then Some asked else scans_left (block_taken settings machine event) seen)
-      by true = λ scans is. (let same : asked ≡ scans = same_Some _ _ is in omega arith)
-      by false = left_short (block_taken settings machine event) seen all
+  seen_short machine asked seen event low all = grind (arith, left_short, same_Some)
 
   taken_short : (machine : Machine) (event : Event) → scans_of (life_of machine.history) < 2 ^ 31 → (block : MadeBlock)
       → block_taken settings machine event ≡ Some block → IsShort block
-  taken_short machine (ToCpu index) here block is = by_frame (item_numbered machine.to_cpu index) is
-    where
-      by_block : (found : Option Block) → option_and_then (λ b. slice_get (blocks_in settings machine) machine.round) found ≡ Some block → IsShort block
-      by_block None is = absurd (cc is)
-      by_block (Some found) is = each-at IsShort (blocks_in settings machine) machine.round block (blocks_short settings (life_of machine.history) here) is
-
-      by_frame : (found : Option SentFrame)
-          → option_and_then (λ (frame : SentFrame). option_and_then (λ b. slice_get (blocks_in settings machine) machine.round) (block_in frame.octets)) found ≡ Some block → IsShort block
-      by_frame None is = absurd (cc is)
-      by_frame (Some frame) is = by_block (block_in frame.octets) is
-  taken_short machine other here block is = absurd (cc is)
+  taken_short machine other here block is = grind (arith, blocks_short, each-at)
 
   all_states_near : (later : List Event) (machine : Machine) (asked : ℕ) (seen : Option ℕ) → HaveNoRestart later → Leads settings first machine later last → asked < 2 ^ 31
       → SeenShort seen → StatesAreNear settings first machine asked seen later
@@ -147,15 +118,4 @@ module _ (settings : Settings) (first : ℕ) (last : Machine) (short : scans_of 
   -- all that is asked of a log but of loads
   pub near_when_short : (begun : Bool) (begin : Machine) (later : List Event) → HaveNoRestart later → Leads settings first begin later last
       → NoMoreLoads begun settings first begin later → HasNearTimes begun settings first begin later last
-  near_when_short begun begin later none leads loads =
-      let blocks = blocks_in settings last in
-      let taken = each-drop IsShort begin.round (take last.round blocks) (each-take IsShort last.round blocks (blocks_short settings (life_of last.history) short)) in
-      record {
-        loads = loads;
-        near = record {
-          blocks = blocks_near (scans_above begun) (blocks_taken settings begin last) taken;
-          stamps = stamps_near later begin 0 (scans_above begun) none leads (omega arith);
-          inputs = inputs_near (λ input. None) (flat_map (λ block. block.transitions) (blocks_taken settings begin last)) (all_early (blocks_taken settings begin last) taken);
-          states = all_states_near later begin 0 None none leads (omega arith) (λ scans is. absurd (cc is));
-        };
-      }
+  near_when_short begun begin later none leads loads = grind (arith, all_early, all_states_near, blocks_near, blocks_short, each-drop, each-take, inputs_near, stamps_near)

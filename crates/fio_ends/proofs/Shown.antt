@@ -1,8 +1,8 @@
 -- What the states of a 181 tell of an input, if no item of it is sent since: its changes alternate from there on, or it has none.
-use Rattle.fio_ends.proofs.Names.{◌≡◌, ◌≢◌, ◌∙◌, ◌+◌, ◌<◌, ◌≤◌, ◌&&◌, ◌||◌, ◌⊎◌, inl, inr, ℕ, Bool, true, false, not, List, [], ◌∷◌, ◌++◌, length, drop, Option, Some, None, is_some_and, refl, ap, sym, subst, arith, if◌then◌else◌, beq, slice_get, AllByRecursion, same_Some, Command, command_in, InputItem, Life, Occurrence, Scanned, LineSynced, Raised, Commanded, life_after_command, log_of, length-append, Transition, SentFrame, InputAbove, get_after_push, nat_lt, Seen, drop_of_length-le, ignores, input_coming, input_with_item, is_shown_otherwise, item_for, items_sent, later_log, opens, unnamed}
+use Rattle.fio_ends.proofs.Names.{◌≡◌, ◌≢◌, ◌∙◌, ◌+◌, ◌<◌, ◌≤◌, ◌&&◌, ◌||◌, ◌⊎◌, inl, inr, ℕ, Bool, true, false, not, List, [], ◌∷◌, ◌++◌, length, drop, Option, Some, None, is_some_and, refl, ap, sym, subst, arith, if◌then◌else◌, beq, slice_get, AllByRecursion, same_Some, Command, command_in, InputItem, Life, Occurrence, Commanded, life_after_command, log_of, length-append, Transition, SentFrame, InputAbove, get_after_push, nat_lt, Seen, drop_of_length-le, ignores, input_coming, input_with_item, is_shown_otherwise, item_for, items_sent, later_log, opens, unnamed}
 use Rattle.fio_message.specs.Bits.{is_set}
 use Rattle.fio_message.specs.declared.commands.Command.TheVariants as commands
-use Rattle.fio_ends.proofs.Alternating.{Alternate, NoneOf, alternate-same}
+use Rattle.fio_ends.proofs.Alternating.{NoneOf, alternate-same}
 use Rattle.fio_ends.proofs.Following.{IsNoCommand}
 use Rattle.fio_ends.proofs.FirstPolls.{LeavesInput, NamesNot, NoneNames}
 use Rattle.fio_ends.proofs.Shut.{KeepsShutBy, silent-command, silent-further, silent-quiet}
@@ -52,22 +52,12 @@ module _ (input : ℕ) (low : input < 64) where
   -- from the states that were asked for on, after a life
   pub goes-now : (life : Life) (more : List Occurrence) → AllByRecursion IsNoCommand more
       → GoesFrom (more ++ Commanded commands.FilteredInputs ∷ life) (length (log_of life)) input (state_of input life)
-  goes-now life more quiet = goes-since more (Commanded commands.FilteredInputs ∷ life) (length (log_of life)) (state_of input life) quiet (omega arith) (by (is_ignored input life) refl)
-    where
-      rest : drop (length (log_of life)) (log_of life) ≡ []
-      rest = drop_of_length-le (log_of life) (omega arith)
-
-      by : (ignored : Bool) → is_ignored input life ≡ ignored → GoesFrom (Commanded commands.FilteredInputs ∷ life) (length (log_of life)) input (state_of input life)
-      by true is = inl (record { ignored = is; none = subst (NoneOf input) (sym rest) tt })
-      by false is = inr (record { opened = is; alternate = subst (λ log. Alternate input (state_of input life) log (state_of input life)) (sym rest) refl })
+  goes-now life more quiet = grind (arith, drop_of_length-le, goes-since, is_ignored, state_of)
 
   -- and so it goes on while none of its items is received
   goes-left : (occurrence : Occurrence) (life : Life) (upto : ℕ) (level : Bool) → LeavesInput input occurrence → upto ≤ length (log_of life) → GoesFrom life upto input level
       → GoesFrom (occurrence ∷ life) upto input level
-  goes-left (Commanded command) life upto level leaves within goes = goes-command life upto level (Some command) leaves goes
-  goes-left (Scanned raw) life upto level leaves within goes = goes-quiet life upto level (Scanned raw) tt within goes
-  goes-left LineSynced life upto level leaves within goes = goes-quiet life upto level LineSynced tt within goes
-  goes-left (Raised mask) life upto level leaves within goes = goes-quiet life upto level (Raised mask) tt within goes
+  goes-left occurrence life upto level leaves within goes = grind (arith, goes-command, goes-quiet)
 
   goes-left_since : (more life : List Occurrence) (upto : ℕ) (level : Bool) → AllByRecursion (LeavesInput input) more → upto ≤ length (log_of life) → GoesFrom life upto input level
       → GoesFrom (more ++ life) upto input level
@@ -78,14 +68,7 @@ module _ (input : ℕ) (low : input < 64) where
       (goes-left_since more life upto level leaves.1 within goes)
 
   pub goes-then : (more life : List Occurrence) → AllByRecursion (LeavesInput input) more → GoesFrom (more ++ life) (length (log_of life)) input (state_of input life)
-  goes-then more life leaves = goes-left_since more life (length (log_of life)) (state_of input life) leaves (omega arith) (by (is_ignored input life) refl)
-    where
-      rest : drop (length (log_of life)) (log_of life) ≡ []
-      rest = drop_of_length-le (log_of life) (omega arith)
-
-      by : (ignored : Bool) → is_ignored input life ≡ ignored → GoesFrom life (length (log_of life)) input (state_of input life)
-      by true is = inl (record { ignored = is; none = subst (NoneOf input) (sym rest) tt })
-      by false is = inr (record { opened = is; alternate = subst (λ log. Alternate input (state_of input life) log (state_of input life)) (sym rest) refl })
+  goes-then more life leaves = grind (arith, drop_of_length-le, goes-left_since, is_ignored, state_of)
 
   module _ (life : Life) (frames : List SentFrame) (last upto : ℕ) where
     pub tells-quiet : (level : Bool) (occurrence : Occurrence) → IsNoCommand occurrence → upto ≤ length (log_of life) → TellsFrom life frames last upto input level

@@ -1,5 +1,5 @@
 -- An input that is shut: it is ignored, and nothing that is still to be received opens it.
-use Rattle.fio_ends.proofs.Names.{◌≡◌, ◌≢◌, ◌∙◌, ◌-◌, ◌<◌, ◌≤◌, ◌&&◌, inl, inr, ℕ, Bool, true, false, not, List, [], ◌∷◌, ◌++◌, length, drop, Option, Some, refl, ap, sym, subst, if◌then◌else◌, slice_get, same_Some, Command, command_in, InputItem, ArrayVec, Settings, Life, Occurrence, Scanned, LineSynced, Raised, Commanded, life_of, life_after_command, log_of, log_of-with_command, ContentFacts, InputAbove, SentFrame, Machine, get_after_push, Setting, each-drop, item_for, items_sent, last_item_of, opens, setting_by, arith}
+use Rattle.fio_ends.proofs.Names.{◌≡◌, ◌≢◌, ◌∙◌, ◌-◌, ◌<◌, ◌≤◌, ◌&&◌, inl, inr, ℕ, Bool, true, false, not, List, [], ◌∷◌, ◌++◌, length, drop, Option, Some, refl, ap, sym, subst, if◌then◌else◌, slice_get, same_Some, Command, command_in, InputItem, ArrayVec, Settings, Life, Occurrence, life_of, life_after_command, log_of, log_of-with_command, ContentFacts, InputAbove, SentFrame, Machine, get_after_push, Setting, each-drop, item_for, items_sent, last_item_of, opens, setting_by, arith}
 use Rattle.fio_message.specs.declared.commands.Command.TheVariants as commands
 use Rattle.fio_ends.proofs.Alternating.{NoneOf}
 use Rattle.fio_ends.proofs.BlockPlaces.{end_at}
@@ -36,17 +36,11 @@ module _ (input : ℕ) (low : input < 64) where
 
   pub silent-command : (life : Life) (upto : ℕ) (command : Option Command) → KeepsShutBy input command → IsSilent life upto input
       → IsSilent (life_after_command command life) upto input
-  silent-command life upto command keeps s = record {
-    ignored = ignored-command life command keeps s.ignored;
-    none = subst (λ log. NoneOf input (drop upto log)) (sym (log_of-with_command command life)) s.none;
-  }
+  silent-command life upto command keeps s = grind (arith, ignored-command, log_of-with_command)
 
 pub silent-quiet : (life : Life) (occurrence : Occurrence) (upto input : ℕ) → IsNoCommand occurrence → upto ≤ length (log_of life) → IsSilent life upto input
     → IsSilent (occurrence ∷ life) upto input
-silent-quiet life (Scanned raw) upto input quiet within s = silent-scan life raw upto input within s
-silent-quiet life LineSynced upto input quiet within s = record { ignored = s.ignored; none = s.none }
-silent-quiet life (Raised mask) upto input quiet within s = record { ignored = s.ignored; none = s.none }
-silent-quiet life (Commanded command) upto input quiet within s = absurd quiet
+silent-quiet life occurrence upto input quiet within s = grind (arith, silent-scan)
 
 pub silent-further : (life : Life) (upto further input : ℕ) → upto ≤ further → IsSilent life upto input → IsSilent life further input
 silent-further life upto further input le s = record {

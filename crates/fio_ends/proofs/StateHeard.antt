@@ -1,5 +1,5 @@
 -- An answer that is no block keeps the rule `state`; one with the states is what the record comes to.
-use Rattle.fio_ends.proofs.Names.{◌==◌, ◌≡◌, slice_get_within, ◌++◌, ◌∙◌, ◌+◌, ℕ, Bool, true, false, ◌∷◌, length, Option, Some, None, refl, ap, ap₂, sym, subst, arith, if◌then◌else◌, list_any, slice_get, same_Some, length-append, Answer, Command, answer_in, answered_block, block_in, Settings, Life, Commanded, life_of, log_of, log_of-with_command, loads_of, observation_of, answer_type_to, is_absent, MadeBlock, blocks_in, ContentFacts, content_step, Heard, SentFrame, Machine, State, KeepsRule, Seen, broken_state, counter_of, frame_at_place, is_some, option_and_then, scans_left, scans_seen, states_heard, steady_state, without_excuse}
+use Rattle.fio_ends.proofs.Names.{◌==◌, ◌≡◌, slice_get_within, ◌++◌, ◌∙◌, ◌+◌, ℕ, Bool, true, false, ◌∷◌, length, Option, Some, None, refl, ap, sym, subst, arith, if◌then◌else◌, list_any, slice_get, same_Some, length-append, Answer, Command, answered_block, Settings, Life, Commanded, life_of, log_of, log_of-with_command, loads_of, observation_of, answer_type_to, is_absent, MadeBlock, blocks_in, ContentFacts, content_step, Heard, Machine, State, KeepsRule, Seen, broken_state, counter_of, frame_at_place, is_some, option_and_then, scans_left, scans_seen, states_heard, steady_state, without_excuse}
 use Rattle.fio_message.specs.declared.answers.Answer.TheVariants as answers
 use Rattle.fio_message.specs.declared.commands.Command.TheVariants as commands
 use Rattle.fio_check.specs.ContentRules.{first_differing}
@@ -50,13 +50,7 @@ module _ (settings : Settings) (first : ℕ) (begin : Machine) (above : Option �
     -- by the answer
     scans_then : scans_seen settings machine state.asked state.seen (events.ToCpu (place + 1))
         ≡ (if is_some (states_heard (Heard answer)) then Some state.asked else scans_left (taken_of (Some answer)) state.seen)
-    scans_then =
-        let at = frame_at_place machine.to_cpu place ∙ h.at_place in
-        ap₂ (λ heard taken. if heard then Some state.asked else scans_left taken state.seen)
-        (ap (λ found. is_some (option_and_then (λ (frame : SentFrame). option_and_then (λ answer. states_heard (Heard answer)) (answer_in frame.octets)) found)) at
-        ∙ ap (λ found. is_some (option_and_then (λ answer. states_heard (Heard answer)) found)) h.spells)
-        (ap (option_and_then (λ (frame : SentFrame). option_and_then (λ block. slice_get (blocks_in settings machine) machine.round) (block_in frame.octets))) at
-        ∙ ap taken_of h.spells)
+    scans_then = grind (arith, frame_at_place)
 
     -- no states
     abbrev old_states : is_some (states_heard (Heard answer)) ≡ false → answered_block (Some answer) ≡ None → (seen : Seen) → facts.seen ≡ Some seen → Known seen

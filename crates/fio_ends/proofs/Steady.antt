@@ -10,10 +10,7 @@ abbrev pub IsSteady : Life → Life → Type 0
 IsSteady begin now = loads_of now ≡ loads_of begin
 
 pub steady_above : (begin now later : Life) → GoesOn begin now → GoesOn now later → IsSteady begin later → IsSteady begin now
-steady_above begin now later since more steady =
-    let low = loads_grow begin now since in
-    let high = loads_grow now later more in
-    omega arith
+steady_above begin now later since more steady = grind (arith, loads_grow)
 
 -- ---- events that load nothing
 

@@ -1,6 +1,6 @@
 -- Inputs whose latest entry is watched, and that no item ignores which was sent since the clear block above it: their changes
 -- that are still to be recorded alternate.
-use Rattle.fio_ends.proofs.Names.{◌≡◌, ◌≢◌, ◌∙◌, ◌+◌, ◌<◌, ◌≤◌, ◌&&◌, ◌||◌, inl, inr, ℕ, Bool, true, false, not, List, [], ◌∷◌, ◌++◌, length, Option, Some, None, refl, ap, sym, subst, arith, if◌then◌else◌, ◌==◌, InputItem, slice_get, slice_get_within, eqb_tells, nat_lt, nat_tests, same_Some, Command, Block, command_in, command_octets, IsCommand, says_again, says_more, Settings, AreInRange, Life, Occurrence, Scanned, LineSynced, Raised, Commanded, life_of, life_after_command, log_of, Transition, entry_of, MadeBlock, blocks_in, ContentFacts, InputAbove, content_with, Ended, Recorded, Sent, Gap, Event, SentFrame, Machine, start, after, after_sending, after_delivery_to_module, IsKept, get_after_push, SentItem, coming, content_begun, end_of_blocks, ignores, input_below_clear, input_coming, input_ended, input_with_entry, input_with_item, item_for, item_parts, items_sent, settled_now, steady_state, unnamed, watched_now}
+use Rattle.fio_ends.proofs.Names.{◌≡◌, ◌≢◌, ◌∙◌, ◌+◌, ◌<◌, ◌≤◌, ◌&&◌, ◌||◌, inl, inr, ℕ, Bool, true, false, not, List, [], ◌∷◌, ◌++◌, length, Option, Some, None, refl, ap, sym, subst, arith, if◌then◌else◌, ◌==◌, InputItem, slice_get, slice_get_within, eqb_tells, nat_lt, nat_tests, same_Some, Command, Block, command_in, command_octets, IsCommand, says_again, says_more, Settings, AreInRange, Life, Occurrence, Commanded, life_of, life_after_command, log_of, Transition, entry_of, MadeBlock, blocks_in, ContentFacts, InputAbove, content_with, Ended, Recorded, Sent, Gap, Event, SentFrame, Machine, start, after, after_sending, after_delivery_to_module, IsKept, get_after_push, SentItem, coming, content_begun, end_of_blocks, ignores, input_below_clear, input_coming, input_ended, input_with_entry, input_with_item, item_for, item_parts, items_sent, settled_now, steady_state, unnamed, watched_now}
 use Rattle.fio_message.specs.declared.commands.Command.TheVariants as commands
 use Rattle.fio_input.specs.Widening.{wide_time_of}
 use Rattle.fio_ends.proofs.BlockPlaces.{end_at, ends_within}
@@ -224,12 +224,7 @@ module _ (settings : Settings) (range : AreInRange settings) (first : ℕ) (begi
 
   pub watch-happens : (machine : Machine) (facts : ContentFacts) (event : Event) → IsPastBus event → WatchHolds settings machine facts
       → WatchHolds settings (after settings first machine event) facts
-  watch-happens machine facts event past p =
-      let now = life_of machine.history in
-      let each = λ (occurrence : Occurrence) (none : IsNoCommand occurrence) (input : ℕ) (low : input < 64).
-      watch-quiet machine.to_module machine.last_to_module (end_at settings now machine.round) input facts.clear (facts.inputs input).hidden (steady_state (facts.inputs input).watched)
-      low now occurrence none (ends_within settings now machine.round) (p input low) in
-      past_cases (λ event. WatchHolds settings (after settings first machine event) facts) (λ raw. each (Scanned raw) tt) (each LineSynced tt) (λ mask. each (Raised mask) tt) event past
+  watch-happens machine facts event past p = grind (arith, end_at, ends_within, past_cases, watch-quiet)
 
   pub watch-sends : (machine : Machine) (facts : ContentFacts) (command : Command) → IsCommand command → WatchHolds settings machine facts
       → WatchHolds settings (after_sending machine command) (content_with facts (Sent command))

@@ -71,9 +71,7 @@ module _ (settings : Settings) (range : AreInRange settings) (first : ℕ) where
     -- they stay where the module receives a frame
     pub taken_stay : (machine : Machine) (command : Option Command) → IsKept settings first machine
         → drop begin.round (take machine.round (blocks_of settings (life_after_command command (life_of machine.history)))) ≡ blocks_taken settings begin machine
-    taken_stay machine command k =
-        let few : machine.round ≤ length (blocks_in settings machine) = omega (arith, k.always.answers.behind, k.one_life.made) in
-        ap (drop begin.round) (blocks_stay settings (life_of machine.history) command machine.round few)
+    taken_stay machine command k = grind (arith, blocks_stay)
 
     -- so it is asked of those taken so far, and of the block that is taken
     pub asked_of : ((front more : List MadeBlock) → B (front ++ more) → B front)

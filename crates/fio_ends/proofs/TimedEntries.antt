@@ -1,5 +1,5 @@
 -- Levels that are made of entries with their scans: what a machine logs of these levels is these entries.
-use Rattle.fio_ends.proofs.Names.{◌≡◌, ◌∙◌, ◌<◌, ◌≤◌, ◌==◌, ◌||◌, ◌⊎◌, inl, inr, ℕ, suc, Bool, true, false, not, List, [], ◌∷◌, ◌++◌, refl, ap, ap₂, sym, subst, arith, if◌then◌else◌, nat_le, nat_tests, beq, subst, AllByRecursion}
+use Rattle.fio_ends.proofs.Names.{◌≡◌, ◌∙◌, ◌<◌, ◌≤◌, ◌==◌, ◌||◌, ◌⊎◌, ℕ, suc, Bool, true, false, not, List, [], ◌∷◌, ◌++◌, refl, ap, ap₂, arith, if◌then◌else◌, nat_le, nat_tests, beq, AllByRecursion}
 
 -- an entry, and the scan of its change
 pub record Timed : Type 0 where
@@ -48,10 +48,7 @@ upto_one_more scan (e ∷ es) = by (upto_one_more scan es) (nat_le e.scan scan) 
     by : upto (suc scan) es ≡ upto scan es ++ upto (suc scan) (left scan es) → (early : Bool) → nat_le e.scan scan ≡ early
         → (if nat_le e.scan (suc scan) then e ∷ upto (suc scan) es else [])
         ≡ (if early then e ∷ upto scan es else []) ++ upto (suc scan) (if early then left scan es else e ∷ es)
-    by rest false at = refl
-    by rest true at =
-        let earlier : nat_le e.scan (suc scan) ≡ true = grind (arith, nat_tests) in
-        ap (λ (b : Bool). if b then e ∷ upto (suc scan) es else []) earlier ∙ ap (λ xs. e ∷ xs) rest
+    by rest early at = grind (arith, nat_tests)
 
 pub levels_with-append : (levels : ℕ → Bool) (xs ys : List Timed) → levels_with levels (xs ++ ys) ≡ levels_with (levels_with levels xs) ys
 levels_with-append levels [] ys = refl
@@ -106,16 +103,7 @@ changes_where levels scan low (e ∷ es) rise turns input =
   where
     by : not (beq (levels_with (with_level levels e) es input) (with_level levels e input)) ≡ has_entry es input
         → (same : Bool) → (input == e.input) ≡ same → not (beq (levels_with (with_level levels e) es input) (levels input)) ≡ (same || has_entry es input)
-    by rest true at =
-        let equal : input ≡ e.input = grind (arith, nat_tests) in
-        let now : levels_with (with_level levels e) es input ≡ e.level =
-        keeps_level (with_level levels e) es input (none_below scan (suc e.input) es input (omega arith) rise.2)
-        ∙ ap (λ (b : Bool). if b then e.level else levels input) at in
-        let turned : e.level ≡ not (levels input) = turns.0 ∙ ap (λ i. not (levels i)) (sym equal) in
-        ap (λ b. not (beq b (levels input))) (now ∙ turned) ∙ opposite (levels input)
-    by rest false at =
-        ap (λ b. not (beq (levels_with (with_level levels e) es input) b)) (sym (ap (λ (b : Bool). if b then e.level else levels input) at))
-        ∙ rest
+    by rest same at = grind (arith, keeps_level, nat_tests, none_below, opposite)
 
 -- ---- all scans
 
@@ -132,13 +120,7 @@ rise_now is_open scan low (e ∷ es) rise = by (rise_now is_open scan (suc e.inp
   where
     by : (Rise is_open scan (suc e.input) es → InputsRise scan (suc e.input) (upto scan es))
         → (early : Bool) → nat_le e.scan scan ≡ early → InputsRise scan low (if early then e ∷ upto scan es else [])
-    by rest false at = tt
-    by rest true at =
-        let le : e.scan ≤ scan = grind (arith, nat_tests) in
-        elim rise.0 as (λ _. InputsRise scan low (e ∷ upto scan es)) [
-          | inl later ↦ absurd (omega arith)
-          | inr same ↦ (same.0, same.1, rest (subst (λ s. Rise is_open s (suc e.input) es) same.0 rise.3))
-        ]
+    by rest early at = grind (arith, nat_tests)
 
 -- so do those of the next scan, after those up to this one
 pub rise_next : (is_open : ℕ → Bool) (before low scan : ℕ) (es : List Timed) → before ≤ scan → Rise is_open before low es
@@ -147,11 +129,7 @@ rise_next is_open before low scan [] le rise = tt
 rise_next is_open before low scan (e ∷ es) le rise = by (rise_next is_open e.scan (suc e.input) scan es) (nat_le e.scan scan) refl
   where
     now : (early : Bool) → scan < e.scan → nat_le e.scan (suc scan) ≡ early → InputsRise (suc scan) 0 (if early then e ∷ upto (suc scan) es else [])
-    now false later at = tt
-    now true later at =
-        let here : e.scan ≤ suc scan = grind (arith, nat_tests) in
-        let same : e.scan ≡ suc scan = omega arith in
-        (same, omega arith, rise_now is_open (suc scan) (suc e.input) es (subst (λ s. Rise is_open s (suc e.input) es) same rise.3))
+    now early later at = grind (arith, nat_tests, rise_now)
 
     by : (e.scan ≤ scan → Rise is_open e.scan (suc e.input) es → InputsRise (suc scan) 0 (upto (suc scan) (left scan es)))
         → (early : Bool) → nat_le e.scan scan ≡ early → InputsRise (suc scan) 0 (upto (suc scan) (if early then left scan es else e ∷ es))
@@ -190,7 +168,4 @@ none_closed is_open [] all input closed = refl
 none_closed is_open (e ∷ es) all input closed = by (none_closed is_open es all.1 input closed) (input == e.input) refl
   where
     by : has_entry es input ≡ false → (same : Bool) → (input == e.input) ≡ same → (same || has_entry es input) ≡ false
-    by rest false at = rest
-    by rest true at =
-        let same : input ≡ e.input = grind (arith, nat_tests) in
-        absurd (cc (sym closed ∙ ap is_open same ∙ all.0.open_is))
+    by rest same at = grind (arith, nat_tests)

@@ -1,5 +1,5 @@
 -- What a machine logs of levels that are made of entries is these entries.
-use Rattle.fio_ends.proofs.Names.{◌≡◌, ◌≢◌, ◌∙◌, ◌+◌, ◌<◌, ◌≤◌, ◌%◌, ◌^◌, ◌==◌, ◌&&◌, ◌||◌, ◌⊎◌, inl, inr, ℕ, zero, suc, Bool, true, false, not, List, [], ◌∷◌, ◌++◌, map, refl, ap, ap₂, sym, subst, arith, if◌then◌else◌, nat_le, nat_tests, append_assoc, append-nil, beq, subst, AllByRecursion, Transition, Settings, AreInRange, map-append}
+use Rattle.fio_ends.proofs.Names.{◌≡◌, ◌∙◌, ◌+◌, ◌<◌, ◌≤◌, ◌%◌, ◌^◌, ◌==◌, ◌&&◌, ◌⊎◌, inl, inr, ℕ, zero, suc, Bool, true, false, not, List, [], ◌∷◌, ◌++◌, map, refl, ap, ap₂, sym, subst, arith, if◌then◌else◌, nat_le, nat_tests, append_assoc, append-nil, beq, subst, AllByRecursion, Transition, Settings, AreInRange, map-append}
 use Rattle.fio_ends.proofs.LevelLives.{change_at, changes_below, changes_to, is_changed_at}
 use Rattle.fio_ends.proofs.Plans.{Plan, logged}
 use Rattle.fio_ends.proofs.TimedEntries.{InputsRise, IsOfOpen, Rise, Timed, Turn, all_open, changes_where, each_left, each_upto, has_entry, keeps_level, left, levels_with, levels_with-append, none_below, none_closed, rise_next, turn-append, turn-front, upto, upto_and_left, upto_one_more, with_level}
@@ -125,20 +125,7 @@ module _ (is_open : ℕ → Bool) (start : ℕ → Bool) (hidden : ℕ → ℕ �
             → (low ≡ e.input → ((input : ℕ) → suc low ≤ input → changed input ≡ has_entry es input) → from (suc low) count ≡ map change_of es)
             → (suc low ≤ e.input → from (suc low) count ≡ map change_of (e ∷ es))
             → one_change low ++ from (suc low) count ≡ map change_of (e ∷ es)
-        by true at this other =
-            let equal : low ≡ e.input = grind (arith, nat_tests) in
-            let yes : changed low ≡ true = same low (omega arith) ∙ ap (λ (b : Bool). b || has_entry es low) at in
-            ap₂ (λ (b : Bool) (ts : List Transition). changes_to levels_of is_open base since loads b low (suc scan) ++ ts) yes
-            (this equal (λ input high. same input (omega arith) ∙ ap (λ (b : Bool). b || has_entry es input) (apart input high equal)))
-            ∙ ap (λ t. t ∷ map change_of es) (change_is low e equal rises.0 levels.0)
-          where
-            apart : (input : ℕ) → suc low ≤ input → low ≡ e.input → (input == e.input) ≡ false
-            apart input high equal = grind (arith, nat_tests)
-        by false at this other =
-            let ne : low ≢ e.input = grind (arith, nat_tests) in
-            let above : suc low ≤ e.input = omega (arith, rises.1) in
-            let no : changed low ≡ false = same low (omega arith) ∙ ap₂ (λ (a b : Bool). a || b) at (none_below (suc scan) (suc e.input) es low (omega (arith, rises.1)) rises.2) in
-            ap₂ (λ (b : Bool) (ts : List Transition). changes_to levels_of is_open base since loads b low (suc scan) ++ ts) no (other above)
+        by here at this other = grind (arith, changes_to, has_entry, nat_tests, none_below)
 
     all_below : (es : List Timed) → AllByRecursion (IsOfOpen is_open) es → AllByRecursion (IsBelow (0 + 64)) es
     all_below [] all = tt

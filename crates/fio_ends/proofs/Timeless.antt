@@ -1,9 +1,6 @@
 -- The events that keep the rules on time, and those that a load of the counter excuses: below an excused event nothing is known
 -- of times till the next clear block.
-use Rattle.fio_ends.proofs.Names.{nat_lt, option_and_then, is_some_and, ◌≡◌, ◌∙◌, ◌&&◌, ℕ, Bool, true, false, not, List, [], ◌∷◌, Option, Some, None, refl, ap, ap₂, sym, subst, fold, if◌then◌else◌, ◌==◌, Answer, Item, Entry, Gap, ContentFacts, content_with, ContentEvent, Ended, Heard, Recorded, Sent, Apart, Clock, Fresh, Order, State, INPUTS, InputAbove, KeepsRule, Seen, SentItem, breaks_answer, broken_state, comes_to, coming, content_step, forgetting, if_comes, input_below_clear, input_coming, input_ended, input_with_entry, is_before, is_clear_end, seen_below, settled_now, stamp_of, state_breach, without_excuse, arith}
-use Rattle.std.specs.Prelude.{◌||◌}
-use Rattle.fio_check.specs.ContentSaid.{is_again_end}
-use Rattle.fio_check.specs.ContentKnown.{shown_after, unlogged_after}
+use Rattle.fio_ends.proofs.Names.{is_some_and, ◌≡◌, ◌∙◌, ◌&&◌, ℕ, Bool, true, false, not, List, [], ◌∷◌, Option, Some, None, refl, ap, sym, subst, fold, ◌==◌, Answer, Item, Entry, Gap, ContentFacts, content_with, ContentEvent, Ended, Recorded, Apart, Clock, Fresh, Order, State, KeepsRule, Seen, breaks_answer, broken_state, comes_to, content_step, forgetting, is_before, stamp_of, state_breach, without_excuse, arith}
 use Rattle.fio_message.specs.declared.answers.Answer.TheVariants as answers
 use Rattle.fio_ends.proofs.ContentFrame.{heard_keeps}
 use Rattle.fio_check.specs.ContentRules.{breaks_time, first_differing, is_excused}
@@ -50,18 +47,7 @@ module _ (facts : ContentFacts) (excuses : (facts.excuses == 0) ≡ false) where
   states-kept event (Some seen) = rw excuses refl
 
   pub excuses_all : (event : ContentEvent) → KeepsTimeRules facts event
-  excuses_all (Sent command) = record { order = tt; fresh = tt; apart = tt; clock = tt; state = states-kept (Sent command) facts.seen }
-  excuses_all (Heard answer) = record {
-    order = (heard_keeps facts answer).order;
-    fresh = (heard_keeps facts answer).fresh;
-    apart = (heard_keeps facts answer).apart;
-    clock = clock_any facts answer ∙ rw excuses refl;
-    state = states-kept (Heard answer) facts.seen;
-  }
-  excuses_all (Recorded Gap) = record { order = tt; fresh = tt; apart = tt; clock = tt; state = states-kept (Recorded Gap) facts.seen }
-  excuses_all (Recorded (Entry input level low wide)) =
-      record { order = rw excuses refl; fresh = rw excuses refl; apart = rw excuses refl; clock = refl; state = (states-kept (Recorded (Entry input level low wide)) facts.seen, rw excuses refl) }
-  excuses_all (Ended status stamp) = record { order = tt; fresh = tt; apart = tt; clock = tt; state = states-kept (Ended status stamp) facts.seen }
+  excuses_all event = grind (arith, clock_any, heard_keeps, states-kept)
 
 -- one that would keep them keeps them
 module _ (facts : ContentFacts) where
@@ -69,30 +55,10 @@ module _ (facts : ContentFacts) where
   states-judged judged is event seen k = grind arith
 
   would-keep : (event : ContentEvent) → (facts.excuses == 0) ≡ true → WouldKeep facts event → KeepsTimeRules facts event
-  would-keep (Sent command) is k = record { order = tt; fresh = tt; apart = tt; clock = tt; state = states-judged true is (Sent command) facts.seen k.state }
-  would-keep (Heard answer) is k = record {
-    order = (heard_keeps facts answer).order;
-    fresh = (heard_keeps facts answer).fresh;
-    apart = (heard_keeps facts answer).apart;
-    clock = clock_any facts answer ∙ ap (λ b. b && is_some_and (stamp_of answer) (λ stamp. is_some_and facts.clock (is_before stamp))) is ∙ sym (clock_any (without_excuse facts) answer) ∙ k.clock;
-    state = states-judged true is (Heard answer) facts.seen k.state;
-  }
-  would-keep (Recorded Gap) is k = record { order = tt; fresh = tt; apart = tt; clock = tt; state = states-judged true is (Recorded Gap) facts.seen k.state }
-  would-keep (Recorded (Entry input level low wide)) is k = record {
-    order = rw is k.order;
-    fresh = rw is k.fresh;
-    apart = rw is k.apart;
-    clock = refl;
-    state = (states-judged true is (Recorded (Entry input level low wide)) facts.seen k.state.0, rw is k.state.1);
-  }
-  would-keep (Ended status stamp) is k = record { order = tt; fresh = tt; apart = tt; clock = tt; state = states-judged true is (Ended status stamp) facts.seen k.state }
+  would-keep event is k = grind (arith, clock_any, heard_keeps, states-judged)
 
   pub keeps : (event : ContentEvent) → WouldKeep facts event → KeepsTimeRules facts event
-  keeps event k = by (facts.excuses == 0) refl
-    where
-      by : (judged : Bool) → (facts.excuses == 0) ≡ judged → KeepsTimeRules facts event
-      by true is = would-keep event is k
-      by false is = excuses_all facts is event
+  keeps event k = grind (arith, excuses_all, would-keep)
 
 -- ---- events that would keep them
 
@@ -143,112 +109,10 @@ module _ (facts : ContentFacts) (t : IsTimeless facts) where
   gap_timeless = record { clock = t.clock; heard = t.heard; timely = t.timely; seen = refl; timed = t.timed; shown = λ input. refl; unlogged = t.unlogged }
 
   entry_timeless : (input low wide : ℕ) (level : Bool) → IsTimeless (content_step facts (Recorded (Entry input level low wide)))
-  entry_timeless recorded low wide level = record {
-    clock = t.clock;
-    heard = t.heard;
-    timely = t.timely;
-    seen = rw t.seen refl;
-    timed = λ input. by-timed input (input == recorded && nat_lt input INPUTS);
-    shown = λ input. by-shown input (input == recorded && nat_lt input INPUTS);
-    unlogged = λ input. by-unlogged input (input == recorded && nat_lt input INPUTS);
-  }
-    where
-      event : ContentEvent
-      event = Recorded (Entry recorded level low wide)
-
-      none_comes : coming facts event ≡ None
-      none_comes = ap (option_and_then (if_comes event)) t.seen
-
-      above : ℕ → InputAbove
-      above input = input_coming input (coming facts event) (facts.inputs input)
-
-      by-timed : (input : ℕ) (own : Bool) → (if own then input_with_entry facts level wide (above input) else above input).timed ≡ None
-      by-timed input true = rw t.timely refl
-      by-timed input false = t.timed input
-
-      by-shown : (input : ℕ) (own : Bool) → (if own then input_with_entry facts level wide (above input) else above input).shown ≡ None
-      by-shown input true = refl
-      by-shown input false = ap (λ seen. shown_after input seen (facts.inputs input)) none_comes ∙ t.shown input
-
-      by-unlogged : (input : ℕ) (own : Bool) → (if own then input_with_entry facts level wide (above input) else above input).unlogged ≡ false
-      by-unlogged input true = ap (λ seen. unlogged_after input seen (facts.inputs input)) none_comes ∙ t.unlogged input
-      by-unlogged input false = ap (λ seen. unlogged_after input seen (facts.inputs input)) none_comes ∙ t.unlogged input
+  entry_timeless recorded low wide level = grind arith
 
   pub item_timeless : (item : Item) → WouldKeep facts (Recorded item) × IsTimeless (content_step facts (Recorded item))
-  item_timeless Gap = (record { order = tt; fresh = tt; apart = tt; clock = tt; state = none_seen (Recorded Gap) }, gap_timeless)
-  item_timeless (Entry input level low wide) = (
-    record {
-      order = rw t.timely refl;
-      fresh = rw t.timely refl;
-      apart = rw t.timely refl;
-      clock = refl;
-      state = (none_seen (Recorded (Entry input level low wide)), rw (t.seen, t.shown input, t.unlogged input) refl);
-    },
-    entry_timeless input low wide level,
-  )
+  item_timeless item = grind (arith, entry_timeless, gap_timeless, none_seen)
 
   pub ended_timeless : (status stamp : ℕ) → WouldKeep facts (Ended status stamp) × IsTimeless (content_step facts (Ended status stamp))
-  ended_timeless status stamp = (
-    record { order = tt; fresh = tt; apart = tt; clock = tt; state = none_seen (Ended status stamp) },
-    by (is_clear_end (Ended status stamp)) refl,
-  )
-    where
-      event : ContentEvent
-      event = Ended status stamp
-
-      none_comes : coming facts event ≡ None
-      none_comes = ap (option_and_then (if_comes event)) t.seen
-
-      shown : (input : ℕ) → shown_after input (coming facts event) (facts.inputs input) ≡ None
-      shown input = ap (λ seen. shown_after input seen (facts.inputs input)) none_comes ∙ t.shown input
-
-      unlogged : (input : ℕ) → unlogged_after input (coming facts event) (facts.inputs input) ≡ false
-      unlogged input = ap (λ seen. unlogged_after input seen (facts.inputs input)) none_comes ∙ t.unlogged input
-
-      timed_below : (above : InputAbove) (item : Option SentItem) → (input_below_clear above item).timed ≡ above.timed
-      timed_below above None = refl
-      timed_below above (Some item) = refl
-
-      shown_below : (above : InputAbove) (item : Option SentItem) → (input_below_clear above item).shown ≡ above.shown
-      shown_below above None = refl
-      shown_below above (Some item) = refl
-
-      unlogged_below : (above : InputAbove) (item : Option SentItem) → (input_below_clear above item).unlogged ≡ above.unlogged
-      unlogged_below above None = refl
-      unlogged_below above (Some item) = refl
-
-      timed_end : (settles : Bool) (above : InputAbove) → (input_ended settles above).timed ≡ above.timed
-      timed_end true above = timed_below above (settled_now above)
-      timed_end false above = refl
-
-      shown_end : (settles : Bool) (above : InputAbove) → (input_ended settles above).shown ≡ above.shown
-      shown_end true above = shown_below above (settled_now above)
-      shown_end false above = refl
-
-      unlogged_end : (settles : Bool) (above : InputAbove) → (input_ended settles above).unlogged ≡ above.unlogged
-      unlogged_end true above = unlogged_below above (settled_now above)
-      unlogged_end false above = refl
-
-      -- whether a block that is not clear settles the input
-      settling : ℕ → Bool
-      settling input = is_again_end event && (facts.clear && not (facts.since_poll input))
-
-      by : (clear : Bool) → is_clear_end event ≡ clear → IsTimeless (content_step facts event)
-      by true is = rw is (record {
-        clock = t.clock;
-        heard = t.heard;
-        timely = ap₂ (λ h k. h || k) t.heard t.timely;
-        seen = ap (seen_below event) t.seen;
-        timed = λ input. timed_below (input_coming input (coming facts event) (facts.inputs input)) (settled_now (facts.inputs input)) ∙ t.timed input;
-        shown = λ input. shown_below (input_coming input (coming facts event) (facts.inputs input)) (settled_now (facts.inputs input)) ∙ shown input;
-        unlogged = λ input. unlogged_below (input_coming input (coming facts event) (facts.inputs input)) (settled_now (facts.inputs input)) ∙ unlogged input;
-      })
-      by false is = rw is (record {
-        clock = t.clock;
-        heard = t.heard;
-        timely = t.timely;
-        seen = ap (seen_below event) t.seen;
-        timed = λ input. timed_end (settling input) (input_coming input (coming facts event) (facts.inputs input)) ∙ t.timed input;
-        shown = λ input. shown_end (settling input) (input_coming input (coming facts event) (facts.inputs input)) ∙ shown input;
-        unlogged = λ input. unlogged_end (settling input) (input_coming input (coming facts event) (facts.inputs input)) ∙ unlogged input;
-      })
+  ended_timeless status stamp = grind (arith, none_seen)

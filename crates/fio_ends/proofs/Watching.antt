@@ -1,8 +1,7 @@
 -- What is known of the changes of an input that are still to be recorded, as a module's life goes on.
-use Rattle.fio_ends.proofs.Names.{◌≡◌, ◌≢◌, ◌∙◌, ◌+◌, ◌-◌, ◌<◌, ◌≤◌, ◌||◌, ◌⊎◌, inl, inr, ℕ, zero, suc, Bool, true, false, not, List, [], ◌∷◌, ◌++◌, length, take, drop, Option, Some, None, refl, ap, sym, subst, arith, if◌then◌else◌, slice_get, AllByRecursion, take-append-drop, nat_lt, nat_tests, Life, Occurrence, Scanned, LineSynced, Raised, Commanded, Command, filter_events, life_after_command, Transition, log_of, InputItem, ArrayVec, all_present, input_setting, length-append, same_Some, Setting, applied_items, drop-append-le, drop_of_length-le, each-drop, ignores, input_state, item_for, last_item_of, later_log, setting_by, state-configure}
+use Rattle.fio_ends.proofs.Names.{◌≡◌, ◌≢◌, ◌∙◌, ◌+◌, ◌-◌, ◌<◌, ◌≤◌, ◌||◌, ◌⊎◌, inl, inr, ℕ, zero, suc, Bool, true, false, not, List, [], ◌∷◌, ◌++◌, length, take, drop, Option, Some, None, refl, ap, sym, subst, arith, if◌then◌else◌, slice_get, AllByRecursion, take-append-drop, nat_lt, nat_tests, Life, Occurrence, Scanned, Commanded, Command, filter_events, life_after_command, Transition, log_of, InputItem, ArrayVec, all_present, input_setting, length-append, same_Some, Setting, applied_items, drop-append-le, drop_of_length-le, each-drop, ignores, input_state, item_for, last_item_of, later_log, setting_by, state-configure}
 use Rattle.std.proofs.lemmas.List.{drop-drop}
 use Rattle.fio_message.specs.declared.commands.Command.TheVariants as commands
-use Rattle.fio_module.specs.Log.{transitions_below}
 use Rattle.fio_module.proofs.ListParts.{each-append}
 use Rattle.fio_module.proofs.ScanTransitions.{logged}
 use Rattle.fio_ends.proofs.Following.{IsNoCommand}
@@ -34,23 +33,10 @@ NoneHidden life upto input = IsSilent life upto input ⊎ ((level : Bool) × IsW
 
 pub watched-scan : (life : Life) (raw upto input : ℕ) (level : Bool) → upto ≤ length (log_of life) → input < 64 → IsWatched life upto input level
     → IsWatched (Scanned raw ∷ life) upto input level
-watched-scan life raw upto input level within low w =
-    let new = transitions_below 64 raw life in
-    record {
-      opened = w.opened;
-      alternate = subst (λ log. Alternate input level log (state_of input (Scanned raw ∷ life))) (sym (drop-append-le upto (log_of life) new within))
-          (alternate-append input level (state_of input life) (state_of input (Scanned raw ∷ life)) (drop upto (log_of life)) new w.alternate
-          (scan_below input raw life 64 w.opened low));
-    }
+watched-scan life raw upto input level within low w = grind (arith, alternate-append, drop-append-le, scan_below)
 
 pub silent-scan : (life : Life) (raw upto input : ℕ) → upto ≤ length (log_of life) → IsSilent life upto input → IsSilent (Scanned raw ∷ life) upto input
-silent-scan life raw upto input within s =
-    let new = transitions_below 64 raw life in
-    record {
-      ignored = s.ignored;
-      none = subst (NoneOf input) (sym (drop-append-le upto (log_of life) new within))
-          (each-append (λ transition. transition.input ≢ input) (drop upto (log_of life)) new s.none (none_ignored input raw life s.ignored));
-    }
+silent-scan life raw upto input within s = grind (arith, drop-append-le, each-append, none_ignored)
 
 pub none_hidden-scan : (life : Life) (raw upto input : ℕ) → upto ≤ length (log_of life) → input < 64 → NoneHidden life upto input → NoneHidden (Scanned raw ∷ life) upto input
 none_hidden-scan life raw upto input within low (inl silent) = inl (silent-scan life raw upto input within silent)
@@ -113,48 +99,25 @@ module _ (input : ℕ) (low : input < 64) where
 
   watched-opened : (life : Life) (upto : ℕ) (level : Bool) (items : ArrayVec InputItem) → ignores (item_for input items.items) ≡ false
       → IsWatched life upto input level → IsWatched (Commanded (commands.ConfigureInputs items) ∷ life) upto input level
-  watched-opened life upto level items none w =
-      record {
-        opened = by (setting_kept (all_present items.items) items.items (last_item_of input (applied_items items.items)) (input_setting input (filter_events life)) none refl);
-        alternate = subst (Alternate input level (drop upto (log_of life))) (sym (state-configure input items.items (filter_events life))) w.alternate;
-      }
-    where
-      by : ((input_setting input (filter_events (Commanded (commands.ConfigureInputs items) ∷ life))).ignore ≡ false)
-          ⊎ (input_setting input (filter_events (Commanded (commands.ConfigureInputs items) ∷ life)) ≡ input_setting input (filter_events life))
-          → is_ignored input (Commanded (commands.ConfigureInputs items) ∷ life) ≡ false
-      by (inl opened) = opened
-      by (inr same) = ap (λ (s : Setting). s.ignore) same ∙ w.opened
+  watched-opened life upto level items none w = grind (arith, setting_kept, state-configure)
 
   pub none_hidden-command : (life : Life) (upto : ℕ) (command : Option Command) → KeepsOpen input command → NoneHidden life upto input
       → NoneHidden (life_after_command command life) upto input
-  none_hidden-command life upto None keeps hidden = hidden
-  none_hidden-command life upto (Some (commands.ConfigureInputs items)) keeps hidden = none_hidden-opened life upto items (keeps items refl) hidden
-  none_hidden-command life upto (Some other) keeps (inl silent) = inl (record { ignored = silent.ignored; none = silent.none })
-  none_hidden-command life upto (Some other) keeps (inr watched) = inr (watched.0, record { opened = watched.1.opened; alternate = watched.1.alternate })
+  none_hidden-command life upto command keeps hidden = grind (arith, none_hidden-opened)
 
   pub watched-command : (life : Life) (upto : ℕ) (level : Bool) (command : Option Command) → KeepsOpen input command → IsWatched life upto input level
       → IsWatched (life_after_command command life) upto input level
-  watched-command life upto level None keeps w = w
-  watched-command life upto level (Some (commands.ConfigureInputs items)) keeps w = watched-opened life upto level items (keeps items refl) w
-  watched-command life upto level (Some other) keeps w = record { opened = w.opened; alternate = w.alternate }
+  watched-command life upto level command keeps w = grind (arith, watched-opened)
 
 -- ---- something happens that is no command
 
 pub none_hidden-quiet : (life : Life) (occurrence : Occurrence) (upto input : ℕ) → IsNoCommand occurrence → upto ≤ length (log_of life) → input < 64
     → NoneHidden life upto input → NoneHidden (occurrence ∷ life) upto input
-none_hidden-quiet life (Scanned raw) upto input quiet within low hidden = none_hidden-scan life raw upto input within low hidden
-none_hidden-quiet life LineSynced upto input quiet within low (inl s) = inl (record { ignored = s.ignored; none = s.none })
-none_hidden-quiet life LineSynced upto input quiet within low (inr w) = inr (w.0, record { opened = w.1.opened; alternate = w.1.alternate })
-none_hidden-quiet life (Raised mask) upto input quiet within low (inl s) = inl (record { ignored = s.ignored; none = s.none })
-none_hidden-quiet life (Raised mask) upto input quiet within low (inr w) = inr (w.0, record { opened = w.1.opened; alternate = w.1.alternate })
-none_hidden-quiet life (Commanded command) upto input quiet within low hidden = absurd quiet
+none_hidden-quiet life occurrence upto input quiet within low hidden = grind (arith, none_hidden-scan)
 
 pub watched-quiet : (life : Life) (occurrence : Occurrence) (upto input : ℕ) (level : Bool) → IsNoCommand occurrence → upto ≤ length (log_of life) → input < 64
     → IsWatched life upto input level → IsWatched (occurrence ∷ life) upto input level
-watched-quiet life (Scanned raw) upto input level quiet within low w = watched-scan life raw upto input level within low w
-watched-quiet life LineSynced upto input level quiet within low w = record { opened = w.opened; alternate = w.alternate }
-watched-quiet life (Raised mask) upto input level quiet within low w = record { opened = w.opened; alternate = w.alternate }
-watched-quiet life (Commanded command) upto input level quiet within low w = absurd quiet
+watched-quiet life occurrence upto input level quiet within low w = grind (arith, watched-scan)
 
 -- so after all that has happened since a command
 pub none_hidden-since : (more life : List Occurrence) (upto input : ℕ) → AllByRecursion IsNoCommand more → upto ≤ length (log_of life) → input < 64
@@ -222,16 +185,9 @@ watched-entry life upto input level transition at same w = grind (arith, rest_at
 -- and of another
 pub watched-other : (life : Life) (upto input : ℕ) (level : Bool) (transition : Transition) → slice_get (log_of life) upto ≡ Some transition → transition.input ≢ input
     → IsWatched life upto input level → IsWatched life (upto + 1) input level
-watched-other life upto input level transition at apart w =
-    by (subst (λ log. Alternate input level log (state_of input life)) (rest_at (log_of life) upto transition at) w.alternate)
-  where
-    by : Alternate input level (transition ∷ drop (upto + 1) (log_of life)) (state_of input life) → IsWatched life (upto + 1) input level
-    by (inl here) = absurd (apart here.0)
-    by (inr other) = record { opened = w.opened; alternate = other.1 }
+watched-other life upto input level transition at apart w = grind (arith, rest_at)
 
 -- an entry of an input of which no change is hidden
 pub opened-entry : (life : Life) (upto input : ℕ) (transition : Transition) → slice_get (log_of life) upto ≡ Some transition → transition.input ≡ input
     → NoneHidden life upto input → IsWatched life (upto + 1) input transition.level
-opened-entry life upto input transition at same (inr w) = (watched-entry life upto input w.0 transition at same w.1).1
-opened-entry life upto input transition at same (inl s) =
-    absurd ((subst (NoneOf input) (rest_at (log_of life) upto transition at) s.none).0 same)
+opened-entry life upto input transition at same is = grind (arith, rest_at, watched-entry)
