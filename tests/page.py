@@ -270,7 +270,7 @@ def check_plan(check, browser, _):
     browser.click('#tab-plan')
     with open(os.path.join(TOP, 'docs', 'PLANNING.md'), encoding='utf-8') as page:
         rows = [[cell.strip() for cell in line.strip('|\n ').split('|')] for line in page if re.match(r'\| \d', line)]
-    move = '''["plan-inputs", "plan-filter", "plan-waiting", "plan-lost"].forEach((id, place) => {
+    move = '''["plan-inputs", "plan-filter", "plan-waiting", "plan-lost", "plan-rate"].forEach((id, place) => {
         const it = document.getElementById(id);
         it.value = arguments[0][place] ?? it.value; it.dispatchEvent(new Event("input")); });
         return [...document.querySelectorAll(arguments[1])].map((it) => it.textContent)'''
@@ -281,6 +281,8 @@ def check_plan(check, browser, _):
     for waiting, lost, every in ((1024, 0, 159), (71, 0, 40), (70, 0, 39), (71, 1, 10), (7, 0, 0)):
         check.equal('the pace if %d may wait, with %d lost' % (waiting, lost), '%d ms' % every,
                     browser.run(move, [8, 5, waiting, lost], '.answers td.mono')[0])
+    for rate, every in ((614_400, '4 ms'), (153_600, 'no pace')):
+        check.equal('the least pace at %d bit/s' % rate, every, browser.run(move, [64, 5, 1024, 0, rate], '.plan .answers td.mono')[-1])
 
 
 # What the clicks of `check_play` do, and what the profile says of it: input 5 goes to 0 at the second of two samples; the

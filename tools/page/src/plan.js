@@ -2,7 +2,7 @@
 
 import { BLOCK_ENTRIES, INPUTS, MOST_WAITING, STANDARD_WAITING } from './constants.js';
 import { counted, element, withCommas } from './dom.js';
-import { WAITING, planOf, rowOf } from './planning.js';
+import { WAITING, paceAt, planOf, rowOf } from './planning.js';
 
 const SLIDERS = [
   ['inputs', 'How many inputs are open?', 1, INPUTS, INPUTS],
@@ -11,6 +11,8 @@ const SLIDERS = [
   ['lost', 'How many rounds in a row may be lost?', 0, 8, 0],
   ['outage', 'How long does an outage last, in milliseconds?', 0, 3000, 80],
   ['waiting', 'How many entries may wait in the module?', 1, MOST_WAITING, STANDARD_WAITING],
+  ['rate', 'How many bits does the line carry in a second?', 1200, 2000000, 614400],
+  ['stop', 'How many stop bits has an octet? 0: a synchronous line', 0, 2, 0],
 ];
 const HEADS = ['Open inputs', 'Filter', 'Poll every', 'Waiting', 'Late', 'Waiting, answers lost', 'Late, answers lost',
   ...WAITING.map((count) => `Outage, ${withCommas(count)} wait`)];
@@ -56,14 +58,16 @@ export class PlanView {
 
   draw() {
     const plan = planOf(this.chosen);
-    const { inputs, filter, pace, lost, outage } = this.chosen;
-    const isGood = plan.isInTime && plan.isRiddenOut;
+    const { inputs, filter, pace, lost, outage, rate } = this.chosen;
+    const least = paceAt(this.chosen);
+    const isGood = plan.isInTime && plan.isRiddenOut && least !== undefined && least.pace <= pace;
     this.verdict.className = isGood ? 'good' : 'bad';
     this.verdict.textContent = (plan.isInTime
       ? `A round every ${pace} ms is often enough${lost ? ` with ${counted(lost, 'lost round')} in a row` : ''}: nothing is lost.`
       : plan.startEvery > 0 ? `A round every ${pace} ms is too seldom: start one at least every ${plan.startEvery} ms.`
         : lost ? 'No pace is often enough for so many lost rounds.' : 'No pace is often enough if so few entries may wait.')
-      + (plan.isRiddenOut ? '' : ` In an outage of ${outage} ms transitions may be lost.`);
+      + (plan.isRiddenOut ? '' : ` In an outage of ${outage} ms transitions may be lost.`)
+      + (least && least.pace <= pace ? '' : ` For that a line of ${withCommas(rate)} bit/s is too slow.`);
     const rows = [
       ['The CPU has to poll at least every', plan.startEvery + ' ms',
         `Each open input changes at most once in ${filter} ms. So what can change between two rounds that get through `
@@ -77,6 +81,9 @@ export class PlanView {
         'What can change in it has room among the entries that may wait'],
       [`The most entries that wait after ${withCommas(outage)} ms without a poll`, withCommas(plan.after), 'What can change in it, or all that there is room for; computed, not proved'],
       ['Clean rounds until these are in the record', String(plan.caughtUpIn), `Each takes a block, up to ${BLOCK_ENTRIES} entries`],
+      [`Over a line of ${withCommas(rate)} bit/s the CPU can poll every`, least ? least.pace + ' ms' : 'no pace',
+        least ? `A round takes at most ${least.round} ms, and ends before the next one; a transition is in the record after at most ${withCommas(least.late)} ms`
+          : 'No round that is often enough ends before the next one'],
     ];
     this.answers.replaceChildren(...rows.map(([what, number, why]) => element('tr', {},
       element('th', { scope: 'row' }, what), element('td', { class: 'mono' }, number), element('td', { class: 'soft' }, why))));

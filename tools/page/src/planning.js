@@ -44,6 +44,27 @@ export function planOf({ inputs, filter, pace, lost, waiting, outage }) {
   };
 }
 
+// The most bits of a message on a line with so many stop bits, or on a synchronous one if there are 0: with address, control
+// octet, frame check, stuffing and two flags.
+const messageBits = (octets, stop) => (stop > 0 ? (9 + stop) * (2 + 2 * (octets + 4)) : 16 + 8 * (octets + 4) + down(8 * (octets + 4), 5));
+
+// The least pace over a line that carries `rate` bits in 1,000 scans, of which `lost` rounds in a row may be lost, as the law
+// `arrives_in_time_at_a_rate` has it: how long a round takes and how late a transition is recorded; nothing if there is none.
+export function paceAt({ inputs, filter, lost, waiting, rate, stop }) {
+  const poll = messageBits(2, stop);
+  for (let pace = 1; inputs * (lost + 1) * pace <= BLOCK_ENTRIES * filter; pace++) {
+    const behind = (2 * lost + 1) * pace + upTo(1000 * poll, rate);
+    const entries = Math.min(BLOCK_ENTRIES, inputs * upTo(behind, filter));
+    const bits = poll + messageBits(8 + 3 * entries, stop);
+    const round = upTo(1000 * bits, rate);
+    if (round <= pace && inputs * (behind + filter - 1) <= waiting * filter) {
+      const heldOver = inputs * upTo((lost + 1) * pace, filter) > BLOCK_ENTRIES ? filter - 1 : 0;
+      return { pace, round, late: (2 * lost + 1) * pace + round + heldOver - 1 };
+    }
+  }
+  return undefined;
+}
+
 // The row of docs/PLANNING.md for so many inputs and such a filter.
 export function rowOf(inputs, filter) {
   const pace = longestPace(inputs, filter);
