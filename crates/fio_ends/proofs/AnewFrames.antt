@@ -96,7 +96,6 @@ pub record IsPlain (limits : RuleLimits) (above : Facts) (content : ContentKept)
   pub rules : first_broken_within limits above (observation_of None answer) ≡ None
   pub found : IsOfWatchdog (breach_among content.facts 0 (content_events content.number None answer))
   pub no_stamp : option_and_then stamp_of answer ≡ None
-  pub no_stamp_at_all : option_and_then any_stamp_of answer ≡ None
   pub no_block : option_and_then answered_option answer ≡ None
 
 answer_alike : (limits : RuleLimits) (above facts : Facts) (code : ℕ) (accepted : Bool) → above.awaited ≡ facts.awaited → above.absent_named ≡ facts.absent_named

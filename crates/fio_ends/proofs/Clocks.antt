@@ -68,7 +68,6 @@ module _ (begin now : Life) (g : GoesOn begin now) (steady : loads_of now ≡ lo
   pub record IsStamped (block : MadeBlock) : Type 0 where
     pub stamp : block.stamp ≡ clock offset block.scans
     pub loads : block.loads ≡ loads_of begin
-    pub from_begin : scans_of begin ≤ block.scans
     pub upto : block.scans ≤ scans_of now
 
   pub block_stamped : (settings : Settings) (block : MadeBlock) → IsMadeSince settings begin now block → IsStamped block

@@ -98,10 +98,6 @@ module _ (is_open : ℕ → Bool) (start : ℕ → Bool) (hidden : ℕ → ℕ �
     abbrev IsBelow : ℕ → Timed → Type 0
     IsBelow count e = e.input < count
 
-    change_is : (low : ℕ) (e : Timed) → low ≡ e.input → e.scan ≡ suc scan → LevelIs (levels_of (suc scan)) e
-        → change_at levels_of is_open base since loads (suc scan) low ≡ change_of e
-    change_is low e same time level = let here : levels_of (suc scan) low ≡ e.level = ap (levels_of (suc scan)) same ∙ level in cc
-
     -- are those of the entries
     matches : (count low : ℕ) (es : List Timed) → InputsRise (suc scan) low es → AllByRecursion (IsBelow (low + count)) es
         → AllByRecursion (LevelIs (levels_of (suc scan))) es → ((input : ℕ) → low ≤ input → changed input ≡ has_entry es input) → from low count ≡ map change_of es

@@ -34,12 +34,6 @@ clock_any : (facts : ContentFacts) (answer : Answer)
 clock_any facts (answers.Status flags receive transmit stamp) = refl
 clock_any facts other = refl
 
--- states differ all the same
-judged_alike : (facts : ContentFacts) (event : ContentEvent) (seen : Seen)
-    → state_breach (comes_to seen event) (first_differing (without_excuse facts) seen) ≡ None → state_breach (comes_to seen event) (first_differing facts seen) ≡ None
-unfolding first_differing
-judged_alike facts event seen k = k
-
 -- where a load excuses what it breaks it breaks nothing
 module _ (facts : ContentFacts) (excuses : (facts.excuses == 0) ≡ false) where
   states-kept : (event : ContentEvent) (seen : Option Seen) → broken_state facts event seen ≡ None
