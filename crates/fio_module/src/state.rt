@@ -1,5 +1,6 @@
 //! A module without the ring of its waiting entries: how it responds to events and commands.
 
+mod answers;
 mod commands;
 mod polls;
 
@@ -25,8 +26,10 @@ pub struct ModuleState {
     watchdog: u8,
     /// 1 if an entry was pushed out since the newest block was made, otherwise 0.
     pushed_out: u8,
+    /// The type of the answer that is awaited from the maker, 0 if none is.
+    awaited: u8,
     /// Padding that aligns the fields below.
-    reserved: [u8; 7],
+    reserved: [u8; 6],
     counter: Counter,
     outputs: Outputs,
     filters: Filters,
@@ -58,7 +61,8 @@ impl ModuleState {
             flags: RESET,
             watchdog: 0,
             pushed_out: 0,
-            reserved: [0; 7],
+            awaited: 0,
+            reserved: [0; 6],
             counter: Counter::new(),
             outputs: Outputs::OFF,
             filters: Filters::new(),
@@ -90,6 +94,7 @@ impl ModuleState {
         self.watchdog = 0;
         self.outputs = Outputs::OFF;
         self.pushed_out = 0;
+        self.awaited = 0;
         self.sent = KeptBlock::new();
     }
 
