@@ -68,3 +68,6 @@ pub mod RateAtEdge
 pub mod RateBeyond
 pub mod Instances
 pub mod PolledTooSeldom
+mod LeftOut
+mod AnsweredRuns
+mod AnsweredExamples

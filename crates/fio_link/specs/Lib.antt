@@ -23,3 +23,5 @@ pub mod MovedScans
 pub mod Sharpness
 pub mod Instances
 pub mod Sound
+-- with answers of the module's maker
+pub mod Answered

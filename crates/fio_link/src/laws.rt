@@ -22,6 +22,7 @@ ghost use Rattle.fio_link.specs.MovedScans.{ScansMoveOut};
 ghost use Rattle.fio_link.specs.Sharpness.{IsAsLateAtARate, LosesWhereARoundIsLonger, LosesWhereAScanLater, StandardLinkIsAsLate};
 ghost use Rattle.fio_wire.specs.declared.line_kind.LineKind.TheVariants.{Synchronous};
 ghost use Rattle.fio_link.specs.Instances.{IsKeptUpAfterRestarts};
+ghost use Rattle.fio_link.specs.Answered.{AnswersKeepRecord, MakersMayAnswer, RunsWithoutAnswers};
 ghost use Rattle.fio_link.specs.LostRounds.{LoseFewRounds, LostRoundsArePossible};
 
 /// The pieces that the first m blocks of a life add to the record are the pieces of its transition log from the start
@@ -314,4 +315,24 @@ pub fn settings_are_in_range()
     ensures room { (id : ℕ) → HasRoom (standard_settings id) }
     ensures room_by_limits { (id : ℕ) (limits : Limits) → are_limits limits.per_block limits.waiting ≡ true
         → HasRoom (settings_with id limits) }
+{}
+
+/// Whatever the maker of the module answers to commands 56, 57, 59 and 60, how often, in whatever order and however late, there
+/// is a run without his answers in which all else is the same: what reaches the module, each answer of its own, and the CPU's
+/// record and number.
+#[tactic(auto, using(crate::proofs::AnsweredRuns::runs_without_answers))]
+pub fn makers_answers_change_nothing()
+    ensures { RunsWithoutAnswers }
+{}
+
+/// So what is promised of the record stands: the headline, `record_rises` and `one_stretch_of_each_life_is_taken`.
+#[tactic(auto, using(crate::proofs::AnsweredRuns::answers_keep_record))]
+pub fn makers_answers_keep_the_record()
+    ensures { AnswersKeepRecord }
+{}
+
+/// Such a run exists: the maker answers 56, 57 and 59, and the CPU hears these answers and takes a block.
+#[tactic(auto, using(crate::proofs::AnsweredExamples::makers_may_answer))]
+pub fn makers_may_answer()
+    ensures { MakersMayAnswer }
 {}

@@ -9,8 +9,9 @@
 //! (`Headline`), what else is promised (`Claims`), the order of rounds on which that rests (`Rounds`), the rising record,
 //! through restarts too (`Rising`, `Restarts`), what arrives (`Delivery`), from which points on (`Settled`, `WholeSince`),
 //! how soon (`KeptUp`, `StandardLinks`), also counted from the raw sample (`NewLevels`), how many rounds may be lost
-//! (`LostRounds`), how often to poll over a line that takes its time (`Pace`, `Rate`), what may take time (`MovedScans`), how sharp the bounds are (`Sharpness`), and all of it for one run
-//! (`Sound`). The laws are the contracts of the module `laws`.
+//! (`LostRounds`), how often to poll over a line that takes its time (`Pace`, `Rate`), what may take time (`MovedScans`), how
+//! sharp the bounds are (`Sharpness`), and all of it for one run (`Sound`); then what stands of it if the maker of the module
+//! answers commands himself (`Answered`). The laws are the contracts of the module `laws`.
 #![tactic(auto)]
 
 mod event;

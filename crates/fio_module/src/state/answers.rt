@@ -55,9 +55,7 @@ impl ModuleState {
             return Some(AnswerRefusal::OtherAwaited { command: awaited });
         }
         if body.len() > BODY_OCTETS {
-            return Some(AnswerRefusal::TooLong {
-                octets: body.len(),
-            });
+            return Some(AnswerRefusal::TooLong { octets: body.len() });
         }
         None
     }
