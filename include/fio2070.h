@@ -1594,7 +1594,8 @@ struct fio2070_sized_module {
         uint8_t flags;
         uint8_t watchdog;
         uint8_t pushed_out;
-        uint8_t reserved[7];
+        uint8_t awaited;
+        uint8_t reserved[6];
         struct fio2070_counter counter;
         struct fio2070_outputs outputs;
         struct fio2070_filters filters;
@@ -1644,6 +1645,23 @@ void fio2070_sized_module_count_transmit_error(struct fio2070_sized_module *modu
 FIO2070_MUST_USE
 size_t fio2070_sized_module_receive(struct fio2070_sized_module *module, struct fio2070_ring ring, const uint8_t *octets,
                                     size_t length, uint8_t *out, size_t room);
+/** The counts that say why an answer of the maker is refused: more than any room. */
+#define FIO2070_NOT_AWAITED (SIZE_MAX - 1)   /**< none is awaited: it was given, or the octets asked about last are no such command */
+#define FIO2070_OTHER_AWAITED (SIZE_MAX - 2) /**< the answer to a command of another type is awaited */
+#define FIO2070_BODY_TOO_LONG (SIZE_MAX - 3) /**< the body has more than 772 octets */
+
+/** Returns the type of the command in the octets of a frame that was received, if the maker of the module answers it: 56, 57 or
+ * 59, or 60 if its identification is to have another length than the one octet of _receive; its body is the octets after the
+ * first. Its answer is awaited from then on. For any other octets it returns 0, and no answer is awaited. */
+uint8_t fio2070_sized_module_makers_command(struct fio2070_sized_module *module, const uint8_t *octets, size_t length);
+/** Writes the octets of the maker's answer to a command of this type to the front of `out`, and returns how many they are, 1 to
+ * 773: the type plus 128 (TEES 2009), and the body. Once for each _makers_command. Nothing else of the module changes.
+ *
+ * If the answer is refused nothing changes, and the result is the first of these that applies: FIO2070_NOT_AWAITED,
+ * FIO2070_OTHER_AWAITED or FIO2070_BODY_TOO_LONG. If it is longer than `room` nothing changes, and it may be given again. */
+FIO2070_MUST_USE
+size_t fio2070_sized_module_answer_other(struct fio2070_sized_module *module, uint8_t command, const uint8_t *body,
+                                         size_t length, uint8_t *out, size_t room);
 /** Returns what the module is at present. */
 struct fio2070_state fio2070_sized_module_state(const struct fio2070_sized_module *module);
 
@@ -1688,6 +1706,14 @@ FIO2070_MUST_USE
 static inline size_t fio2070_module_receive(struct fio2070_module *module, const uint8_t *octets, size_t length, uint8_t *out,
                                             size_t room) {
     return fio2070_sized_module_receive(&module->sized, FIO2070_RING(module->slots), octets, length, out, room);
+}
+static inline uint8_t fio2070_module_makers_command(struct fio2070_module *module, const uint8_t *octets, size_t length) {
+    return fio2070_sized_module_makers_command(&module->sized, octets, length);
+}
+FIO2070_MUST_USE
+static inline size_t fio2070_module_answer_other(struct fio2070_module *module, uint8_t command, const uint8_t *body,
+                                                 size_t length, uint8_t *out, size_t room) {
+    return fio2070_sized_module_answer_other(&module->sized, command, body, length, out, room);
 }
 static inline struct fio2070_state fio2070_module_state(const struct fio2070_module *module) {
     return fio2070_sized_module_state(&module->sized);

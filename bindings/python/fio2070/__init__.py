@@ -13,7 +13,7 @@ number, no octets (a number is none) or no list of the right kind raises TypeErr
 
 import ctypes
 import operator
-from typing import Any, List, NamedTuple, Optional, Sequence, Tuple
+from typing import Any, List, NamedTuple, Optional, Sequence, Tuple, Type
 
 from . import _library as c
 from . import constants, encode, judges
@@ -24,8 +24,8 @@ from .logs import LogBatch, LogReader, Verdict
 from .records import Answer, Breach, Command, ConfigurationItem, ContentBreach, Entry, Fault, Outcome, RecordItem
 from .wire import Wire, WireBits, WireHeard, wire_check, wire_frame
 
-__all__ = ['Answer', 'Breach', 'Checker', 'Command', 'ConfigurationItem', 'ContentBreach', 'ContentChecker', 'Counter', 'Entry',
-           'Fault', 'Filters', 'Heard', 'LinkJudge', 'LogBatch', 'LogCounts', 'LogJudge', 'LogReader', 'LogSigns', 'Module', 'Octets', 'Outcome',
+__all__ = ['Answer', 'AnswerRefused', 'Breach', 'Checker', 'Command', 'ConfigurationItem', 'ContentBreach', 'ContentChecker',
+           'Counter', 'Entry', 'Fault', 'Filters', 'Heard', 'LinkJudge', 'LogBatch', 'LogCounts', 'LogJudge', 'LogReader', 'LogSigns', 'Module', 'Octets', 'Outcome',
            'Poller', 'RecordItem', 'Verdict', 'Wire', 'WireBits', 'WireHeard', 'constants', 'content_rule_text', 'decode_answer',
            'decode_command', 'encode', 'read_identification', 'read_outputs_answer', 'rule_text', 'show', 'tester', 'version',
            'widen', 'wire_check', 'wire_frame']
@@ -300,6 +300,26 @@ def _of_state(field: str, words: str) -> Any:
     return property(lambda self: int(getattr(self._call('state'), field)), doc=words)
 
 
+# Why an answer of the maker is refused, by the count that says so.
+_REFUSALS = {
+    constants.NOT_AWAITED: 'no answer is awaited',
+    constants.OTHER_AWAITED: 'the answer to another command is awaited',
+    constants.BODY_TOO_LONG: 'the body has more than 772 octets',
+}
+
+
+class AnswerRefused(ValueError):
+    """Why an answer of the module's maker is refused: its count is one of constants.NOT_AWAITED, OTHER_AWAITED and
+    BODY_TOO_LONG."""
+
+    def __init__(self, count: int) -> None:
+        super().__init__(_REFUSALS[count])
+        self.count = count
+
+    def __reduce__(self) -> Tuple[Type['AnswerRefused'], Tuple[int]]:
+        return AnswerRefused, (self.count,)
+
+
 class Module(c.Kept):
     """A field I/O module of which `waiting` entries may wait."""
     _name, _struct = 'sized_module', c.CSizedModule
@@ -359,6 +379,24 @@ class Module(c.Kept):
         out = (ctypes.c_uint8 * c.LONGEST_FRAME)()
         count = self._call('receive', *self._ring, octets, len(octets), out, len(out))
         return None if count == c.NO_MESSAGE else bytes(out[:count])
+
+    def makers_command(self, octets: Octets) -> Optional[Tuple[int, bytes]]:
+        """The type and the body of the command in a frame that was received, if the maker of the module answers it: 56, 57, 59
+        or 60, else None. Its answer is awaited from then on."""
+        octets = encode.octets_of(octets)
+        command = self._call('makers_command', octets, len(octets))
+        return (command, octets[1:]) if command else None
+
+    def answer_other(self, command: int, body: Octets) -> bytes:
+        """The octets of the maker's answer to a command of this type with this body, once for each `makers_command`. If it is
+        refused nothing changes, and an AnswerRefused says why."""
+        encode.check_range(256, command)
+        body = encode.octets_of(body)
+        out = (ctypes.c_uint8 * c.LONGEST_FRAME)()
+        count = self._call('answer_other', operator.index(command), body, len(body), out, len(out))
+        if count > len(out):
+            raise AnswerRefused(count)
+        return bytes(out[:count])
 
     @property
     def outputs(self) -> Tuple[bytes, bytes]:

@@ -11,6 +11,9 @@ STANDARD_WAITING = 1024
 MOST_WAITING = 8192
 LONGEST_TEXT = 62
 NO_MESSAGE = 2**(8 * ctypes.sizeof(ctypes.c_size_t)) - 1
+NOT_AWAITED = NO_MESSAGE - 1
+OTHER_AWAITED = NO_MESSAGE - 2
+BODY_TOO_LONG = NO_MESSAGE - 3
 NO_INPUT = 255
 
 # Types of commands; that of an answer is TYPE_ANSWER more.

@@ -76,6 +76,7 @@ mod log_judge;
 mod log_judge_batch;
 mod log_signs;
 mod log_verdicts;
+mod makers;
 mod parts;
 mod plan;
 mod poller;

@@ -5,7 +5,8 @@
 //! alone: `FlatLimits` is `struct fio2070_limits`.
 //!
 //! The definitions are in `specs/`: faults and what reading does (`Faults`), octets and lists in the caller's arrays
-//! (`Written`), what a poller does (`Hearing`), and the history that a module has been through (`Module`).
+//! (`Written`), what a poller does (`Hearing`), the history that a module has been through (`Module`), and what becomes of its
+//! maker's answers (`Makers`).
 #![tactic(auto)]
 
 mod faults;
@@ -16,4 +17,4 @@ mod written;
 pub use faults::Fault;
 pub use module::{ErrorCounts, FlatLimits, SizedModule};
 pub use poller::{FlatHeard, FlatPoller, RecordItem};
-pub use written::NO_MESSAGE;
+pub use written::{BODY_TOO_LONG, NO_MESSAGE, NOT_AWAITED, OTHER_AWAITED};

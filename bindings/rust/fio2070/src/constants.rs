@@ -9,6 +9,9 @@ pub const STANDARD_WAITING: usize = 1_024;
 pub const MOST_WAITING: usize = 8_192;
 pub const LONGEST_TEXT: usize = 62;
 pub const NO_MESSAGE: usize = usize::MAX;
+pub const NOT_AWAITED: usize = usize::MAX - 1;
+pub const OTHER_AWAITED: usize = usize::MAX - 2;
+pub const BODY_TOO_LONG: usize = usize::MAX - 3;
 pub const NO_INPUT: u8 = 255;
 
 // Types of commands; that of an answer is TYPE_ANSWER more.

@@ -1,7 +1,6 @@
 //! Both ends of the link, and the filters.
 
-use crate::constants::LONGEST_TEXT;
-use crate::constants::STANDARD_WAITING;
+use crate::constants::{LONGEST_TEXT, NOT_AWAITED, OTHER_AWAITED, STANDARD_WAITING};
 use crate::errors::ConfigurationError;
 use crate::raw::{
     self, Breach, ConfigurationItem, ContentBreach, Fault, RawChecker, RawContentChecker,
@@ -284,6 +283,30 @@ impl Filters {
     }
 }
 
+/// Why an answer of the module's maker is refused.
+#[derive(Clone, Copy, Debug, PartialEq, Eq)]
+pub enum AnswerRefusal {
+    /// None is awaited: it was given, or the octets asked about last are no command of the maker.
+    NotAwaited,
+    /// The answer to a command of another type is awaited.
+    OtherAwaited,
+    /// The body has more than 772 octets.
+    TooLong,
+}
+
+impl fmt::Display for AnswerRefusal {
+    fn fmt(&self, formatter: &mut fmt::Formatter<'_>) -> fmt::Result {
+        formatter.write_str(match self {
+            AnswerRefusal::NotAwaited => "no answer is awaited",
+            AnswerRefusal::OtherAwaited => "the answer to another command is awaited",
+            AnswerRefusal::TooLong => "the body has more than 772 octets",
+        })
+    }
+}
+
+#[cfg(feature = "std")]
+impl std::error::Error for AnswerRefusal {}
+
 /// A field I/O module of which `WAITING` entries may wait.
 #[derive(Clone)]
 pub struct Module<const WAITING: usize = STANDARD_WAITING> {
@@ -370,6 +393,41 @@ impl<const WAITING: usize> Module<WAITING> {
         } {
             0 => None,
             count => out.get(..count),
+        }
+    }
+
+    /// The type and the body of the command in a frame that was received, if the maker of the module answers it: 56, 57, 59 or
+    /// 60. Its answer is awaited from then on.
+    pub fn makers_command<'a>(&mut self, octets: &'a [u8]) -> Option<(u8, &'a [u8])> {
+        match unsafe {
+            raw::fio2070_sized_module_makers_command(&mut self.raw, octets.as_ptr(), octets.len())
+        } {
+            0 => None,
+            command => Some((command, octets.get(1..)?)),
+        }
+    }
+
+    /// The maker's answer to a command of this type with this body, written to the front of `out`, once for each
+    /// `makers_command`. If it is refused nothing changes.
+    pub fn answer_other<'a>(
+        &mut self,
+        command: u8,
+        body: &[u8],
+        out: &'a mut [u8; LONGEST_FRAME],
+    ) -> Result<&'a [u8], AnswerRefusal> {
+        match unsafe {
+            raw::fio2070_sized_module_answer_other(
+                &mut self.raw,
+                command,
+                body.as_ptr(),
+                body.len(),
+                out.as_mut_ptr(),
+                LONGEST_FRAME,
+            )
+        } {
+            NOT_AWAITED => Err(AnswerRefusal::NotAwaited),
+            OTHER_AWAITED => Err(AnswerRefusal::OtherAwaited),
+            count => out.get(..count).ok_or(AnswerRefusal::TooLong),
         }
     }
 

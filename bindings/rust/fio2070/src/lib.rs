@@ -33,7 +33,7 @@ mod wire;
 mod written;
 
 pub use encode::{encode_answer, encode_command};
-pub use ends::{Checker, ContentChecker, Counter, Filters, Heard, Module, Poller};
+pub use ends::{AnswerRefusal, Checker, ContentChecker, Counter, Filters, Heard, Module, Poller};
 pub use errors::ConfigurationError;
 pub use judges::{LinkJudge, LogJudge, LogSigns};
 pub use logs::{Frames, LogBatch, LogReader, Verdict};

@@ -451,6 +451,10 @@ extern "C" {
     pub(crate) fn fio2070_log_signs_batch(signs: &mut RawLogSigns, as_said: u8,
         batch: &RawLogBatch);
     pub(crate) fn fio2070_log_signs_sign(signs: &RawLogSigns) -> u8;
+    pub(crate) fn fio2070_sized_module_makers_command(device: &mut RawSizedModule,
+        octets: *const u8, octets_count: usize) -> u8;
+    pub(crate) fn fio2070_sized_module_answer_other(device: &mut RawSizedModule, command: u8,
+        body: *const u8, body_count: usize, out: *mut u8, out_count: usize) -> usize;
     pub(crate) fn fio2070_plan(line: &Line, pace: &mut Pace) -> u8;
     pub(crate) fn fio2070_poller_start(poller: &mut RawPoller, number: u8);
     pub(crate) fn fio2070_poller_poll(poller: &RawPoller, out: *mut u8, out_count: usize) -> usize;
