@@ -112,3 +112,4 @@ pub mod RestartedFrames
 pub mod AnewFrames
 pub mod Restarted
 pub mod JudgeExamples
+mod MakersAnswers

@@ -1,5 +1,6 @@
 //! Laws of the definitions. Each function states one in its contract, and does nothing.
 ghost use Rattle.fio_check.specs.declared.content_rules.ContentRule.TheVariants.{Accepted, Alternate, Apart, Cleared, Clock, Done, Fresh, Ignored, Order, State, Watchdog};
+ghost use Rattle.fio_ends.specs.AnsweredLogs.{AnswersAccuseNone, JudgeAccusesNoMaker};
 ghost use Rattle.fio_ends.specs.Calls.{CallsAreRuns};
 ghost use Rattle.fio_ends.specs.ContentPremises.{HasNearTimes};
 ghost use Rattle.fio_ends.specs.ContentRuns.{AccusesNone, Always, ContentNeverAccuses};
@@ -240,4 +241,17 @@ pub fn lines_may_bring_struck_frames()
 #[tactic(auto, using(crate::proofs::LineExamples::lines_bring_records))]
 pub fn lines_bring_records()
     ensures { LinesBringRecords }
+{}
+
+/// The answers of the module's maker accuse nobody: put into any log directly below his commands 56, 57 and 59, at most one for
+/// each, and in place of the octet of an identification, they leave each other outcome of the judge as it was.
+#[tactic(auto, using(crate::proofs::MakersAnswers::answers_accuse_none))]
+pub fn makers_answers_accuse_none()
+    ensures { AnswersAccuseNone }
+{}
+
+/// So the judge accuses no right link whose maker answers, in the logs of `judge_accuses_no_right_link`.
+#[tactic(auto, using(crate::proofs::MakersAnswers::judge_accuses_no_maker))]
+pub fn judge_accuses_no_maker()
+    ensures { JudgeAccusesNoMaker }
 {}
