@@ -387,6 +387,18 @@ def ring_is_wrong(*changes):
     return None if is_right and got == ([(182, number) for number in range(4)], len(gone), 1) else (is_right, got)
 
 
+def relays_are_wrong():
+    """Command 57 sets four relays, and its answer has them as they are; one with another body gets no answer and sets none. The
+    board shows them, and the module's own answers are as ever."""
+    with begun() as (link, lines):
+        said = [asked(link, bytes([57, on])) for on in (15, 5)]
+        for body in (b'', b'\x10', b'\1\0'):
+            link.sendall(line_model.line_of(bytes([57]) + body))
+        said.append(asked(link, bytes([54, 0]))[:3])
+        shown = lines.counts()
+    return None if said == [b'\xb9\x0f', b'\xb9\x05', b'\xb6\0\0'] and (shown['relays'], shown['receive-errors']) == (5, 0) else (said, shown)
+
+
 def stations_are_mixed():
     """Frames of other stations are neither answered nor counted, damaged ones are counted; it goes on in and after a flood."""
     dice = random.Random(1)
@@ -709,6 +721,7 @@ def main():
             check.fault('no warning by %s: %s' % (compiler, folder), warns, compiler, options, folder)
     check.fault('what the firmware takes, as the page says', takes)
     check.fault('a short run', is_wrong, 2, [])
+    check.fault('four relays, and the answers of the maker', relays_are_wrong)
     check.fault('frames of other stations, and a flood', stations_are_mixed)
     check.fault('a ring that is full within a frame', ring_is_wrong)
     check.fault('an item is read before its place is free', frees_early)

@@ -20,6 +20,8 @@ enum { OCTETS_PRIORITY = 0x40, SCANS_PRIORITY = 0x80 };
 
 /* Two lamps, and a counter that goes up by one in each PRESCALE + 1 clocks. */
 #define LAMPS REGISTER(0x40028000)
+/* Four relays: the lowest bits of a register that holds what is written, since this board has none. */
+#define RELAYS REGISTER(0x4002804c)
 #define MICROSECONDS REGISTER(0x40028018)
 #define PRESCALE REGISTER(0x4002801c)
 

@@ -53,6 +53,19 @@ void each_tick(void) {
     }
 }
 
+/* ---- What the library leaves to the maker ---- */
+
+/* The answer to a frame to which the library has none: how many octets it has, 0 for none. Here command 57 sets the four relays,
+ * by the lowest bits of its one octet, and the answer says how they are. The layout is this firmware's own; any other body gets
+ * no answer. */
+static size_t makers_answer(const uint8_t *octets, size_t length) {
+    uint8_t set;
+    if (fio2070_module_makers_command(&module, octets, length) != FIO2070_TYPE_COMPLEX_OUTPUTS || length != 2 || octets[1] > 15) return 0;
+    RELAYS = octets[1];
+    set = relays();
+    return fio2070_module_answer_other(&module, FIO2070_TYPE_COMPLEX_OUTPUTS, &set, 1, answer, sizeof answer);
+}
+
 /* ---- Calls on the module, each with the scans held off ---- */
 
 size_t receive(const uint8_t *octets, size_t length) {
@@ -60,6 +73,7 @@ size_t receive(const uint8_t *octets, size_t length) {
     size_t count;
     hold_scans();
     count = fio2070_module_receive(&module, octets, length, answer, sizeof answer);
+    if (count == 0) count = makers_answer(octets, length);
     LAMPS = fio2070_module_state(&module).outputs.levels[0];
     let_scans();
     keep_longest(&counts.longest_hold, begun);
@@ -107,6 +121,8 @@ size_t waiting(void) {
     let_scans();
     return count;
 }
+
+uint8_t relays(void) { return (uint8_t)RELAYS; }
 
 /* ---- Octets ---- */
 

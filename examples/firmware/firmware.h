@@ -23,8 +23,8 @@ void each_tick(void);
 void link_interrupt(void);
 void tester_interrupt(void);
 
-/* Gives a frame to the module, and what it says of outputs to the board. Returns as fio2070_module_receive does; the answer is
- * in `answer`. */
+/* Gives a frame to the module, and what it says of outputs and relays to the board. Returns as fio2070_module_receive does; the
+ * answer is in `answer`. */
 size_t receive(const uint8_t *octets, size_t length);
 /* Sets what the inputs are read as. */
 void set_levels(uint64_t read);
@@ -33,6 +33,8 @@ void restart(void);
 /* What the module counts: errors in receiving, and entries that wait for a poll. */
 uint8_t receive_errors(void);
 size_t waiting(void);
+/* The relays that are on, by bits. */
+uint8_t relays(void);
 
 /* ---- start.c ---- */
 

@@ -66,6 +66,7 @@ static void say_counts(void) {
     say_number(" octets-lost ", link_uart.lost + tester_uart.lost);
     say_number(" receive-errors ", receive_errors());
     say_number(" waiting ", (uint32_t)waiting());
+    say_number(" relays ", relays());
     say_number(" stack ", stack_used());
     say("\n");
 }

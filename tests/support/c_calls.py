@@ -15,7 +15,8 @@ from c_header import CALLS, NUMBERS
 GUARD, FILL, MOST = 64, 0xa5, 20480
 # The structs that are kept from call to call, by the name of the type.
 KEPT = {call.parameters[0].kind.__name__ for name, call in CALLS.items() if '_start' in name} | {'log_batch'}
-NO_MESSAGE = ctypes.c_size_t(-1).value
+# The counts that are more than any room, by what they say.
+NO_COUNTS = {ctypes.c_size_t(-1 - place).value: said for place, said in enumerate(('no message', 'not awaited', 'other awaited', 'body too long'))}
 
 
 class Broken(Exception):
@@ -204,7 +205,7 @@ class Run:
         require(not (fits and end) or memory.values[count] == b'\0', 'a text does not end in a zero octet')
         if fits:
             return [*(words_of(result) if is_struct else []), *words_of_list(kind, memory.values[:count])]
-        return ['no message'] if result == NO_MESSAGE else ['needs', str(result + end)]
+        return [NO_COUNTS[result]] if result in NO_COUNTS else ['needs', str(result + end)]
 
     def needed(self, name, given, kind, end):
         """How much room a call needs: with none, and with a little less, it returns the same and changes nothing."""

@@ -37,7 +37,7 @@ use Rattle.fio_ends.specs.AnsweredLogs.{Answered, AnsweredLine, AnswersAccuseNon
 use Rattle.fio_ends.specs.LinkLogs.{AccusesNeither, JudgeAccusesNone, judging_at_start}
 use Rattle.fio_ends.proofs.JudgeSteps.{Judged, passed}
 use Rattle.fio_ends.proofs.JudgeSteps.{kept as judged}
-use Rattle.fio_ends.proofs.JudgedRuns.{judge_accuses_none}
+use Rattle.fio_ends.proofs.JudgedLogs.{judge_accuses_none}
 
 -- ---- what the rules on content make of it
 

@@ -1,5 +1,5 @@
 -- Logs of a link whose module has a maker that answers commands himself: those of a link without his answers, with these put in.
-use Rattle.std.specs.Prelude.{◌≡◌, ℕ, Bool, true, false, not, List, [], ◌∷◌, ◌++◌, length, replicate}
+use Rattle.std.specs.Prelude.{◌≡◌, ℕ, Bool, true, false, not, List, [], ◌∷◌}
 use Rattle.std.specs.List.{AllByRecursion}
 use Rattle.fio_message.specs.Answers.{IsAnswer, answer_octets, identity_answer}
 use Rattle.fio_message.specs.Commands.{IsCommand, command_octets}
