@@ -2,7 +2,7 @@
 use Rattle.std.specs.Prelude.{◌≡◌, ◌+◌, ℕ, List, ◌++◌, length, drop, Option, Some, None}
 use Rattle.fio_message.specs.Answers.{answer_octets, answered_by_other}
 use Rattle.fio_message.specs.declared.answers.OtherAnswer.{OtherAnswer}
-use Rattle.fio_module.specs.Makers.{ForMaker, answer_refusal, awaited_by, awaiting, makers_answer}
+use Rattle.fio_module.specs.Makers.{ForMaker, answer_refusal, awaited_by, with_awaited, makers_answer}
 use Rattle.fio_module.specs.declared.makers.AnswerRefusal.{AnswerRefusal}
 use Rattle.fio_module.specs.declared.makers.AnswerRefusal.TheVariants as refusals
 use Rattle.fio_module.specs.Settings.{Settings}
@@ -27,7 +27,7 @@ refusal_by value command body = answer_refusal (awaited_by value.state) command 
 
 -- a module in C that awaits the answer of this type, and is otherwise as it was
 abbrev pub awaits_code : ℕ → SizedModule → SizedModule
-awaits_code code value = record value { state = awaiting code value.state }
+awaits_code code value = record value { state = with_awaited code value.state }
 
 -- the module has been through the same, whatever it has been through
 abbrev pub StandsAsBefore : SizedModule → SizedModule → Type 0

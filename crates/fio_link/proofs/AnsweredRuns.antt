@@ -3,7 +3,7 @@ use Rattle.fio_link.proofs.Names.{◌≡◌, ℕ, suc, ◌+◌, ◌<◌, ◌≤�
 use Rattle.fio_message.specs.declared.answers.OtherAnswer.{OtherAnswer}
 use Rattle.fio_module.specs.Makers.{makers_answer}
 use Rattle.fio_module.specs.Replies.{reply_to}
-use Rattle.fio_link.specs.Answered.{Answer, AnsweredEvent, AnsweredLead, AnswersKeepRecord, IsSameBut, KeepsRecord, Link, Makers, Own, RunsWithoutAnswers, Sent, events_of_link, frame_of, makers_frame, own_frames}
+use Rattle.fio_link.specs.Answered.{Answer, AnsweredEvent, AnsweredLead, AnswersKeepRecord, IsSameBut, RecordStands, Link, Makers, Own, RunsWithoutAnswers, Sent, events_of_link, frame_carried, makers_frame, own_frames}
 use Rattle.fio_link.specs.declared.event.Event.TheVariants as events
 use Rattle.fio_link.proofs.Events.{deliverable, frame_at_place}
 use Rattle.fio_link.proofs.LeftOut.{frames-own, own-append, own-own, own_at, rank, rank-append, rank-mono}
@@ -13,7 +13,7 @@ use Rattle.fio_link.proofs.Spelled.{no_block_in}
 
 -- a machine to whose frames the maker's answers were added, and whose CPU heard the frame with this number last
 abbrev with_sent : Machine → List Sent → ℕ → Machine
-with_sent plain sent last = record plain { to_cpu = map frame_of sent; last_to_cpu = last }
+with_sent plain sent last = record plain { to_cpu = map frame_carried sent; last_to_cpu = last }
 
 -- these are the machine's own frames with the maker's among them
 record Fits (plain : Machine) (sent : List Sent) (last : ℕ) : Type 0 where
@@ -87,8 +87,8 @@ module _ (settings : Settings) where
   received plain sent last index None = ap (λ all. with_sent plain all last) (sym (append-nil sent))
   received plain sent last index (Some frame) =
       let answers = frames_sent plain (Some frame) in
-      let frames : map frame_of sent ++ answers ≡ map frame_of (sent ++ map Own answers) =
-      ap (λ own. map frame_of sent ++ own) (sym (frames-own answers)) ∙ sym (map-append frame_of sent (map Own answers)) in
+      let frames : map frame_carried sent ++ answers ≡ map frame_carried (sent ++ map Own answers) =
+      ap (λ own. map frame_carried sent ++ own) (sym (frames-own answers)) ∙ sym (map-append frame_carried sent (map Own answers)) in
       ap (λ all. record (after_delivery_to_module settings plain index (Some frame)) { to_cpu = all; last_to_cpu = last }) frames
 
   sends : (plain : Machine) (index : ℕ) (found : Option SentFrame)
@@ -160,7 +160,7 @@ module _ (settings : Settings) (first : ℕ) where
   -- it hears either
   hears : (rest : List AnsweredEvent) (ended plain : Machine) (sent : List Sent) (last place : ℕ) (one : Sent)
       → Fits plain sent last → last ≤ suc place → slice_get sent place ≡ Some one
-      → AnsweredLead settings first (after_delivery_to_cpu first (with_sent plain sent last) (suc place) (Some (frame_of one))) rest ended
+      → AnsweredLead settings first (after_delivery_to_cpu first (with_sent plain sent last) (suc place) (Some (frame_carried one))) rest ended
       → Later rest ended → WithoutAnswers settings first (Link (events.ToCpu (suc place)) ∷ rest) plain ended
   hears rest ended plain sent last place (Own frame) fits order at leads later =
       hears_own rest ended plain sent last place frame fits order at leads later
@@ -170,18 +170,18 @@ module _ (settings : Settings) (first : ℕ) where
 
   -- so at each delivery
   hears_at : (rest : List AnsweredEvent) (ended plain : Machine) (sent : List Sent) (last index : ℕ) → Fits plain sent last
-      → delivery_refusal (length (map frame_of sent)) last index ≡ None
-      → AnsweredLead settings first (after_delivery_to_cpu first (with_sent plain sent last) index (item_numbered (map frame_of sent) index)) rest ended
+      → delivery_refusal (length (map frame_carried sent)) last index ≡ None
+      → AnsweredLead settings first (after_delivery_to_cpu first (with_sent plain sent last) index (item_numbered (map frame_carried sent) index)) rest ended
       → Later rest ended → WithoutAnswers settings first (Link (events.ToCpu index) ∷ rest) plain ended
   hears_at rest ended plain sent last index fits fine leads later =
-      let d = deliverable (map frame_of sent) last index fine in
+      let d = deliverable (map frame_carried sent) last index fine in
       let numbered : index ≡ suc d.place = let at = d.numbered in omega arith in
-      let below = slice_get_within (map frame_of sent) d.place d.frame d.found in
-      let lengths = length-map sent frame_of in
+      let below = slice_get_within (map frame_carried sent) d.place d.frame d.found in
+      let lengths = length-map sent frame_carried in
       let one = some_block sent d.place (omega arith) in
-      let shown : item_numbered (map frame_of sent) (suc d.place) ≡ Some (frame_of one.0) = slice_get-map frame_of sent d.place ∙ ap (option_map frame_of) one.1 in
+      let shown : item_numbered (map frame_carried sent) (suc d.place) ≡ Some (frame_carried one.0) = slice_get-map frame_carried sent d.place ∙ ap (option_map frame_carried) one.1 in
       let order : last ≤ suc d.place = let le = d.in_order in omega arith in
-      let there = subst (λ number. AnsweredLead settings first (after_delivery_to_cpu first (with_sent plain sent last) number (item_numbered (map frame_of sent) number)) rest ended) numbered leads in
+      let there = subst (λ number. AnsweredLead settings first (after_delivery_to_cpu first (with_sent plain sent last) number (item_numbered (map frame_carried sent) number)) rest ended) numbered leads in
       let here = subst (λ frame. AnsweredLead settings first (after_delivery_to_cpu first (with_sent plain sent last) (suc d.place) frame) rest ended) shown there in
       subst (λ number. WithoutAnswers settings first (Link (events.ToCpu number) ∷ rest) plain ended) (sym numbered)
       (hears rest ended plain sent last d.place one.0 fits order one.1 here later)
@@ -195,7 +195,7 @@ module _ (settings : Settings) (first : ℕ) where
     refl,
     record {
       sent = sent;
-      same = subst (λ (machine : Machine). machine ≡ record plain { to_cpu = map frame_of sent; last_to_cpu = machine.last_to_cpu }) (sym leads) refl;
+      same = subst (λ (machine : Machine). machine ≡ record plain { to_cpu = map frame_carried sent; last_to_cpu = machine.last_to_cpu }) (sym leads) refl;
       own = fits.own;
     },
     λ none. none,
@@ -203,7 +203,7 @@ module _ (settings : Settings) (first : ℕ) where
   walk (Answer kind body ∷ rest) ended plain sent last fits leads =
       let one = Makers kind body plain.round ∷ [] in
       let w = walk rest ended plain (sent ++ one) last (fits-more plain plain sent one last fits (append-nil plain.to_cpu) refl)
-      (subst (λ frames. AnsweredLead settings first (record plain { to_cpu = frames; last_to_cpu = last }) rest ended) (sym (map-append frame_of sent one)) leads.1) in
+      (subst (λ frames. AnsweredLead settings first (record plain { to_cpu = frames; last_to_cpu = last }) rest ended) (sym (map-append frame_carried sent one)) leads.1) in
       (w.0, w.1, w.2, w.3, w.4)
   walk (Link (events.ToCpu index) ∷ rest) ended plain sent last fits leads =
       hears_at rest ended plain sent last index fits leads.0 leads.1 (λ next all heard. walk rest ended next all heard)
@@ -229,7 +229,7 @@ runs_without_answers settings first events machine run =
 
 -- what is said of a machine without his answers is said of the one with them
 kept : (settings : Settings) (events : List AnsweredEvent) (machine : Machine) (frames : List SentFrame) (last : ℕ)
-    → KeepsRecord settings events machine → KeepsRecord settings events (record machine { to_cpu = frames; last_to_cpu = last })
+    → RecordStands settings events machine → RecordStands settings events (record machine { to_cpu = frames; last_to_cpu = last })
 kept settings events machine frames last k = record {
   headline = λ none. record { pieces = (k.headline none).pieces; prefix = (k.headline none).prefix };
   rising = k.rising;
@@ -248,7 +248,7 @@ pub answers_keep_record : AnswersKeepRecord
 answers_keep_record settings first events machine range run =
     let w = runs_without_answers settings first events machine run in
     let sound = runs_are_sound settings first w.0 w.1 range w.2 in
-    subst (KeepsRecord settings events) (sym w.3.same) (kept settings events w.1 _ _ (record {
+    subst (RecordStands settings events) (sym w.3.same) (kept settings events w.1 _ _ (record {
       headline = λ none. (sound.sound (w.4 none)).headline;
       rising = sound.rising;
       lives = sound.lives;

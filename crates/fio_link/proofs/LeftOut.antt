@@ -1,6 +1,6 @@
 -- The module's own frames among all, at their places.
 use Rattle.fio_link.proofs.Names.{◌≡◌, ℕ, zero, suc, ◌+◌, ◌<◌, ◌≤◌, List, [], ◌∷◌, ◌++◌, length, map, Some, slice_get, refl, ap, arith, ◌∙◌}
-use Rattle.fio_link.specs.Answered.{Makers, Own, Sent, frame_of, own_frames}
+use Rattle.fio_link.specs.Answered.{Makers, Own, Sent, frame_carried, own_frames}
 use Rattle.fio_link.specs.Link.{SentFrame}
 
 -- how many of the first frames are the module's own
@@ -45,7 +45,7 @@ pub own-own : (frames : List SentFrame) → own_frames (map Own frames) ≡ fram
 own-own [] = refl
 own-own (frame ∷ frames) = ap (λ rest. frame ∷ rest) (own-own frames)
 
-pub frames-own : (frames : List SentFrame) → map frame_of (map Own frames) ≡ frames
+pub frames-own : (frames : List SentFrame) → map frame_carried (map Own frames) ≡ frames
 frames-own [] = refl
 frames-own (frame ∷ frames) = ap (λ rest. frame ∷ rest) (frames-own frames)
 

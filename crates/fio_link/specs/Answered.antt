@@ -57,9 +57,9 @@ pub data Sent : Type 0 where
   Makers : (kind : OtherAnswer) → (body : List ℕ) → (round : ℕ) → Sent
 
 -- the frame
-abbrev pub frame_of : Sent → SentFrame
-frame_of (Own frame) = frame
-frame_of (Makers kind body round) = makers_frame kind body round
+abbrev pub frame_carried : Sent → SentFrame
+frame_carried (Own frame) = frame
+frame_carried (Makers kind body round) = makers_frame kind body round
 
 -- the module's own among these
 abbrev pub own_frames : List Sent → List SentFrame
@@ -71,7 +71,7 @@ own_frames (Makers kind body round ∷ sent) = own_frames sent
 -- was sent to it, each of its own answers, and the CPU's record and number.
 pub record IsSameBut (plain machine : Machine) : Type 0 where
   pub sent : List Sent
-  pub same : machine ≡ record plain { to_cpu = map frame_of sent; last_to_cpu = machine.last_to_cpu }
+  pub same : machine ≡ record plain { to_cpu = map frame_carried sent; last_to_cpu = machine.last_to_cpu }
   pub own : own_frames sent ≡ plain.to_cpu
 
 -- Whatever the maker answers, there is a run without his answers that is otherwise the same.
@@ -84,7 +84,7 @@ RunsWithoutAnswers =
 
 -- So what is promised of the record stands, word for word: the headline, that it rises through all lives, and that it has one
 -- contiguous run of the blocks of each.
-pub record KeepsRecord (settings : Settings) (events : List AnsweredEvent) (machine : Machine) : Type 0 where
+pub record RecordStands (settings : Settings) (events : List AnsweredEvent) (machine : Machine) : Type 0 where
   pub headline : HaveNoRestart (events_of_link events) → RecordIsLog settings machine
   pub rising : IsRising machine
   pub lives : TakesStretchOfEachLife settings machine
@@ -93,7 +93,7 @@ pub record KeepsRecord (settings : Settings) (events : List AnsweredEvent) (mach
 abbrev pub AnswersKeepRecord : Type 0
 AnswersKeepRecord =
     (settings : Settings) (first : ℕ) (events : List AnsweredEvent) (machine : Machine) →
-    AreInRange settings → IsAnsweredRun settings first events machine → KeepsRecord settings events machine
+    AreInRange settings → IsAnsweredRun settings first events machine → RecordStands settings events machine
 
 -- ---- an instance
 

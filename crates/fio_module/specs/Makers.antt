@@ -43,8 +43,8 @@ abbrev pub awaited_by : ModuleState → Option OtherAnswer
 awaited_by value = other_answer_of value.awaited
 
 -- a module that awaits the answer of this type, and is otherwise as it was
-abbrev pub awaiting : ℕ → ModuleState → ModuleState
-awaiting code value = record value { awaited = code }
+abbrev pub with_awaited : ℕ → ModuleState → ModuleState
+with_awaited code value = record value { awaited = code }
 
 -- why an answer of this kind is refused: it is not for a command of this type, or no frame has room for its body
 abbrev pub refusal_of_kind : OtherAnswer → ℕ → ℕ → Option AnswerRefusal
@@ -66,4 +66,4 @@ pub record TakesAnswer (old new : ModuleState) (command : ℕ) (body : List ℕ)
   pub awaited : awaited_by old ≡ Some kind
   pub to : answered_by_other kind ≡ command
   pub fits : length body ≤ BODY_OCTETS
-  pub done : new ≡ awaiting 0 old
+  pub done : new ≡ with_awaited 0 old

@@ -1,6 +1,6 @@
 //! The answers of the maker. They change nothing but which answer is awaited.
 ghost use Rattle.std.specs.Prelude.{◌≡◌, ◌<◌, length, None, Some, MatchOption, IfSome, IfErr, IfOk};
-ghost use Rattle.fio_module.specs.Makers.{answer_refusal, awaited_by, awaited_code, awaiting, makers_command_in, TakesAnswer};
+ghost use Rattle.fio_module.specs.Makers.{answer_refusal, awaited_by, awaited_code, with_awaited, makers_command_in, TakesAnswer};
 
 use super::ModuleState;
 use crate::makers::{AnswerRefusal, MakersCommand};
@@ -33,7 +33,7 @@ impl ModuleState {
         ensures command { MatchOption result
             (makers_command_in octets.now ≡ None)
             (λ command. makers_command_in octets.now ≡ Some (record { code = command.code; body = command.body.now })) }
-        ensures awaits { self.new ≡ awaiting (awaited_code (makers_command_in octets.now)) self.old }
+        ensures awaits { self.new ≡ with_awaited (awaited_code (makers_command_in octets.now)) self.old }
     {
         let command = read_makers_command(octets);
         self.awaited = match command {
