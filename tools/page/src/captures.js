@@ -3,7 +3,7 @@
 // bindings/python/fiolog/captures.py does the same.
 
 import { FILES } from './files.js';
-import { asLatin, hexText } from './hex.js';
+import { asLatin, hexText, inLines } from './hex.js';
 
 // How many steps a second has.
 const MICRO = 10n ** 6n, NANO = 10n ** 9n, MAGICS = { 0xa1b2c3d4: MICRO, 0xa1b23c4d: NANO };
@@ -22,50 +22,42 @@ const MOST_OF_PACKET = 1 << 24;
 const NOT_UDP = 'not UDP', CUT = 'octets lost: cut off', FRAGMENTED = 'octets lost: part of a packet', WRONG = 'octets lost: wrong length';
 const ENDS_EARLY = 'octets lost: the file ends early', BROKEN = 'octets lost: the file is broken from here on';
 
-// The octets of a packet end before what is read of it.
-class Short extends Error {}
-
-// A number of so many octets, the highest first.
-function numberAt(data, place, count) {
-  if (place + count > data.length) throw new Short();
-  return data.subarray(place, place + count).reduce((number, octet) => number * 256 + octet, 0);
-}
+// A number of two octets, the high one first; a RangeError if the octets of a packet end before it.
+const wordAt = (data, place) => new DataView(data.buffer, data.byteOffset, data.length).getUint16(place);
+const octetAt = (data, place) => new DataView(data.buffer, data.byteOffset, data.length).getUint8(place);
 
 // What follows a type of Ethernet: the IP packet, or null for another one.
 function ofEthernet(data, start) {
-  let place = start, kind = numberAt(data, place, 2);
-  for (place += 2; VLANS.includes(kind); place += 4) kind = numberAt(data, place + 2, 2);
+  let place = start + 2, kind = wordAt(data, start);
+  for (; VLANS.includes(kind); place += 4) kind = wordAt(data, place + 2);
   return IP_TYPES.includes(kind) ? data.subarray(place) : null;
 }
 
+// The family is an octet, the first or the last of four.
 function ofLoopback(data) {
-  numberAt(data, 0, 4);
+  octetAt(data, 3);
   return LOOPBACK_FAMILIES.includes(data.subarray(0, 4).reduce((sum, octet) => sum + octet)) ? data.subarray(4) : null;
 }
 
 // The IP packet in a packet of a link type.
 const itself = (data) => data;
 const LINKS = { 0: ofLoopback, 1: (data) => ofEthernet(data, 12), 101: itself, 108: ofLoopback, 113: (data) => ofEthernet(data, 14),
-  228: itself, 229: itself, 276: (data) => IP_TYPES.includes(numberAt(data, 0, 2)) ? data.subarray(20) : null };
+  228: itself, 229: itself, 276: (data) => IP_TYPES.includes(wordAt(data, 0)) ? data.subarray(20) : null };
 
 // The ends of an IP packet and its UDP datagram, or why it has none.
 function datagramOf(data) {
-  const version = numberAt(data, 0, 1) >> 4;
-  let start = 40, length, part = 0, protocol, ends;
+  const version = octetAt(data, 0) >> 4;
+  let start, length, part, protocol, ends;
   if (version === 4) {
-    start = 4 * (data[0] & 15);
-    length = numberAt(data, 2, 2);
-    part = numberAt(data, 6, 2) & 0x3fff;
-    protocol = numberAt(data, 9, 1);
+    [start, length, part, protocol] = [4 * (data[0] & 15), wordAt(data, 2), wordAt(data, 6) & 0x3fff, octetAt(data, 9)];
     ends = [data.subarray(12, 16), data.subarray(16, 20)];
   } else if (version === 6) {
-    length = 40 + numberAt(data, 4, 2);
-    protocol = numberAt(data, 6, 1);
+    [start, length, part, protocol] = [40, 40 + wordAt(data, 4), 0, octetAt(data, 6)];
     ends = [data.subarray(8, 24), data.subarray(24, 40)];
     while (FURTHER_HEADERS.includes(protocol) && part === 0) {
-      if (protocol === PART) part = numberAt(data, start + 2, 2) & 0xfff9;
-      const next = numberAt(data, start, 1);
-      start += 8 + (protocol === PART ? 0 : 8 * numberAt(data, start + 1, 1));
+      if (protocol === PART) part = wordAt(data, start + 2) & 0xfff9;
+      const next = octetAt(data, start);
+      start += 8 + (protocol === PART ? 0 : 8 * octetAt(data, start + 1));
       protocol = next;
     }
   } else return { why: NOT_UDP };
@@ -93,7 +85,7 @@ class PacketLines {
       length = this.isLow === null ? this.begin() : this.steps > 0n ? this.record(place) : this.block(place);
     }
     if (!this.isBroken && place < this.file.length) this.lines.push(ENDS_EARLY);
-    return new TextEncoder().encode(this.lines.map((line) => `${line}\n`).join(''));
+    return new TextEncoder().encode(inLines(this.lines));
   }
 
   word(place) {
@@ -190,7 +182,7 @@ class PacketLines {
     try {
       text = from.link === UPPER_PDU ? this.upper(data, way) : this.udp(from.link, data);
     } catch (reason) {
-      if (!(reason instanceof Short)) throw reason;
+      if (!(reason instanceof RangeError)) throw reason;
       text = isCut ? CUT : WRONG;
     }
     this.lines.push(time === null ? text : `${clock(time, from)} ${text}`);
@@ -200,8 +192,8 @@ class PacketLines {
   udp(link, data) {
     const packet = link in LINKS ? LINKS[link](data) : null, { why, ends, datagram } = packet === null ? { why: NOT_UDP } : datagramOf(packet);
     if (why) return why;
-    const ports = [numberAt(datagram, 0, 2), numberAt(datagram, 2, 2)], length = numberAt(datagram, 4, 2);
-    if (length < 8 || length > datagram.length) throw new Short();
+    const ports = [wordAt(datagram, 0), wordAt(datagram, 2)], length = wordAt(datagram, 4);
+    if (length < 8 || length > datagram.length) throw new RangeError();
     return `${this.wordOf(ends.map((end, at) => `${hexText(end)}:${ports[at]}`).sort().join())} ${hexText(datagram.subarray(8, length)).toLowerCase()}`;
   }
 
@@ -216,12 +208,12 @@ class PacketLines {
   // The text of a message that `fiolog convert` wrote.
   upper(data, way) {
     let name = '', place = 0;
-    for (let tag = numberAt(data, 0, 2); tag !== 0; tag = numberAt(data, place, 2)) {
-      const length = numberAt(data, place + 2, 2);
+    for (let tag = wordAt(data, 0); tag !== 0; tag = wordAt(data, place)) {
+      const length = wordAt(data, place + 2);
       if (tag === DISSECTOR_NAME) name = asLatin(data.subarray(place + 4, place + 4 + length));
       place += 4 + length;
     }
-    numberAt(data, place + 2, 2);
+    wordAt(data, place + 2);
     return name.replace(/\0+$/, '') === 'fio2070' ? `${way}${hexText(data.subarray(place + 4)).toLowerCase()}` : NOT_UDP;
   }
 }

@@ -6,8 +6,7 @@ import { capital, element, sentence } from './dom.js';
 import { fieldsOf, wordsIn } from './fields.js';
 import { hexText } from './hex.js';
 import { LOG_SIDES } from './constants.js';
-import { bitsOf, doubtOf } from './notes.js';
-import { entryOf, RESTART_HELP, ruleWords, sourceWords } from './rules.js';
+import { bitsOf, doubtOf, entryOf, RESTART_HELP, ruleWords, sourceWords } from './rules.js';
 
 const SIDES_IN_WORDS = { [LOG_SIDES.noSide]: 'No direction', [LOG_SIDES.fromCpu]: 'Sent by the CPU', [LOG_SIDES.fromModule]: 'Heard by the CPU' };
 const LONGEST = 4096;
@@ -27,7 +26,7 @@ function markTogether(octets, words, fields) {
 }
 
 // The name of a word: the word before it, as in `block 5`.
-const nameOf = (all, place) => place % 2 === 0 || place === 0 ? all[place].word : all[place - 1].word + ' ' + all[place].word;
+const nameOf = (all, place) => place % 2 === 0 ? all[place] : all[place - 1] + ' ' + all[place];
 
 // `broken` is the line of the entry that breaks a rule on content.
 function linesWith(lines, spans, broken) {
@@ -52,7 +51,7 @@ function octetSpan(octet, index, names) {
 export function detailOf(log, place, textOf) {
   const lines = log.written(place), octets = log.octets(place).slice(0, LONGEST), all = wordsIn(lines), isMessage = !log.isFaulty[place];
   const fields = isMessage ? fieldsOf(octets, lines, textOf) : Array.from(octets, () => []);
-  const wordSpans = all.map((it) => element('span', {}, it.word));
+  const wordSpans = all.map((word) => element('span', {}, word));
   const octetSpans = Array.from(octets, (octet, index) => octetSpan(octet, index, fields[index].map((field) => nameOf(all, field))));
   if (isMessage) markTogether(octetSpans, wordSpans, fields);
   const grid = element('div', { class: 'grid', role: 'group', 'aria-label': 'Octets', onkeydown: (event) => toOctet(event, octetSpans) },

@@ -13,11 +13,6 @@ export function element(name, attributes = {}, ...children) {
 
 export const byId = (id) => document.getElementById(id);
 
-// A labelled control.
-export function labelled(text, control) {
-  return element('label', {}, text, control);
-}
-
 // A choice of options, each with its value.
 export function select(label, options, onchange, id = false) {
   return element('select', { 'aria-label': label, id, onchange: (event) => onchange(event.target.value) },

@@ -3,34 +3,25 @@
 
 const CHANGES = [0x01, 0x80];
 
-// The words of a message's lines, with the line and the index of each.
-export function wordsIn(lines) {
-  return lines.flatMap((line, row) => line.trim().split(' ').map((word, place) => ({ row, place, word })));
-}
+// The words of a message's lines.
+export const wordsIn = (lines) => lines.flatMap((line) => line.trim().split(' '));
 
-// Where the texts of a message and of a changed one first differ, as an index of a word; -1 where the changed one is
-// no such message.
-function firstDifference(words, changed) {
-  const place = words.findIndex((it, index) => it.word !== (changed[index] || {}).word);
-  return place === 0 ? -1 : place;
-}
-
-// The field of one octet: the index of a word; null for the type and for what is a message no more.
+// The words in which the texts of a message and of a changed one first differ, by how an octet is changed; none where that is no such
+// message.
 function fieldOf(words, octets, place, textOf) {
   const found = CHANGES.map((mask) => {
     const changed = octets.slice();
     changed[place] ^= mask;
-    return firstDifference(words, wordsIn(textOf(fitted(changed, octets.length, textOf))));
-  }).filter((index) => index > 0);
-  return [...new Set(found)];
+    const others = wordsIn(textOf(fitted(changed, textOf)));
+    return words.findIndex((word, index) => word !== others[index]);
+  });
+  return [...new Set(found.filter((index) => index > 0))];
 }
 
 // A changed message, made as long as the decoder says that it has to be.
-function fitted(octets, length, textOf) {
-  const needed = /^wrong length needed (\d+) /.exec(textOf(octets)[0]);
-  if (!needed) return octets;
-  const resized = new Uint8Array(Number(needed[1]));
-  resized.set(octets.subarray(0, Math.min(length, resized.length)));
+function fitted(octets, textOf) {
+  const [, needed = octets.length] = /^wrong length needed (\d+) /.exec(textOf(octets)[0]) || [], resized = new Uint8Array(Number(needed));
+  resized.set(octets.subarray(0, resized.length));
   return resized;
 }
 

@@ -1,6 +1,7 @@
 // The view Inputs: the record of the log that is open as waveforms, moved by wheel, keys and touch.
 
 import { capital, counted, element, save, saveText, say } from './dom.js';
+import { inLines } from './hex.js';
 import { contentLine } from './record.js';
 import { Waves } from './waves.js';
 
@@ -20,8 +21,12 @@ export class InputsView {
       element('p', {}, 'Here each input of a log has a line: when it went on and off, and where changes are missing.'),
       element('p', {}, element('button', { class: 'main', onclick: back }, 'Open a log or an example')));
     this.reading = element('p', { class: 'mono', id: 'reading', role: 'status' });
-    this.canvas = element('canvas', { class: 'waves', id: 'waves', tabindex: '0', role: 'application', 'aria-label': 'Waveforms',
-      'aria-describedby': 'waves-help' });
+    // Where the pointers are that are down, by their numbers.
+    this.pointers = new Map();
+    const lift = ({ pointerId }) => this.pointers.delete(pointerId);
+    this.canvas = element('canvas', { class: 'waves', id: 'waves', tabindex: '0', role: 'application', 'aria-label': 'Waveforms', 'aria-describedby': 'waves-help',
+      onwheel: (event) => this.wheel(event), onkeydown: (event) => this.key(event), onclick: (event) => this.click(event), ondblclick: () => this.selectedMessage(),
+      onpointerdown: (event) => this.press(event), onpointermove: (event) => this.drag(event), onpointerup: lift, onpointercancel: lift });
     const head = element('canvas', { class: 'axis', role: 'presentation' }), waves = this.waves = new Waves(head, this.canvas);
     this.range = element('span', { class: 'soft mono', id: 'range' });
     const buttons = element('div', { class: 'row controls' }, this.button('Zoom in', () => waves.zoom(0.5)), this.button('Zoom out', () => waves.zoom(2)),
@@ -30,12 +35,13 @@ export class InputsView {
     this.text = element('pre', { class: 'report', id: 'record-text', tabindex: '0', role: 'group', 'aria-label': 'The record as text' });
     this.shown = element('details', { class: 'record', ontoggle: () => this.drawText() },
       element('summary', { id: 'show-record' }, 'The record as text'), this.text, element('button', { id: 'save-record',
-        onclick: () => saveText(this.log.name + '.record', this.log.record.lines.map((line) => line + '\n').join('')) }, 'Save the record'));
+        onclick: () => saveText(this.log.name + '.record', inLines(this.log.record.lines)) }, 'Save the record'));
     this.legend = element('p', { class: 'soft', id: 'legend' });
     const help = element('p', { class: 'soft', id: 'waves-help' }, matchMedia('(pointer: coarse)').matches ? TOUCH_HELP : HELP);
     this.parts = [buttons, this.reading, element('div', { class: 'wave-box' }, head, this.canvas), this.legend, help];
     root.append(this.none, this.note, ...this.parts, this.shown);
-    this.listen();
+    new ResizeObserver(() => this.draw()).observe(this.canvas);
+    new MutationObserver(() => this.draw()).observe(document.documentElement, { attributeFilter: ['data-theme'] });
     this.close();
   }
 
@@ -46,19 +52,14 @@ export class InputsView {
   drawText() {
     if (!this.shown.open) return;
     const { lines } = this.log.record, more = lines.length - MOST_SHOWN;
-    this.text.textContent = lines.slice(0, MOST_SHOWN).join('\n') + (more > 0 ? `\n… and ${counted(more, 'line')} more` : '') + '\n';
-  }
-
-  setHidden(isHidden) {
-    for (const part of this.parts) part.hidden = isHidden;
+    this.text.textContent = inLines([...lines.slice(0, MOST_SHOWN), ...more > 0 ? [`… and ${counted(more, 'line')} more`] : []]);
   }
 
   // Shows that no log is open.
   close() {
     this.log = null;
     this.note.textContent = '';
-    this.setHidden(true);
-    this.shown.hidden = true;
+    for (const part of [...this.parts, this.shown]) part.hidden = true;
     this.none.hidden = false;
   }
 
@@ -66,7 +67,7 @@ export class InputsView {
     const { record } = this.log = log;
     this.waves.open(record);
     this.none.hidden = true;
-    this.setHidden(record.count === 0);
+    for (const part of this.parts) part.hidden = record.count === 0;
     this.note.textContent = record.count === 0 ? 'No input changed in this log: it has no block with entries that a CPU would take.'
       : `A CPU that heard this log has recorded ${counted(record.count, 'transition')} of ${counted(record.lanes.size, 'input')}`
         + `${record.gaps.length > 0 ? ` and ${counted(record.gaps.length, 'gap mark')}` : ''}. `
@@ -96,29 +97,17 @@ export class InputsView {
     this.range.textContent = `${Math.round(from)} to ${Math.round(to)} ms${clock}.${dense}`;
   }
 
-  listen() {
-    const { canvas } = this;
-    new ResizeObserver(() => this.draw()).observe(canvas);
-    new MutationObserver(() => this.draw()).observe(document.documentElement, { attributeFilter: ['data-theme'] });
-    canvas.addEventListener('wheel', (event) => this.wheel(event), { passive: false });
-    canvas.addEventListener('keydown', (event) => this.key(event));
-    canvas.addEventListener('click', (event) => this.click(event));
-    canvas.addEventListener('dblclick', () => this.selectedMessage());
-    this.pointers = new Map();
-    canvas.addEventListener('pointerdown', (event) => {
-      this.pointers.set(event.pointerId, event.offsetX);
-      this.moved = 0;
-      canvas.setPointerCapture(event.pointerId);
-    });
-    canvas.addEventListener('pointermove', (event) => this.drag(event));
-    for (const name of ['pointerup', 'pointercancel']) canvas.addEventListener(name, (event) => this.pointers.delete(event.pointerId));
-  }
-
   wheel(event) {
     if (event.shiftKey) this.waves.pan(event.deltaY / 1000);
     else this.waves.zoom(1.0015 ** event.deltaY, this.waves.timeAt(event.offsetX));
     event.preventDefault();
     this.draw();
+  }
+
+  press({ pointerId, offsetX }) {
+    this.pointers.set(pointerId, offsetX);
+    this.moved = 0;
+    this.canvas.setPointerCapture(pointerId);
   }
 
   // One pointer moves the times, two widen them.

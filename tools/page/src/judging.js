@@ -56,7 +56,7 @@ export class Judging {
     const { log } = this;
     this.isBegun = true;
     if (log.codes[place] === POLL) this.isLost = false;
-    const outcome = this.judge.frame(log.isSent(place), log.sides[place], log.address(place), log.lengths[place]);
+    const outcome = this.judge.frame(...log.told(place));
     if (outcome) this.note(place, outcome);
   }
 
@@ -72,8 +72,7 @@ export class Judging {
 
   noteLoss(cause) {
     if (this.isLost) return;
-    this.isLost = true;
-    this.losses += 1;
+    Object.assign(this, { isLost: true, losses: this.losses + 1 });
     this.causes.add(cause);
   }
 }
@@ -88,15 +87,11 @@ export class Sides {
   }
 
   add(place) {
-    const { log } = this;
-    if (!log.isSure(place)) {
-      if (!log.isPossible[place] && !log.others.has(place)) this.unread += 1;
-      return;
-    }
-    this.sure += 1;
-    if (!log.isSent(place)) return;
-    this.sent += 1;
-    if (log.codes[place] === POLL) this.polled.add(log.blocks[place]);
+    const { log } = this, isSent = log.isSure(place) && log.isSent(place);
+    if (log.isSure(place)) this.sure += 1;
+    else if (!log.isPossible[place] && !log.others.has(place)) this.unread += 1;
+    if (isSent) this.sent += 1;
+    if (isSent && log.codes[place] === POLL) this.polled.add(log.blocks[place]);
   }
 
   // A key of SIDES; empty if it has both, or too few messages.

@@ -1,6 +1,6 @@
 // A run of *Play* as a picture: both ends as lines, time from the top down, each message as an arrow between them.
 
-import { statusNotes } from './notes.js';
+import { statusNotes } from './rules.js';
 import { counted } from './dom.js';
 
 const SPACE = 'http://www.w3.org/2000/svg';
@@ -16,15 +16,13 @@ const STYLE = `.lad-text { font: 11px ui-monospace, "DejaVu Sans Mono", Consolas
 .lad-lost { stroke: var(--bad, #a3201a); stroke-dasharray: 7 4; } .lad-cross { stroke: var(--bad, #a3201a); stroke-width: 2.4; fill: none; }
 .lad-text.lad-bad, .lad-note.lad-bad { fill: var(--bad, #a3201a); }`;
 
-// What the CPU does with a message that it heard, by the report's words.
-function heardWords(outcome, added, hasGap) {
-  const [kind] = outcome.split(' ');
-  if (kind === 'stale') return 'waits for another block: records nothing';
-  if (kind === 'unreadable') return 'cannot read it';
-  if (kind === 'refused') return outcome;
-  if (kind !== 'block') return '';
-  const changes = added - (hasGap ? 1 : 0);
-  return `records ${hasGap ? 'a gap mark and ' : ''}${changes > 0 ? counted(changes, 'change') : 'no change'}`;
+// What the CPU does with a message that it heard, by the report's words, and by what that added to the record.
+function heardWords(outcome, added) {
+  const gaps = added.filter((item) => item.gap).length, changes = added.length - gaps;
+  if (outcome.startsWith('refused')) return outcome;
+  if (outcome.startsWith('stale')) return 'waits for another block: records nothing';
+  if (outcome === 'unreadable') return 'cannot read it';
+  return outcome.startsWith('block') ? `records ${gaps > 0 ? 'a gap mark and ' : ''}${changes > 0 ? counted(changes, 'change') : 'no change'}` : '';
 }
 
 const ENDINGS = { '': '', again: '', lost: ': lost', waiting: ': on its way' };
@@ -33,54 +31,44 @@ const AT_MODULE = { sync: 'line sync', raise: 'a flag is raised', restart: 'the 
 // Follows a run, event by event: its rows, and the arrows from row to row.
 class Ladder {
   constructor(run, lost) {
-    Object.assign(this, { run, lost, rows: [], arrows: [], sent: { 'to-module': [], 'to-cpu': [] } });
+    Object.assign(this, { run, rows: [], arrows: [], sent: { 'to-module': [], 'to-cpu': [] } });
     run.events.forEach((line, index) => this.follow(line.split(' '), run.lines[index].replace(/^\d+ /, ''), index));
-    for (const [way, rows] of Object.entries(this.sent)) rows.forEach((row, place) => this.open(way, place + 1, row));
+    // A message that never arrived is lost, or on its way.
+    for (const [way, { highest }] of [['to-module', run.toModule], ['to-cpu', run.toCpu]]) {
+      for (const [place, from] of this.sent[way].entries()) {
+        const number = place + 1, isLost = number < highest || lost.has(way + number);
+        if (!this.hasArrived(way, number)) this.arrows.push({ way, number, from, to: from + (isLost ? 0.5 : 0.4), kind: isLost ? 'lost' : 'waiting' });
+      }
+    }
   }
 
   follow([name, given], outcome, index) {
-    const { run, rows } = this, waits = run.waits[index];
-    if (name === 'scan') return this.scan(waits);
-    rows.push({ isAtModule: name !== 'poll' && name !== 'send' && name !== 'to-cpu', note: AT_MODULE[name] || '' });
-    const row = rows.length - 1;
-    if (name === 'poll' || name === 'send') this.note('to-module', outcome, row);
-    if (name === 'to-module' || name === 'to-cpu') this.arrive(name, Number(given), row, outcome);
-    if (name === 'to-module') this.note('to-cpu', outcome, row);
-    if (name === 'to-cpu') {
-      const before = index > 0 ? run.recorded[index - 1] : 0;
-      rows[row].note = heardWords(outcome, run.recorded[index] - before, run.record.slice(before, run.recorded[index]).some((item) => item.gap));
-    }
+    const { run } = this, isOfCpu = name === 'poll' || name === 'send', at = this.rows.length;
+    if (name === 'scan') return this.scan(run.waits[index]);
+    const row = { isAtModule: !isOfCpu && name !== 'to-cpu', note: AT_MODULE[name] || (outcome.startsWith('refused') ? outcome : '') };
+    this.rows.push(row);
+    if (name.startsWith('to-')) this.arrive(name, Number(given), at, outcome);
+    if (outcome.startsWith('sent ')) this.sent[isOfCpu ? 'to-module' : 'to-cpu'].push(at);
+    if (name === 'to-cpu') row.note = heardWords(outcome, run.record.slice(run.recorded[index - 1] || 0, run.recorded[index]));
     return undefined;
   }
 
   // Scans in a row are one row.
   scan(waits) {
-    const last = this.rows[this.rows.length - 1];
-    const row = last && last.scans ? last : { isAtModule: true, scans: 0 };
-    if (row !== last) this.rows.push(row);
+    if (!this.rows.at(-1)?.scans) this.rows.push({ isAtModule: true, scans: 0 });
+    const row = this.rows.at(-1);
     row.scans += 1;
     row.note = counted(row.scans, 'scan') + (waits > 0 ? `: ${counted(waits, 'change')} ${waits === 1 ? 'waits' : 'wait'}` : '');
   }
 
-  // Notes the row at which a message is sent.
-  note(way, outcome, row) {
-    if (outcome.startsWith('sent ')) this.sent[way].push(row);
-    else if (outcome.startsWith('refused')) this.rows[row].note = outcome;
+  hasArrived(way, number) {
+    return this.arrows.some((arrow) => arrow.way === way && arrow.number === number);
   }
 
   arrive(way, number, row, outcome) {
-    const from = this.sent[way][number - 1];
+    const from = this.sent[way][number - 1], isAgain = this.hasArrived(way, number);
     if (outcome.startsWith('refused') || from === undefined) return;
-    const isAgain = this.arrows.some((arrow) => arrow.way === way && arrow.number === number);
     this.arrows.push({ way, number, from: isAgain ? row - 0.35 : from, to: row, kind: isAgain ? 'again' : '' });
-  }
-
-  // A message that never arrived: it is lost, or on its way.
-  open(way, number, from) {
-    if (this.arrows.some((arrow) => arrow.way === way && arrow.number === number)) return;
-    const direction = way === 'to-module' ? this.run.toModule : this.run.toCpu;
-    const isLost = number < direction.highest || this.lost.has(way + number);
-    this.arrows.push({ way, number, from, to: from + (isLost ? 0.5 : 0.4), kind: isLost ? 'lost' : 'waiting' });
   }
 }
 
@@ -139,14 +127,10 @@ class Picture {
     const isPart = arrow.kind === 'lost' || arrow.kind === 'waiting';
     const x = isPart ? start + (end - start) * (arrow.kind === 'lost' ? 0.72 : 0.6) : end, from = this.y(arrow.from), to = this.y(arrow.to);
     this.root.append(shape('line', { x1: start, y1: from, x2: x, y2: to, class: `lad-arrow lad-${arrow.kind || 'whole'}` }));
+    const back = isDown ? -9 : 9, tip = `M${x} ${to}l${back} ${back * (to - from) / (x - start) - 4}v8z`;
     if (arrow.kind === 'lost') this.root.append(shape('path', { d: `M${x - 6} ${to - 6}l12 12m0 -12l-12 12`, class: 'lad-cross' }));
-    else if (!isPart) this.tip(x, to, isDown ? -1 : 1, (to - from) / (x - start));
+    else if (!isPart) this.root.append(shape('path', { d: tip, class: 'lad-tip' }));
     this.text(arrow, start, x, from, to);
-  }
-
-  tip(x, y, way, slope) {
-    const back = 9 * way, down = back * slope;
-    this.root.append(shape('path', { d: `M${x} ${y}l${back} ${down - 4}v8z`, class: 'lad-tip' }));
   }
 
   // The words are above the arrow, along it, or level if it is steep.

@@ -66,10 +66,10 @@ export class Library {
     return this.decode(this.place(octets), octets.length) !== null;
   }
 
-  // The words of the fault of octets that spell no command, or null.
+  // The words of the fault of octets that spell no command; empty if they spell one.
   commandFault(octets) {
-    if (this.faultOf('command', this.place(octets), octets.length) === FAULTS.none) return null;
-    return this.textOf(this.calls.fio2070_fault_text(BigInt(this.result), BigInt(this.text), BigInt(LONGEST_TEXT)));
+    const fault = this.faultOf('command', this.place(octets), octets.length);
+    return fault === FAULTS.none ? '' : this.textOf(this.calls.fio2070_fault_text(BigInt(this.result), BigInt(this.text), BigInt(LONGEST_TEXT)));
   }
 
   // The text of this length that a call wrote.
@@ -196,7 +196,7 @@ export class LogJudge extends Kept {
 
   // Takes a message that the CPU sent or heard; `said` is one of LOG_SIDES. What it is, if it is not kept; else null.
   frame(isSent, said, address, length) {
-    const kind = this.calls.fio2070_log_judge_frame(this.at, isSent ? 1 : 0, said, BigInt(address), BigInt(length), BigInt(this.outcome));
+    const kind = this.calls.fio2070_log_judge_frame(this.at, Number(isSent), said, BigInt(address), BigInt(length), BigInt(this.outcome));
     return kind === OUTCOMES.kept ? null : this.library.read('judgeOutcome', this.outcome);
   }
 }
@@ -209,7 +209,7 @@ export class LogSigns extends Kept {
 
   // Takes a message that the CPU sent or heard; `said` is one of LOG_SIDES.
   frame(isSent, said, address, length) {
-    this.calls.fio2070_log_signs_frame(this.at, isSent ? 1 : 0, said, BigInt(address), BigInt(length));
+    this.calls.fio2070_log_signs_frame(this.at, Number(isSent), said, BigInt(address), BigInt(length));
   }
 }
 

@@ -2,6 +2,7 @@
 // counts of what was found.
 
 import { LOG_FORMS, LOG_SIDES } from './constants.js';
+import { inLines } from './hex.js';
 import { ENDS, isOfOneSide, Judging, Sides } from './judging.js';
 import { BLOCK, FIRST_ANSWER, POLL, STATUS_BITS } from './library.js';
 import { Record } from './record.js';
@@ -29,25 +30,21 @@ export class Log {
   // Decodes, counts and judges all messages.
   *work() {
     yield* part(0, 0.3, each(this.count, (place) => this.decode(place)));
-    const sides = new Sides(this);
-    this.arena.signs.call('start');
-    yield* part(0.3, 0.45, each(this.count, (place) => this.countHead(place, sides)));
-    Object.assign(this, { logged: sides.kind, sign: this.arena.signs.call('sign'), judging: new Judging(this, this.arena.judge) });
-    if (!isOfOneSide(this.logged)) yield* part(0.45, 0.65, this.judging.work());
+    // Which directions it has, and what kind of log it looks like.
+    const { signs, judge } = this.arena, sides = new Sides(this);
+    signs.call('start');
+    yield* part(0.3, 0.45, each(this.count, (place) => {
+      sides.add(place);
+      if (this.isSure(place)) signs.frame(...this.told(place));
+    }));
+    const judging = new Judging(this, judge), { breaches, restarts } = judging;
+    Object.assign(this, { logged: sides.kind, sign: signs.call('sign'), judging, breaches, restarts });
+    if (!isOfOneSide(this.logged)) yield* part(0.45, 0.65, judging.work());
     this.record = new Record(this);
     yield* part(0.65, 0.85, each(this.count, (place) => this.record.take(place)));
     yield* part(0.85, 1, this.sum());
     this.verdict = verdictOf(this);
     return this;
-  }
-
-  // The breaches and the restarts, by the places of their messages.
-  get breaches() {
-    return this.judging.breaches;
-  }
-
-  get restarts() {
-    return this.judging.restarts;
   }
 
   address(place) {
@@ -110,12 +107,6 @@ export class Log {
     return (this.directions[place] || this.wayByType(place)) === fromCpu;
   }
 
-  // Counts a message to tell which directions the log has, and what kind of log it looks like.
-  countHead(place, sides) {
-    sides.add(place);
-    if (this.isSure(place)) this.arena.signs.frame(this.isSent(place), this.sides[place], this.address(place), this.lengths[place]);
-  }
-
   // How many messages each fact holds for; of entries how many there are, and no frame with another address is a message.
   *sum() {
     this.summary = { badLines: this.lengths.subarray(0, this.count).reduce((sum, length) => sum + (length === 0 ? 1 : 0), -this.others.size) };
@@ -123,6 +114,11 @@ export class Log {
       this.summary[name] = yield* part(index / FACTS.length, (index + 1) / FACTS.length, each(this.count, (place) => test(this, place)));
     }
     Object.assign(this.summary, { messages: this.count - this.others.size, entries: this.entries.reduce((sum, entries) => sum + entries, 0) });
+  }
+
+  // A message as the library's judge is told of it: whether the CPU sent it, who the log says sent it, and its octets.
+  told(place) {
+    return [this.isSent(place), this.sides[place], this.address(place), this.lengths[place]];
   }
 
   // What `fio2070 check` says of a transcript, by the rules on messages alone.
@@ -191,7 +187,7 @@ export class Log {
   // The text that `show` writes of these messages.
   showText() {
     const line = (place) => this.isFaulty[place] ? [`line ${this.lines[place]}: ${this.words(place)[0]}`] : this.words(place);
-    return Array.from({ length: this.count }, (_, place) => this.others.has(place) ? '' : line(place).join('\n') + '\n').join('');
+    return Array.from({ length: this.count }, (_, place) => this.others.has(place) ? '' : inLines(line(place))).join('');
   }
 }
 

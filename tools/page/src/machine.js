@@ -3,36 +3,24 @@
 // Two builds are tried in turn: the one with addresses of 64 bits, as it was proved, and the same lowered to 32 bits for
 // browsers that have no such memory. In both an address is passed as a BigInt and a struct has the same layout.
 
+import { fromBase64 } from './hex.js';
+
 const PAGE = 65536;
 
 class Machine {
   constructor(exports, build) {
-    this.exports = exports;
-    this.build = build;
-    this.end = Number(exports.__heap_base.value);
-    this.see();
+    Object.assign(this, { exports, build, end: Number(exports.__heap_base.value) });
+    this.reserve(0);
   }
 
-  // Views of the whole memory, which hold until it grows.
-  see() {
-    this.data = new DataView(this.exports.memory.buffer);
-    this.all = new Uint8Array(this.exports.memory.buffer);
-  }
-
-  // Reserves `size` octets for the life of the page, and returns their address.
+  // Reserves `size` octets for the life of the page, and returns their address. The library itself never makes the memory grow, and so the
+  // views of all of it hold until the next call.
   reserve(size) {
-    const address = (this.end + 15) & ~15;
+    const address = (this.end + 15) & ~15, { memory } = this.exports, missing = Math.ceil((address + size - memory.buffer.byteLength) / PAGE);
     this.end = address + size;
-    this.ensure(this.end);
+    if (missing > 0) memory.grow(this.build.bits === 64 ? BigInt(missing) : missing);
+    Object.assign(this, { data: new DataView(memory.buffer), all: new Uint8Array(memory.buffer) });
     return address;
-  }
-
-  // Makes the memory reach to an address. The library itself never makes it grow.
-  ensure(end) {
-    const missing = Math.ceil((end - this.all.length) / PAGE);
-    if (missing <= 0) return;
-    this.exports.memory.grow(this.build.bits === 64 ? BigInt(missing) : missing);
-    this.see();
   }
 
   // The octets at an address, until the memory next grows.
@@ -43,8 +31,7 @@ class Machine {
 
 // The octets of a build, which are in the page deflated.
 async function inflated(build) {
-  const deflated = Uint8Array.from(atob(build.deflated), (letter) => letter.charCodeAt(0));
-  const stream = new Blob([deflated]).stream().pipeThrough(new DecompressionStream('deflate'));
+  const stream = new Blob([fromBase64(build.deflated)]).stream().pipeThrough(new DecompressionStream('deflate'));
   return new Uint8Array(await new Response(stream).arrayBuffer());
 }
 

@@ -79,21 +79,14 @@ async function start() {
   useTheme();
   window.addEventListener('error', (event) => trouble(event.message));
   window.addEventListener('unhandledrejection', (event) => trouble(event.reason.message));
-  const bits = new URLSearchParams(location.search).get('bits');
-  let library;
-  try {
-    library = new Library(await startMachine(BUILDS.filter((build) => bits === null || build.bits === Number(bits))));
-    // Some browsers run the library, and pass it no numbers of 64 bits.
-    library.show(library.frame, 0);
-  } catch (reason) {
-    byId('trouble').append(` (${reason.message})`);
-    return;
-  }
-  const { build } = library.machine;
+  const bits = new URLSearchParams(location.search).get('bits'), builds = BUILDS.filter((build) => bits === null || build.bits === Number(bits));
+  const library = new Library(await startMachine(builds)), { build } = library.machine;
+  // Some browsers run the library, and pass it no numbers of 64 bits.
+  library.show(library.frame, 0);
   if (build.bits === 32) byId('lowered').textContent = ', wasm-opt, which lowered it to 32-bit addresses,';
   trouble('');
   startViews(library);
   document.documentElement.dataset.bits = String(build.bits);
 }
 
-start();
+start().catch((reason) => trouble(`${byId('trouble').textContent} (${reason.message})`));

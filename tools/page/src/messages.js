@@ -9,7 +9,7 @@ import { ENDS } from './judging.js';
 import { STATUS_BITS } from './library.js';
 import { FACTS } from './log.js';
 import { REASONS, TERMS } from './log_words.js';
-import { hasNotes, noteOf } from './notes.js';
+import { hasNotes, noteOf } from './rules.js';
 import { Sheet } from './sheet.js';
 import { VirtualTable } from './table.js';
 

@@ -19,13 +19,9 @@ const HEADS = ['Open inputs', 'Filter', 'Poll every', 'Waiting', 'Late', 'Waitin
 
 export class PlanView {
   constructor(root) {
-    this.chosen = {};
-    this.sliders = SLIDERS.map((slider) => this.slider(...slider));
-    this.answers = element('tbody');
-    this.row = element('tr', { id: 'plan-row' });
-    this.verdict = element('p', { id: 'plan-verdict', role: 'status' });
+    Object.assign(this, { chosen: {}, answers: element('tbody'), row: element('tr', { id: 'plan-row' }), verdict: element('p', { id: 'plan-verdict', role: 'status' }) });
     root.append(element('div', { class: 'plan' },
-      element('form', { class: 'sliders', onsubmit: (event) => event.preventDefault() }, ...this.sliders),
+      element('form', { class: 'sliders', onsubmit: (event) => event.preventDefault() }, ...SLIDERS.map((slider) => this.slider(...slider))),
       element('div', {}, this.verdict,
         element('table', { class: 'answers' }, element('thead', {}, headRow(['What', 'Number', 'Why'])), this.answers))),
     element('h2', {}, 'The row of the planning table'),
@@ -43,25 +39,19 @@ export class PlanView {
   slider(name, words, least, most, first) {
     this.chosen[name] = first;
     const limits = { min: String(least), max: String(most), value: String(first) };
-    const range = element('input', { type: 'range', id: 'plan-' + name, ...limits, 'aria-label': words });
-    const number = element('input', { type: 'number', ...limits, 'aria-label': words + ', as a number' });
-    const take = (control, other) => control.addEventListener('input', () => {
-      const value = Math.min(most, Math.max(least, Math.round(Number(control.value) || 0)));
-      other.value = String(value);
-      this.chosen[name] = value;
+    const take = (event) => {
+      const value = this.chosen[name] = Math.min(most, Math.max(least, Math.round(Number(event.target.value) || 0)));
+      (event.target === range ? number : range).value = String(value);
       this.draw();
-    });
-    take(range, number);
-    take(number, range);
+    };
+    const range = element('input', { type: 'range', id: 'plan-' + name, ...limits, 'aria-label': words, oninput: take });
+    const number = element('input', { type: 'number', ...limits, 'aria-label': words + ', as a number', oninput: take });
     return element('div', { class: 'slider' }, element('span', {}, words), range, number);
   }
 
   draw() {
-    const plan = planOf(this.chosen);
-    const { inputs, filter, pace, lost, outage, rate } = this.chosen;
-    const least = paceAt(this.chosen);
-    const isGood = plan.isInTime && plan.isRiddenOut && least !== undefined && least.pace <= pace;
-    this.verdict.className = isGood ? 'good' : 'bad';
+    const plan = planOf(this.chosen), least = paceAt(this.chosen), { inputs, filter, pace, lost, outage, rate } = this.chosen;
+    this.verdict.className = plan.isInTime && plan.isRiddenOut && least !== undefined && least.pace <= pace ? 'good' : 'bad';
     this.verdict.textContent = (plan.isInTime
       ? `A round every ${pace} ms is often enough${lost ? ` with ${counted(lost, 'lost round')} in a row` : ''}: nothing is lost.`
       : plan.startEvery > 0 ? `A round every ${pace} ms is too seldom: start one at least every ${plan.startEvery} ms.`

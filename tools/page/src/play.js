@@ -2,7 +2,7 @@
 
 import { INPUTS, STANDARD_WAITING } from './constants.js';
 import { element, saveText, say, select, withCommas } from './dom.js';
-import { hexText } from './hex.js';
+import { fromBase64, hexText } from './hex.js';
 import { ladderOf } from './ladder.js';
 import { Module, Poller } from './library.js';
 import { headerOf, itemText, levelsText, readScript, Run } from './script.js';
@@ -18,12 +18,6 @@ const ALL_ONES = 2n ** BigInt(INPUTS) - 1n;
 const toFragment = (text) => btoa(text).replace(/\+/g, '-').replace(/\//g, '_').replace(/=+$/, '');
 const fromFragment = (text) => atob(text.replace(/-/g, '+').replace(/_/g, '/'));
 
-// The command that opens all inputs, with both filters the same: octets by the library.
-function configuration(library, filter) {
-  const items = Array.from({ length: INPUTS }, (_, input) => ({ input, ignore: 0, leading: filter, trailing: filter }));
-  return hexText(library.encodeConfiguration(items));
-}
-
 // Runs that tell a story: the script, and a title.
 const PLAYED_STORIES = [['lost-poll.script', 'A poll is lost'], ['lost-answer.script', 'An answer is lost'], ['overflow.script', 'The buffer overflows'],
   ['restart.script', 'The module restarts']];
@@ -31,9 +25,9 @@ const PLAYED_STORIES = [['lost-poll.script', 'A poll is lost'], ['lost-answer.sc
 export class PlayView {
   constructor(root, library, examples) {
     Object.assign(this, { library, examples, module: new Module(library), poller: new Poller(library), levels: ALL_ONES, lost: new Set() });
-    const buttons = Array.from({ length: INPUTS }, (_, input) => this.levelButton(input));
-    this.grid = element('div', { role: 'group', 'aria-label': `Levels of the ${INPUTS} inputs` }, element('div', { class: 'levels' }, ...buttons.slice(0, SEEN_INPUTS)),
-      element('details', {}, element('summary', {}, `${INPUTS - SEEN_INPUTS} more inputs`), element('div', { class: 'levels' }, ...buttons.slice(SEEN_INPUTS))));
+    const levels = (from, to) => element('div', { class: 'levels' }, ...Array.from({ length: to - from }, (_, index) => this.levelButton(from + index)));
+    this.grid = element('div', { role: 'group', 'aria-label': `Levels of the ${INPUTS} inputs` }, levels(0, SEEN_INPUTS),
+      element('details', {}, element('summary', {}, `${INPUTS - SEEN_INPUTS} more inputs`), levels(SEEN_INPUTS, INPUTS)));
     this.toModule = element('ol', { id: 'to-module', 'aria-label': 'Messages to the module' });
     this.toCpu = element('ol', { id: 'to-cpu', 'aria-label': 'Messages to the CPU' });
     this.ladder = element('div', { class: 'ladder', id: 'ladder', tabindex: '0', role: 'group', 'aria-label': 'The run as a picture' });
@@ -61,12 +55,13 @@ export class PlayView {
   restart() {
     this.story.textContent = '';
     this.levels = ALL_ONES;
-    this.begin(headerOf(FIRST), ['send ' + configuration(this.library, FILTER), 'to-module 1', 'to-cpu 1']);
+    const items = Array.from({ length: INPUTS }, (_, input) => ({ input, ignore: 0, leading: FILTER, trailing: FILTER }));
+    this.begin(headerOf(FIRST), ['send ' + hexText(this.library.encodeConfiguration(items)), 'to-module 1', 'to-cpu 1']);
   }
 
   // Runs an example.
   show(name) {
-    const text = new TextDecoder().decode(Uint8Array.from(atob(this.examples[name]), (it) => it.charCodeAt(0)));
+    const text = new TextDecoder().decode(fromBase64(this.examples[name]));
     this.read(text);
     this.story.textContent = text.split('\n').slice(1).filter((line) => line.startsWith('#')).map((line) => line.slice(2)).join(' ');
     this.ladder.scrollTop = 0;
@@ -90,11 +85,11 @@ export class PlayView {
   }
 
   levelButton(input) {
-    return element('button', { 'aria-pressed': 'true', 'aria-label': `input ${input}`, 'data-input': String(input),
-      onclick: () => {
-        this.levels ^= 1n << BigInt(input);
-        this.drawLevels();
-      } }, String(input));
+    const change = () => {
+      this.levels ^= 1n << BigInt(input);
+      this.drawLevels();
+    };
+    return element('button', { 'aria-pressed': 'true', 'aria-label': `input ${input}`, 'data-input': input, onclick: change }, String(input));
   }
 
   busSide() {
@@ -154,16 +149,11 @@ export class PlayView {
 
   // Runs a script that is given as a text.
   read(text) {
-    const read = readScript(text, this.library);
-    if (read.fault) {
-      this.report.textContent = read.fault + '\n';
-      this.trouble.textContent = read.fault;
-    } else if (read.header.waiting !== STANDARD_WAITING) {
-      this.trouble.textContent = `The module of this page has the standard limit of ${withCommas(STANDARD_WAITING)} waiting entries, `
-        + `and not ${read.header.waiting}.`;
-    } else {
-      this.begin(read.header, read.events);
-    }
+    const { fault, header, events } = readScript(text, this.library);
+    if (fault) this.report.textContent = fault + '\n';
+    else if (header.waiting === STANDARD_WAITING) this.begin(header, events);
+    this.trouble.textContent = fault || (header.waiting === STANDARD_WAITING ? ''
+      : `The module of this page has the standard limit of ${withCommas(STANDARD_WAITING)} waiting entries, and not ${header.waiting}.`);
   }
 
   link() {
@@ -174,10 +164,11 @@ export class PlayView {
 
   // Runs the script of a fragment, and returns whether there is one.
   openFragment(fragment) {
-    if (!fragment.startsWith('#play=')) return false;
+    const [, text] = /^#play=(.*)/.exec(fragment) || [];
+    if (text === undefined) return false;
     try {
-      this.read(fromFragment(fragment.slice('#play='.length)));
-    } catch (reason) {
+      this.read(fromFragment(text));
+    } catch {
       this.trouble.textContent = 'The address holds no script.';
     }
     return true;
@@ -189,12 +180,12 @@ export class PlayView {
   }
 
   draw() {
-    const { run } = this;
+    const { run } = this, { counter, waiting, filtered } = run.module.state;
     this.drawLevels();
     this.drawFrames(this.toModule, run.toModule, 'to-module');
     this.drawFrames(this.toCpu, run.toCpu, 'to-cpu');
-    const rows = [['The module’s counter shows', run.module.state.counter + ' ms'], ['Entries wait at the module', String(run.module.state.waiting)],
-      ['The filtered states are', levelsText(run.module.state.filtered)], ['The CPU polls next for', 'block ' + run.poller.number]];
+    const rows = [['The module’s counter shows', counter + ' ms'], ['Entries wait at the module', String(waiting)],
+      ['The filtered states are', levelsText(filtered)], ['The CPU polls next for', 'block ' + run.poller.number]];
     this.ends.replaceChildren(...rows.map(([what, value]) => element('tr', {},
       element('th', { scope: 'row' }, what), element('td', { class: 'mono' }, value))));
     this.record.textContent = run.record.slice(-SHOWN_LINES).map(itemText).join('\n') || 'Nothing is recorded yet.';

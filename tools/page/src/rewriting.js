@@ -1,7 +1,7 @@
 // Logs of which the reader says how they are written: their lines are written anew, as the library finds frames in any log.
 
 import { LOG_FORMS } from './constants.js';
-import { fromHex, hexText } from './hex.js';
+import { fromHex, hexText, inLines } from './hex.js';
 import { linesOf, octetsOf } from './reader.js';
 import { each, part } from './slices.js';
 
@@ -48,5 +48,5 @@ export function* rewritten(file, way, pattern) {
   yield* part(0.2, 1, each(isText ? lines.length : Math.ceil(file.length / DUMPED), (index) => {
     made.push(isText ? lines[index].trim() && write(lines[index]) : dumped(file, index));
   }));
-  return new TextEncoder().encode(made.join('\n') + '\n');
+  return new TextEncoder().encode(inLines(made));
 }

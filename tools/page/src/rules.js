@@ -1,8 +1,10 @@
-// The words of rules: what a breach or a restart means, and what a rule says.
+// What is said of a message: the rule that it breaks, what a breach or a restart means, what a rule says, what the bits of its status say,
+// and why it is not judged.
 
+import { BITS } from './bits.js';
 import { ADVANCE_BREACHES, CONTENT_BREACHES, CONTENT_RULES, INPUTS, RIGHT, RULE_BREACHES, RULES, SOURCES } from './constants.js';
-import { FIRST_ANSWER, STATUS_BITS, WATCHDOG_ANSWER } from './library.js';
-import { BREACHES, TERMS } from './log_words.js';
+import { BLOCK, FIRST_ANSWER, STATUS_BITS, WATCHDOG_ANSWER } from './library.js';
+import { BREACHES, POSSIBLE, TERMS } from './log_words.js';
 
 const LIMITS = RULES.indexOf('limits'), READABLE = RULES.indexOf('readable'), SEQUENCE = RULES.indexOf('sequence');
 // The last rule on content that an entry breaks.
@@ -67,4 +69,32 @@ function limitsWords(log, place) {
   const absent = log.words(place).map((line) => Number((/^ *input (\d+) /.exec(line) || [])[1])).find((input) => input >= INPUTS);
   if (absent !== undefined) return BREACHES.absent.replace('{input}', absent);
   return log.status[place] & STATUS_BITS.more ? BREACHES.more.replace('{count}', log.entries[place]) : BREACHES.lost;
+}
+
+// The bits of a block's status in few words; the detail has them in full.
+const IN_SHORT = { C: 'more entries wait', F: 'entries were pushed out', E: 'sent again', G: 'a block number was left out' };
+
+// The bits that are 1 in a value of the flags or the status of a type: their letters, and what they say.
+export const bitsOf = (code, value) => (BITS[code]?.bits || []).filter(([, bit]) => (value & bit) !== 0).map(([letter, , says]) => [letter, says]);
+
+// The same of a status, in few words.
+export const statusNotes = (code, status) => BITS[code]?.word !== 'status' ? []
+  : bitsOf(code, status).map(([letter, says]) => `${letter}: ${code === BLOCK && IN_SHORT[letter] || says}`);
+
+// Why a message is not judged, or a line gave none; empty if neither is so.
+export const doubtOf = (log, place) => log.isPossible[place] ? POSSIBLE : (log.damaged.get(place) || log.others.get(place) || { why: '' }).why;
+
+export function noteOf(log, place) {
+  const reason = log.reason(place), notes = statusNotes(log.codes[place], log.status[place]);
+  if (reason) notes.unshift(reason);
+  if (doubtOf(log, place)) notes.push(doubtOf(log, place));
+  if (log.isUnanswered(place)) notes.push('no answer');
+  return notes.join('; ');
+}
+
+// Whether a row of a log has a note.
+export function hasNotes(log) {
+  const { summary, status, codes } = log;
+  return log.breaches.size + log.restarts.size + log.damaged.size + log.others.size + summary.unanswered + summary.possible > 0
+    || status.some((it, place) => it > 0 && statusNotes(codes[place], it).length > 0);
 }

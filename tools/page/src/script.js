@@ -2,7 +2,7 @@
 // direction have numbers, and a delivery is refused as docs/FORMATS.md says. The report has the words of `simulate`.
 
 import { BLOCK_ENTRIES, MOST_WAITING, STANDARD_WAITING } from './constants.js';
-import { fromHex, hexText } from './hex.js';
+import { fromHex, hexText, inLines } from './hex.js';
 import { HEARD, POLL } from './library.js';
 
 const MOST_EVENTS = 10_000;
@@ -52,7 +52,7 @@ export function readScript(text, library) {
     if (events.length === MOST_EVENTS) return { fault: `line ${place + 1}: too many events` };
     const event = eventOf(line, header.version);
     if (!event) return { fault: `line ${place + 1}: bad line` };
-    const fault = event.name === 'send' ? library.commandFault(fromHex(event.given)) : null;
+    const fault = event.name === 'send' && library.commandFault(fromHex(event.given));
     if (fault) return { fault: `line ${place + 1}: bad frame ${fault}` };
     events.push(line);
   }
@@ -61,10 +61,8 @@ export function readScript(text, library) {
 
 // Frames of one direction, numbered from 1, and the highest number that was delivered.
 class Direction {
-  constructor() {
-    this.frames = [];
-    this.highest = 0;
-  }
+  frames = [];
+  highest = 0;
 
   send(octets) {
     this.frames.push(octets);
@@ -88,8 +86,7 @@ export class Run {
     // After each event: how many entries wait at the module, and how many items the record has.
     this.waits = [];
     this.recorded = [];
-    this.toModule = new Direction();
-    this.toCpu = new Direction();
+    Object.assign(this, { toModule: new Direction(), toCpu: new Direction() });
     module.start(header.id, header.perBlock);
     poller.number = header.number;
   }
@@ -129,14 +126,14 @@ export class Run {
 
   // The report, as `simulate` writes it.
   report() {
-    const end = this.isRefused ? [] : [`counter ${this.module.state.counter}`, `number ${this.poller.number}`,
-      `waiting ${this.module.state.waiting}`, `record ${this.record.length}`, ...this.record.map(itemText)];
-    return [...this.lines, ...end].map((line) => line + '\n').join('');
+    const { counter, waiting } = this.module.state, { record } = this;
+    const end = this.isRefused ? [] : [`counter ${counter}`, `number ${this.poller.number}`, `waiting ${waiting}`, `record ${record.length}`, ...record.map(itemText)];
+    return inLines([...this.lines, ...end]);
   }
 
   // The script of this run.
   script() {
-    return [this.header.line, ...this.events].map((line) => line + '\n').join('');
+    return inLines([this.header.line, ...this.events]);
   }
 }
 

@@ -11,7 +11,8 @@ export class Sheet {
   constructor(step) {
     this.narrow = matchMedia(NARROW);
     this.body = element('div', { class: 'sheet-body' });
-    this.root = element('dialog', { class: 'detail', 'aria-label': 'The selected message', onclick: (event) => this.tap(event) },
+    // A tap on what is around it closes it.
+    this.root = element('dialog', { class: 'detail', 'aria-label': 'The selected message', onclick: ({ target }) => target === this.root && this.narrow.matches && this.root.close() },
       element('div', { class: 'sheet-bar' },
         element('button', { id: 'sheet-before', 'aria-label': 'The message above', onclick: () => step(-1) }, '▲'),
         element('button', { id: 'sheet-next', 'aria-label': 'The message below', onclick: () => step(1) }, '▼'),
@@ -23,7 +24,7 @@ export class Sheet {
 
   // Beside the table it is always there.
   fit() {
-    if (this.root.open) this.root.close();
+    this.root.close();
     if (this.narrow.matches) return;
     this.root.setAttribute('open', '');
     this.root.setAttribute('role', 'complementary');
@@ -34,10 +35,5 @@ export class Sheet {
     if (!this.narrow.matches || !isOpened || this.root.open) return;
     this.root.removeAttribute('role');
     this.root.showModal();
-  }
-
-  // A tap on what is around the sheet closes it.
-  tap(event) {
-    if (event.target === this.root && this.narrow.matches) this.root.close();
   }
 }

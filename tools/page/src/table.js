@@ -15,18 +15,15 @@ export class VirtualTable {
   // `columns` are heads with the widths of a grid and their kinds. `draw(place)` gives the kinds of a row and the texts of
   // its cells; `choose(place, isOpened)` is called when a row is selected, and opened if it was by a tap or a key.
   constructor(label, columns, draw, choose) {
-    Object.assign(this, { draw, choose, places: [], selected: -1, drawn: new Map(), free: [], height: 0 });
+    Object.assign(this, { draw, choose, places: [], selected: -1, drawn: new Map(), height: 0 });
     this.kinds = columns.map(([, , kind]) => kind);
     const heads = columns.map(([head, , kind]) => element('span', { role: 'columnheader', class: kind }, head));
-    this.canvas = element('div', { class: 'canvas', role: 'presentation' });
+    this.canvas = element('div', { class: 'canvas', role: 'presentation', onclick: (event) => this.click(event) });
     this.heads = element('div', { class: 'heads', role: 'row', 'aria-rowindex': '1' }, ...heads);
-    this.rows = element('div', { class: 'rows', tabindex: '0', role: 'grid', 'aria-label': label }, this.heads, this.canvas);
+    this.rows = element('div', { class: 'rows', tabindex: '0', role: 'grid', 'aria-label': label, onscroll: () => requestAnimationFrame(() => this.update()),
+      onkeydown: (event) => this.key(event), oncopy: (event) => this.copy(event) }, this.heads, this.canvas);
     this.root = element('div', { class: 'table' }, this.rows);
     this.root.style.setProperty('--columns', columns.map(([, width]) => width).join(' '));
-    this.rows.addEventListener('scroll', () => this.later());
-    this.rows.addEventListener('keydown', (event) => this.key(event));
-    this.rows.addEventListener('copy', (event) => this.copy(event));
-    this.canvas.addEventListener('click', (event) => this.click(event));
     new ResizeObserver(() => this.refresh()).observe(this.rows);
     window.addEventListener('beforeprint', () => this.print());
     window.addEventListener('afterprint', () => this.refresh());
@@ -41,16 +38,6 @@ export class VirtualTable {
     this.refresh();
   }
 
-  // Takes the height of a row from the style, and keeps the row at the top there.
-  measure() {
-    const height = parseFloat(getComputedStyle(this.rows).getPropertyValue('--row')) || 24;
-    const { top } = this, isOther = height !== this.height;
-    this.height = height;
-    this.pixels = Math.min(this.places.length * height, MOST_PIXELS);
-    this.canvas.style.height = this.pixels + 'px';
-    if (isOther) this.scrollTo(top);
-  }
-
   // The pixels of rows that are seen.
   get seen() {
     return Math.max(this.height, this.rows.clientHeight - this.heads.offsetHeight);
@@ -58,33 +45,27 @@ export class VirtualTable {
 
   // The index of the row at the top, which may have a part.
   get top() {
-    const most = this.pixels - this.seen;
-    const last = Math.max(0, this.places.length - this.seen / this.height);
+    const most = this.pixels - this.seen, last = Math.max(0, this.places.length - this.seen / this.height);
     return most > 0 ? Math.min(1, this.rows.scrollTop / most) * last : 0;
   }
 
-  later() {
-    if (this.isAsked) return;
-    this.isAsked = true;
-    requestAnimationFrame(() => {
-      this.isAsked = false;
-      this.update();
-    });
-  }
-
-  // Draws all rows in view anew.
+  // Draws all rows in view anew, of the height that the style says. The row at the top stays there.
   refresh() {
-    [...this.drawn.keys()].forEach((index) => this.put(index));
-    this.measure();
+    const { top } = this, height = parseFloat(getComputedStyle(this.rows).getPropertyValue('--row')) || 24, isOther = height !== this.height;
+    this.put(() => true);
+    Object.assign(this, { height, pixels: Math.min(this.places.length * height, MOST_PIXELS) });
+    this.canvas.style.height = this.pixels + 'px';
+    if (isOther) this.scrollTo(top);
     this.update();
   }
 
-  // Takes a row out of the document. Its element is used again.
-  put(index) {
-    const row = this.drawn.get(index);
-    row.remove();
-    this.free.push(row);
-    this.drawn.delete(index);
+  // Takes rows out of the document.
+  put(isOut) {
+    for (const [index, row] of this.drawn) {
+      if (!isOut(index)) continue;
+      row.remove();
+      this.drawn.delete(index);
+    }
   }
 
   // What is measured is read first: read between changes, each would make the browser lay all out anew. Rows are put in from
@@ -93,39 +74,33 @@ export class VirtualTable {
     const { top, seen, height } = this, { scrollTop } = this.rows, isWhole = this.places.length <= FEW;
     const first = isWhole ? 0 : Math.max(0, Math.floor(top) - AROUND);
     const end = isWhole ? this.places.length : Math.min(this.places.length, Math.ceil(top + seen / height) + AROUND);
-    for (const index of [...this.drawn.keys()]) {
-      if (index < first || index >= end) this.put(index);
-    }
+    this.put((index) => index < first || index >= end);
+    this.draws(first, end, (row, index) => {
+      row.style.top = (isWhole ? index * height : scrollTop + (index - top) * height) + 'px';
+      row.setAttribute('aria-selected', String(index === this.selected));
+    });
+    if (this.selected >= 0) this.rows.setAttribute('aria-activedescendant', 'row-' + this.selected);
+    else this.rows.removeAttribute('aria-activedescendant');
+  }
+
+  // Puts rows from one index to another into the document, and does something with each.
+  draws(first, end, act) {
     let next = null;
     for (let index = end - 1; index >= first; index--) {
       next = this.drawn.get(index) || this.add(index, next);
-      next.style.top = (isWhole ? index * height : scrollTop + (index - top) * height) + 'px';
+      act(next, index);
     }
-    this.mark();
   }
 
+  // Puts a row in, above the next one.
   add(index, next) {
-    const row = this.free.pop() || element('div', { role: 'row' }, ...this.kinds.map((kind) =>
-      element('span', { class: kind, role: 'gridcell' })));
     const { kinds, cells } = this.draw(this.places[index]);
-    row.id = 'row-' + index;
-    row.ariaRowIndex = String(index + 2);
-    row.dataset.index = String(index);
-    row.className = ['line', ...kinds].join(' ');
-    cells.forEach((text, place) => {
-      row.children[place].textContent = text;
+    const row = element('div', { role: 'row', id: 'row-' + index, 'aria-rowindex': index + 2, 'data-index': index, class: ['line', ...kinds].join(' ') },
       // What may be cut is whole in a hint.
-      row.children[place].title = this.kinds[place] === 'rule' ? text : '';
-    });
+      ...cells.map((text, place) => element('span', { class: this.kinds[place], role: 'gridcell', title: this.kinds[place] === 'rule' && text }, text)));
     this.canvas.insertBefore(row, next);
     this.drawn.set(index, row);
     return row;
-  }
-
-  mark() {
-    this.drawn.forEach((row, index) => row.setAttribute('aria-selected', String(index === this.selected)));
-    if (this.selected >= 0) this.rows.setAttribute('aria-activedescendant', 'row-' + this.selected);
-    else this.rows.removeAttribute('aria-activedescendant');
   }
 
   // Selects a row by its index, and brings it into view.
@@ -178,10 +153,7 @@ export class VirtualTable {
 
   // Draws the first rows for the printer, which scrolls nothing.
   print() {
-    let next = null;
-    for (const index of [...this.drawn.keys()].filter((it) => it >= PRINTED)) this.put(index);
-    for (let index = Math.min(this.places.length, PRINTED) - 1; index >= 0; index--) {
-      next = this.drawn.get(index) || this.add(index, next);
-    }
+    this.put((index) => index >= PRINTED);
+    this.draws(0, Math.min(this.places.length, PRINTED), () => {});
   }
 }

@@ -5,12 +5,11 @@ import { byId } from './dom.js';
 export class Tabs {
   // `whenShown(name)` is called for each view that is shown.
   constructor(whenShown) {
-    this.whenShown = whenShown;
-    this.tabs = [...document.querySelectorAll('[role="tab"]')];
-    this.tabs.forEach((tab) => {
+    Object.assign(this, { whenShown, tabs: [...document.querySelectorAll('[role="tab"]')] });
+    for (const tab of this.tabs) {
       tab.addEventListener('click', () => this.choose(tab));
-      tab.addEventListener('keydown', (event) => this.key(event, tab));
-    });
+      tab.addEventListener('keydown', (event) => this.key(event, this.tabs.indexOf(tab)));
+    }
   }
 
   // Shows a view. The focus goes to its tab if it was in the view before.
@@ -29,12 +28,11 @@ export class Tabs {
     this.whenShown(chosen.id.replace('tab-', ''));
   }
 
-  key(event, tab) {
-    const place = this.tabs.indexOf(tab), last = this.tabs.length - 1;
-    const next = { ArrowRight: place === last ? 0 : place + 1, ArrowLeft: place === 0 ? last : place - 1, Home: 0, End: last }[event.key];
-    if (next === undefined) return;
+  key(event, place) {
+    const { length } = this.tabs, next = this.tabs[{ ArrowRight: (place + 1) % length, ArrowLeft: (place + length - 1) % length, Home: 0, End: length - 1 }[event.key]];
+    if (!next) return;
     event.preventDefault();
-    this.choose(this.tabs[next]);
-    this.tabs[next].focus();
+    this.choose(next);
+    next.focus();
   }
 }
