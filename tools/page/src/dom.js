@@ -13,12 +13,6 @@ export function element(name, attributes = {}, ...children) {
 
 export const byId = (id) => document.getElementById(id);
 
-// A choice of options, each with its value.
-export function select(label, options, onchange, id = false) {
-  return element('select', { 'aria-label': label, id, onchange: (event) => onchange(event.target.value) },
-    ...options.map(([value, text]) => element('option', { value }, text)));
-}
-
 // Says a sentence to those who hear the page, once.
 export function say(text) {
   let place = byId('said');

@@ -1,6 +1,6 @@
 // The view Inputs: the record of the log that is open as waveforms, moved by wheel, keys and touch.
 
-import { capital, counted, element, save, saveText, say } from './dom.js';
+import { byId, capital, counted, element, save, saveText, say } from './dom.js';
 import { inLines } from './hex.js';
 import { contentLine } from './record.js';
 import { Waves } from './waves.js';
@@ -13,73 +13,54 @@ const LEGEND = [['×', 'warn', 'a poll without an answer', 'lostPolls'], ['↷',
   ['↻', 'warn', 'a restart of the module', 'restarts'], ['▨', 'bad', 'a gap mark: entries are missing', 'gaps'], ['◆', 'bad', 'an entry that breaks a rule', 'broken']];
 
 export class InputsView {
-  // `goTo(place)` shows a message, `back()` the view Open.
-  constructor(root, goTo, back) {
-    this.goTo = goTo;
-    this.note = element('p', { id: 'record-note' });
-    this.none = element('div', { class: 'none' }, element('h2', {}, 'No log is open'),
-      element('p', {}, 'Here each input of a log has a line: when it went on and off, and where changes are missing.'),
-      element('p', {}, element('button', { class: 'main', onclick: back }, 'Open a log or an example')));
-    this.reading = element('p', { class: 'mono', id: 'reading', role: 'status' });
+  // `goTo(place)` shows a message.
+  constructor(goTo) {
+    const canvas = byId('waves'), waves = new Waves(byId('axis'), canvas);
     // Where the pointers are that are down, by their numbers.
-    this.pointers = new Map();
+    Object.assign(this, { goTo, canvas, waves, pointers: new Map() });
+    const moves = { 'zoom-in': () => waves.zoom(0.5), 'zoom-out': () => waves.zoom(2), earlier: () => waves.pan(-0.4), later: () => waves.pan(0.4), 'show-all': () => waves.fit() };
+    for (const [id, move] of Object.entries(moves)) byId(id).addEventListener('click', () => { move(); this.draw(); });
+    byId('save-waves').addEventListener('click', () => waves.picture().toBlob((picture) => save(this.log.name + '.png', picture)));
+    byId('save-record').addEventListener('click', () => saveText(this.log.name + '.record', inLines(this.log.record.lines)));
+    byId('record-as-text').addEventListener('toggle', () => this.drawText());
+    byId('waves-help').textContent = matchMedia('(pointer: coarse)').matches ? TOUCH_HELP : HELP;
     const lift = ({ pointerId }) => this.pointers.delete(pointerId);
-    this.canvas = element('canvas', { class: 'waves', id: 'waves', tabindex: '0', role: 'application', 'aria-label': 'Waveforms', 'aria-describedby': 'waves-help',
-      onwheel: (event) => this.wheel(event), onkeydown: (event) => this.key(event), onclick: (event) => this.click(event), ondblclick: () => this.selectedMessage(),
-      onpointerdown: (event) => this.press(event), onpointermove: (event) => this.drag(event), onpointerup: lift, onpointercancel: lift });
-    const head = element('canvas', { class: 'axis', role: 'presentation' }), waves = this.waves = new Waves(head, this.canvas);
-    this.range = element('span', { class: 'soft mono', id: 'range' });
-    const buttons = element('div', { class: 'row controls' }, this.button('Zoom in', () => waves.zoom(0.5)), this.button('Zoom out', () => waves.zoom(2)),
-      this.button('◀ Earlier', () => waves.pan(-0.4)), this.button('Later ▶', () => waves.pan(0.4)), this.button('Show all', () => waves.fit()),
-      element('button', { id: 'save-waves', onclick: () => waves.picture().toBlob((picture) => save(this.log.name + '.png', picture)) }, 'Save the picture'), this.range);
-    this.text = element('pre', { class: 'report', id: 'record-text', tabindex: '0', role: 'group', 'aria-label': 'The record as text' });
-    this.shown = element('details', { class: 'record', ontoggle: () => this.drawText() },
-      element('summary', { id: 'show-record' }, 'The record as text'), this.text, element('button', { id: 'save-record',
-        onclick: () => saveText(this.log.name + '.record', inLines(this.log.record.lines)) }, 'Save the record'));
-    this.legend = element('p', { class: 'soft', id: 'legend' });
-    const help = element('p', { class: 'soft', id: 'waves-help' }, matchMedia('(pointer: coarse)').matches ? TOUCH_HELP : HELP);
-    this.parts = [buttons, this.reading, element('div', { class: 'wave-box' }, head, this.canvas), this.legend, help];
-    root.append(this.none, this.note, ...this.parts, this.shown);
-    new ResizeObserver(() => this.draw()).observe(this.canvas);
+    const acts = { wheel: (event) => this.wheel(event), keydown: (event) => this.key(event), click: (event) => this.click(event), dblclick: () => this.selectedMessage(),
+      pointerdown: (event) => this.press(event), pointermove: (event) => this.drag(event), pointerup: lift, pointercancel: lift };
+    for (const [name, act] of Object.entries(acts)) canvas.addEventListener(name, act);
+    new ResizeObserver(() => this.draw()).observe(canvas);
     new MutationObserver(() => this.draw()).observe(document.documentElement, { attributeFilter: ['data-theme'] });
-    this.close();
-  }
-
-  button(words, act) {
-    return element('button', { onclick: () => { act(); this.draw(); } }, words);
   }
 
   drawText() {
-    if (!this.shown.open) return;
+    if (!byId('record-as-text').open) return;
     const { lines } = this.log.record, more = lines.length - MOST_SHOWN;
-    this.text.textContent = inLines([...lines.slice(0, MOST_SHOWN), ...more > 0 ? [`… and ${counted(more, 'line')} more`] : []]);
+    byId('record-text').textContent = inLines([...lines.slice(0, MOST_SHOWN), ...more > 0 ? [`… and ${counted(more, 'line')} more`] : []]);
   }
 
   // Shows that no log is open.
   close() {
     this.log = null;
-    this.note.textContent = '';
-    for (const part of [...this.parts, this.shown]) part.hidden = true;
-    this.none.hidden = false;
+    byId('record-note').textContent = '';
+    byId('record').hidden = byId('record-as-text').hidden = true;
+    byId('no-record').hidden = false;
   }
 
   open(log) {
     const { record } = this.log = log;
     this.waves.open(record);
-    this.none.hidden = true;
-    for (const part of this.parts) part.hidden = record.count === 0;
-    this.note.textContent = record.count === 0 ? 'No input changed in this log: it has no block with entries that a CPU would take.'
+    byId('no-record').hidden = true;
+    byId('record').hidden = record.count === 0;
+    const note = byId('record-note').textContent = record.count === 0 ? 'No input changed in this log: it has no block with entries that a CPU would take.'
       : `A CPU that heard this log has recorded ${counted(record.count, 'transition')} of ${counted(record.lanes.size, 'input')}`
         + `${record.gaps.length > 0 ? ` and ${counted(record.gaps.length, 'gap mark')}` : ''}. `
         + `${record.lostPolls.length > 0 ? `${counted(record.lostPolls.length, 'poll')} had no answer. ` : ''}`
         + `Times are milliseconds of the module’s counter${this.waves.hasClock ? ', below them the log’s clock' : ''}.${this.foundWords()}`;
-    this.legend.replaceChildren(...LEGEND.filter(([, , , list]) => record[list].length > 0 || record[list].size > 0).flatMap(([sign, kind, words]) =>
+    byId('legend').replaceChildren(...LEGEND.filter(([, , , list]) => record[list].length > 0 || record[list].size > 0).flatMap(([sign, kind, words]) =>
       [element('span', { class: kind }, sign), ` ${words}   `]));
-    this.canvas.setAttribute('aria-label', 'Waveforms of ' + this.note.textContent);
-    this.reading.textContent = 'Click or tap a transition to read it, and to go to its message.';
-    this.shown.hidden = !log.isOfCpu;
-    this.shown.open = false;
-    this.text.textContent = '';
+    this.canvas.setAttribute('aria-label', 'Waveforms of ' + note);
+    byId('reading').textContent = 'Click or tap a transition to read it, and to go to its message.';
+    Object.assign(byId('record-as-text'), { hidden: !log.isOfCpu, open: false });
     this.draw();
   }
 
@@ -94,7 +75,7 @@ export class InputsView {
     this.waves.draw();
     const { from, to, densest, bucket, hasClock } = this.waves, dense = densest ? ` Dense lines: a full bar is ${counted(densest, 'change')} in ${bucket}.` : '';
     const clock = hasClock ? `, ${this.log.record.clockAt(from)} to ${this.log.record.clockAt(to)}` : '';
-    this.range.textContent = `${Math.round(from)} to ${Math.round(to)} ms${clock}.${dense}`;
+    byId('range').textContent = `${Math.round(from)} to ${Math.round(to)} ms${clock}.${dense}`;
   }
 
   wheel(event) {
@@ -134,7 +115,7 @@ export class InputsView {
     const item = waves.selectedItem, { input, state, time, place } = item;
     if (time < waves.from || time > waves.to) waves.pan((time - (waves.from + waves.to) / 2) / (waves.to - waves.from));
     const broken = log.record.broken.has(item) ? `breaks ${log.reason(place).split(':')[0]} ` : '';
-    this.reading.replaceChildren(`input ${input} state ${state} at ${time} ms ${broken}`,
+    byId('reading').replaceChildren(`input ${input} state ${state} at ${time} ms ${broken}`,
       element('button', { id: 'to-message', onclick: () => this.goTo(place) }, capital(log.where(place))));
     say(`input ${input} becomes ${state} at ${time} milliseconds ${broken}`);
     this.draw();

@@ -17,6 +17,8 @@ export const STATUS_BITS = { more: 8, lost: 4, again: 2 };
 const CONFIGURE_INPUTS = 51;
 // Room for the text of a message.
 const TEXT_ROOM = 32768;
+// The octets that are handed to the library at a time.
+const PIECE = 65536;
 
 export class Library {
   constructor(machine) {
@@ -117,6 +119,23 @@ export class Kept {
 
   call(word, ...given) {
     return this.calls[`fio2070_${this.name}_${word}`](this.at, ...given);
+  }
+}
+
+// What reads octets, of which it takes a piece at a time.
+export class KeptReader extends Kept {
+  piece = this.machine.reserve(PIECE);
+
+  // Hands octets to the call `read`, with what else it is given. How many it has taken, after each call.
+  *takes(octets, given) {
+    for (let start = 0; start < octets.length; start += PIECE) {
+      const piece = octets.subarray(start, start + PIECE);
+      this.machine.octets(this.piece, piece.length).set(piece);
+      for (let taken = 0; taken < piece.length;) {
+        taken += Number(this.call('read', BigInt(this.piece + taken), BigInt(piece.length - taken), BigInt(given)));
+        yield start + taken;
+      }
+    }
   }
 }
 

@@ -1,39 +1,24 @@
 // The library's reader of logs. It takes the octets of a log, and gives a verdict on each line.
 
 import { STRUCTS } from './layouts.js';
-import { Kept } from './library.js';
+import { KeptReader } from './library.js';
 
-// The octets that are handed to the library at a time.
-const PIECE = 65536;
-
-export class LogReader extends Kept {
+export class LogReader extends KeptReader {
   constructor(library) {
     super(library, 'log', 'logReader');
-    Object.assign(this, { batch: this.machine.reserve(STRUCTS.logBatch.size), piece: this.machine.reserve(PIECE) });
+    this.batch = this.machine.reserve(STRUCTS.logBatch.size);
   }
 
   // The verdicts on all lines of a log, in order, a batch at a time, with the share of the log that was read. `form` is one of LOG_FORMS.
   *read(octets, form) {
     this.call('start', form);
-    for (let start = 0; start < octets.length; start += PIECE) {
-      const piece = octets.subarray(start, start + PIECE);
-      this.machine.octets(this.piece, piece.length).set(piece);
-      for (let taken = 0; taken < piece.length;) {
-        taken += this.take(taken, piece.length - taken);
-        yield [this.verdicts(), start / octets.length];
-      }
-    }
+    for (const taken of this.takes(octets, this.batch)) yield [this.verdicts(), taken / octets.length];
     this.call('end');
     for (let found = null; found === null || found.length > 0;) {
-      this.take(0, 0);
+      this.call('read', BigInt(this.piece), 0n, BigInt(this.batch));
       found = this.verdicts();
       yield [found, 1];
     }
-  }
-
-  // Hands octets of the piece to the library, and returns how many it took.
-  take(start, length) {
-    return Number(this.call('read', BigInt(this.piece + start), BigInt(length), BigInt(this.batch)));
   }
 
   // The verdicts of the batch, each with copies of its frames, and with where their octets are written: a line, and the indexes of its

@@ -43,12 +43,12 @@ function* logOf(library, arena, logReader, name, octets, chosen) {
 function startViews(library) {
   const arena = new Arena(library), logReader = new LogReader(library);
   const tabs = new Tabs((name) => name === 'inputs' && inputs.draw());
-  const back = () => tabs.show('open');
-  const messages = new MessagesView(byId('view-messages'), (octets) => library.showOctets(octets), back);
-  const inputs = new InputsView(byId('view-inputs'), (place) => {
+  window.addEventListener('click', ({ target }) => target.matches('[data-back]') && tabs.show('open'));
+  const messages = new MessagesView((octets) => library.showOctets(octets));
+  const inputs = new InputsView((place) => {
     tabs.show('messages');
     messages.goTo(place);
-  }, back);
+  });
   // What is read last is shown.
   let latest = null;
   const open = async (name, octets, chosen) => {
@@ -69,9 +69,9 @@ function startViews(library) {
     inputs.open(log);
     document.documentElement.dataset.opened = name;
   };
-  new OpenView(byId('view-open'), EXAMPLES, open);
-  new PlanView(byId('view-plan'));
-  const play = new PlayView(byId('view-play'), library, EXAMPLES);
+  new OpenView(EXAMPLES, open);
+  new PlanView();
+  const play = new PlayView(library, EXAMPLES);
   if (play.openFragment(location.hash)) tabs.show('play');
 }
 

@@ -1,10 +1,10 @@
 // The view Messages: the verdict, what was counted, a search, the table, and the message that is selected.
 
 import { LOG_FORMS, LOG_REASONS, LOG_SIDES } from './constants.js';
-import { counted, element, saveText, say, select, sentence, withCommas } from './dom.js';
+import { byId, counted, element, saveText, say, sentence, withCommas } from './dom.js';
 import { detailOf } from './detail.js';
-import { kindOf, CAN_READ } from './foreign.js';
-import { hexText } from './hex.js';
+import { FILES } from './files.js';
+import { asLatin, hexText } from './hex.js';
 import { ENDS } from './judging.js';
 import { STATUS_BITS } from './library.js';
 import { FACTS } from './log.js';
@@ -52,37 +52,48 @@ function nounOf({ summary }, name, noun) {
   return summary[name] === 1 ? words : words.replace(/y$/, 'ie').replace(/h$/, 'he') + 's';
 }
 
+const FIRST_OCTETS = 4096;
+
+// One sentence on a file, by its octets, and by whether lines of it have octets.
+function kindOf(file, hasOctets) {
+  const first = asLatin(file.subarray(0, FIRST_OCTETS)), found = Object.values(FILES).find(({ begins }) => begins.test(first));
+  if (found) return `It is ${found.is}${found.act === '' ? '' : `: ${found.act}`}.`;
+  return hasOctets ? 'It is text with octets that are no message. Perhaps it is a log of another link, or the bits of its octets are in reverse order.'
+    : 'It is text without octets of a message.';
+}
+
+// What can be read, with an example of each.
+const CAN_READ = [
+  ['Octets as hexadecimal digits, a frame a line', '36ff'],
+  ['A transcript: > before what the CPU sent, < before what it heard', '> 36ff\n< b6ff010000010200000001'],
+  ['A log with times and directions, as terminals and analysers write it', '07:15:02.100 TX 36 05'],
+  ['A hex dump, with or without a column of characters', '0000  b6 05 00 00 00 00 00 01'],
+  ['SDLC frames with their flags; also files of a line’s octets, or of its bits as 0 and 1', '7E 14 83 36 01 E0 5D 7E 14 83 36 02 7B 6F 7E'],
+  ['A table with a header, or JSON, with a key or a column of octets', 'time,direction,data\n0.100,TX,36 05'],
+];
+
 export class MessagesView {
-  // `textOf(octets)` gives the lines of a message, `back()` shows the view Open.
-  constructor(root, textOf, back) {
-    Object.assign(this, { root, textOf, back });
-    this.verdict = element('div', { id: 'verdict', class: 'verdict', role: 'status' });
-    this.facts = element('ul', { class: 'facts', 'aria-label': 'What the log has; each shows only those messages' });
-    this.note = element('p', { class: 'soft', id: 'note' });
-    this.search = element('input', { type: 'search', id: 'search', placeholder: 'Search, such as input 12 or 36ff',
-      'aria-label': 'Search in words and octets', oninput: () => this.searchSoon() });
-    this.way = select('Show which direction', [['', 'Both directions'], [LOG_SIDES.fromCpu, 'Sent by the CPU'], [LOG_SIDES.fromModule, 'Heard by the CPU']],
-      (way) => this.narrow({ way }));
-    this.count = element('span', { class: 'soft', role: 'status' });
+  // `textOf(octets)` gives the lines of a message.
+  constructor(textOf) {
+    Object.assign(this, { textOf, none: byId('no-log'), search: byId('search'), way: byId('way') });
+    this.search.addEventListener('input', () => this.searchSoon());
+    this.way.addEventListener('change', () => this.narrow({ way: this.way.value }));
+    byId('save').addEventListener('click', () => saveText(this.log.name + '.shown', this.log.showText()));
+    byId('words').append(listOf(Object.entries(WORDS)));
     this.sheet = new Sheet((by) => this.table.select(this.table.selected + by, true));
     this.table = new VirtualTable('Messages', COLUMNS, (place) => this.draw(place), (place, isOpened) => this.choose(place, isOpened));
-    this.none = element('div', { class: 'none', id: 'no-log' });
-    this.both = element('div', { class: 'messages' }, this.table.root, this.sheet.root);
-    const save = element('button', { id: 'save', onclick: () => saveText(this.log.name + '.shown', this.log.showText()) }, 'Save the messages as text');
-    this.parts = [this.verdict, element('details', { class: 'words', id: 'words' }, element('summary', {}, 'What the words mean'), listOf(Object.entries(WORDS))),
-      this.facts, this.note, element('div', { class: 'row controls' }, this.search, this.way, this.count, save), this.both];
-    root.append(...this.parts, this.none);
+    byId('messages').append(this.table.root, this.sheet.root);
     this.close('No log is open', element('p', {}, 'Here each message of a log has a row: its words, its octets, and the rule that it breaks.'));
   }
 
   // Shows no log, and this in its place.
   close(head, ...says) {
     this.log = null;
-    this.showNone(head, ...says, element('p', {}, element('button', { class: 'main', onclick: () => this.back() }, 'Open a log or an example')));
+    this.showNone(head, ...says, back());
   }
 
   showNone(head, ...says) {
-    this.parts.forEach((part) => { part.hidden = true; });
+    byId('log').hidden = true;
     this.none.hidden = false;
     this.none.replaceChildren(element('h2', {}, head), ...says);
   }
@@ -103,11 +114,11 @@ export class MessagesView {
     const has = { times: log.hasTimes, notes: hasNotes(log), rules: log.breaches.size + log.restarts.size > 0,
       doubts: log.damaged.size + log.others.size + log.summary.possible > 0 };
     for (const [what, isSo] of Object.entries(has)) this.table.root.classList.toggle('has-' + what, isSo);
-    this.parts.forEach((part) => { part.hidden = false; });
+    byId('log').hidden = false;
     this.drawVerdict();
     this.drawFacts();
     const isOther = log.form !== LOG_FORMS.auto && log.summary.badLines > 0;
-    this.note.replaceChildren(this.noteOf(log), ...isOther ? [' ', element('button', { id: 'as-any', onclick: readAsAny }, 'Read it as any log')] : []);
+    byId('note').replaceChildren(this.noteOf(log), ...isOther ? [' ', element('button', { id: 'as-any', onclick: readAsAny }, 'Read it as any log')] : []);
     this.showAll();
     if (log.verdict.kind === 'none' && log.summary.possible === 0) this.showNoMessage(file);
   }
@@ -118,7 +129,7 @@ export class MessagesView {
     this.showNone(`No message was found in ${log.name}`, element('p', { id: 'no-log-kind' }, kindOf(file, hasOctets)),
       ...log.count === 0 ? [] : [element('p', {}, `${counted(log.count, 'line')} may have octets and could not be read, the first in line ${log.lines[0]}.`)],
       element('p', { id: 'no-log-passed' }, passedWords(log)),
-      element('p', {}, element('button', { class: 'main', onclick: () => this.back() }, 'Open a log or an example')),
+      back(),
       element('p', {}, 'What can be read:'), listOf(CAN_READ.map(([what, text]) => [what, element('pre', {}, text)])));
   }
 
@@ -132,8 +143,8 @@ export class MessagesView {
   drawVerdict() {
     const { kind, text, more, first, looksLike, notJudged } = this.log.verdict;
     const show = first < 0 ? [] : [' ', element('button', { id: 'first-breach', onclick: () => this.goTo(first) }, `Show ${this.log.where(first)}`)];
-    this.verdict.dataset.kind = kind;
-    this.verdict.replaceChildren(element('p', { class: 'says' }, element('strong', { 'aria-hidden': 'true' }, SYMBOLS[kind]), ' ',
+    byId('verdict').dataset.kind = kind;
+    byId('verdict').replaceChildren(element('p', { class: 'says' }, element('strong', { 'aria-hidden': 'true' }, SYMBOLS[kind]), ' ',
       element('span', { id: 'verdict-text' }, element('strong', {}, text), more), ...show),
     ...looksLike === '' ? [] : [element('p', { id: 'looks-like' }, looksLike)],
     ...notJudged.length === 0 ? [] : [element('p', { class: 'soft', id: 'not-judged' }, notJudged.join(' '))]);
@@ -141,7 +152,7 @@ export class MessagesView {
 
   drawFacts() {
     const { log } = this, facts = FACTS.filter(([name]) => log.summary[name] > 0 || name === 'messages');
-    this.facts.replaceChildren(...facts.map(([name, noun, , kind = false]) => element('li', {}, element('button',
+    byId('facts').replaceChildren(...facts.map(([name, noun, , kind = false]) => element('li', {}, element('button',
       { class: kind, 'data-fact': name, onclick: () => this.narrow({ fact: name }) }, element('b', {}, withCommas(log.summary[name])), ' ' + nounOf(log, name, noun)))));
   }
 
@@ -162,12 +173,12 @@ export class MessagesView {
     const { log, filter } = this;
     if (!log) return;
     const places = this.placesOf(Object.assign(filter, change));
-    this.count.textContent = places.length === log.count ? '' : `${withCommas(places.length)} of ${withCommas(log.count)}`;
-    this.facts.querySelectorAll('button').forEach((it) => it.setAttribute('aria-pressed', String(it.dataset.fact === filter.fact)));
+    byId('count').textContent = places.length === log.count ? '' : `${withCommas(places.length)} of ${withCommas(log.count)}`;
+    document.querySelectorAll('[data-fact]').forEach((it) => it.setAttribute('aria-pressed', String(it.dataset.fact === filter.fact)));
     this.table.show(places);
     this.sheet.show(element('p', { class: 'none' }, 'Select a message to see its octets and fields.'), false);
     this.none.hidden = places.length > 0;
-    this.both.hidden = places.length === 0;
+    byId('messages').hidden = places.length === 0;
     if (places.length === 0 && log.count > 0) this.none.replaceChildren(element('p', {}, 'No message of this log is like that.'));
   }
 
@@ -217,6 +228,9 @@ export class MessagesView {
     this.table.selectPlace(place);
   }
 }
+
+// The way to the view Open.
+const back = () => element('p', {}, element('button', { class: 'main', 'data-back': true }, 'Open a log or an example'));
 
 // Words, each with what they mean.
 function listOf(pairs) {

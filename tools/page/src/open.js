@@ -1,6 +1,6 @@
 // The view Open: a log is dropped, chosen, pasted, or taken from the examples.
 
-import { element, select } from './dom.js';
+import { byId, element } from './dom.js';
 import { fromBase64, fromHex } from './hex.js';
 import { ENDS } from './judging.js';
 import { LINE_WAYS } from './line.js';
@@ -24,56 +24,32 @@ const IN_WORDS = {
 
 export class OpenView {
   // `open(name, octets, chosen)` opens a log, which was taken at an end, and is read in a form.
-  constructor(root, examples, open) {
-    Object.assign(this, { open, end: ENDS.auto, form: 'auto', examples });
+  constructor(examples, open) {
+    Object.assign(this, { open, examples, address: byId('address'), zone: document.querySelector('.drop') });
     const names = Object.keys(examples).filter((name) => !name.endsWith('.script') && !STORIES.some(([story]) => story === name));
-    const list = (kind, items) => element('ul', { class: kind }, ...items);
-    root.append(
-      element('p', { class: 'lead' }, 'See what a 2070 controller’s CPU and its field I/O module said to each other. Every message of a log is '
-        + 'decoded, and judged by the rules of the protocol.'),
-      element('div', { class: 'ways' }, this.dropZone(), this.pasteZone()),
-      element('h2', {}, 'Or look at an example'),
-      list('stories', STORIES.map(([name, title, says]) => this.item(name, title, says, element('small', { class: 'mono' }, name)))),
-      element('details', { class: 'more', id: 'more-examples' }, element('summary', {}, `${names.length} more examples: each form of log, each rule broken once`),
-        list('examples', names.map((name) => this.item(name, name, IN_WORDS[name] || /^# (.*)/m.exec(atob(examples[name]))[1])))));
+    byId('stories').append(...STORIES.map(([name, title, says]) => this.item(name, title, says, element('small', { class: 'mono' }, name))));
+    byId('examples').append(...names.map((name) => this.item(name, name, IN_WORDS[name] || /^# (.*)/m.exec(atob(examples[name]))[1])));
+    byId('more-examples').firstChild.textContent = `${names.length} more examples: each form of log, each rule broken once`;
+    this.listen(byId('file'), byId('form'));
     window.addEventListener('dragover', (event) => event.preventDefault());
     window.addEventListener('drop', (event) => this.dropped(event));
+    for (const name of ['dragenter', 'dragleave']) this.zone.addEventListener(name, () => this.zone.classList.toggle('over', name === 'dragenter'));
   }
 
-  dropZone() {
-    const file = element('input', { type: 'file', id: 'file', class: 'unseen', tabindex: '-1', 'aria-label': 'A log as a file',
-      onchange: () => {
-        const [chosen] = file.files;
-        // It can be chosen again once it has grown.
-        file.value = '';
-        this.read(chosen);
-      } });
-    const ends = select('Where the log was taken', [[ENDS.auto, 'Take it from the directions'], [ENDS.cpu, 'At the CPU'],
-      [ENDS.module, 'At the module'], [ENDS.bus, 'Elsewhere on the bus']], (end) => { this.end = end; }, 'end');
-    const forms = select('How the log is written', [['auto', 'Take it from the lines'], ['frames', 'Frames, as fio2070 show reads them'],
-      ['transcript', 'A transcript, as fio2070 check reads it'], ...Object.entries(REWRITINGS), ...Object.entries(LINE_WAYS)],
-    (form) => {
-      this.form = form;
-      pattern.hidden = form !== 'pattern';
-      address.hidden = !(form in LINE_WAYS);
-    }, 'form');
-    this.pattern = element('input', { id: 'pattern', size: '36', spellcheck: 'false', 'aria-label': 'An expression', placeholder: '(?<time>[\\d.]+) (?<dir>\\w+) (?<octets>.*)$' });
-    this.address = element('input', { id: 'address', size: '5', maxlength: '4', spellcheck: 'false', 'aria-label': 'An address', value: '14', pattern: 'any|(?:[0-9A-Fa-f]{2}){1,2}' });
-    const pattern = element('label', { hidden: true }, 'An expression with the groups octets, and perhaps time and dir', this.pattern);
-    const address = element('label', { hidden: true }, 'The address that is judged, perhaps with the control octet; or any', this.address);
-    const mark = (isOver) => () => this.zone.classList.toggle('over', isOver);
-    return this.zone = element('div', { class: 'drop', ondragenter: mark(true), ondragleave: mark(false) },
-      element('p', { class: 'large' }, 'Drop a log here'),
-      element('p', {}, element('button', { class: 'main', onclick: () => file.click() }, 'Choose a file'), file),
-      element('p', { class: 'soft' }, 'Hexadecimal digits, transcripts, hex dumps, tables, logs with times and directions, or captured packets (pcap). Nothing leaves this browser.'),
-      element('p', { class: 'row' }, element('label', {}, 'Where was it taken?', ends), element('label', {}, 'How is it written?', forms), pattern, address));
-  }
-
-  pasteZone() {
-    const text = element('textarea', { class: 'paste', id: 'paste', spellcheck: 'false', 'aria-label': 'A log as text',
-      placeholder: 'Or paste some lines here, such as\n\n> 36ff\n< b6ff010000010200000001' });
-    const open = element('button', { id: 'open-paste', onclick: () => this.give('pasted text', new TextEncoder().encode(text.value)) }, 'Open this text');
-    return element('div', { class: 'paste-zone' }, text, element('div', { class: 'row' }, open));
+  listen(file, form) {
+    form.append(...Object.entries({ ...REWRITINGS, ...LINE_WAYS }).map(([value, words]) => element('option', { value }, words)));
+    form.addEventListener('change', () => {
+      byId('pattern').parentElement.hidden = form.value !== 'pattern';
+      this.address.parentElement.hidden = !(form.value in LINE_WAYS);
+    });
+    byId('choose').addEventListener('click', () => file.click());
+    file.addEventListener('change', () => {
+      const [chosen] = file.files;
+      // It can be chosen again once it has grown.
+      file.value = '';
+      this.read(chosen);
+    });
+    byId('open-paste').addEventListener('click', () => this.give('pasted text', new TextEncoder().encode(byId('paste').value)));
   }
 
   item(name, title, says, ...more) {
@@ -98,7 +74,7 @@ export class OpenView {
   }
 
   give(name, octets) {
-    this.open(name, octets, { form: this.form, end: this.end, own: this.own, pattern: this.pattern.value });
+    this.open(name, octets, { form: byId('form').value, end: byId('end').value, own: this.own, pattern: byId('pattern').value });
   }
 
   // The address and control octet that are judged.

@@ -1,8 +1,8 @@
 // The view Plan: how often to poll, how late a transition can be, how long an outage may last.
 
 import { BLOCK_ENTRIES, INPUTS, MOST_WAITING, STANDARD_WAITING } from './constants.js';
-import { counted, element, withCommas } from './dom.js';
-import { WAITING, paceAt, planOf, rowOf } from './planning.js';
+import { byId, counted, element, withCommas } from './dom.js';
+import { paceAt, planOf, rowOf } from './planning.js';
 
 const SLIDERS = [
   ['inputs', 'How many inputs are open?', 1, INPUTS, INPUTS],
@@ -14,24 +14,13 @@ const SLIDERS = [
   ['rate', 'How many bits does the line carry in a second?', 1200, 2000000, 614400],
   ['stop', 'How many stop bits has an octet? 0: a synchronous line', 0, 2, 0],
 ];
-const HEADS = ['Open inputs', 'Filter', 'Poll every', 'Waiting', 'Late', 'Waiting, answers lost', 'Late, answers lost',
-  ...WAITING.map((count) => `Outage, ${withCommas(count)} wait`)];
 
 export class PlanView {
-  constructor(root) {
-    Object.assign(this, { chosen: {}, answers: element('tbody'), row: element('tr', { id: 'plan-row' }), verdict: element('p', { id: 'plan-verdict', role: 'status' }) });
-    root.append(element('div', { class: 'plan' },
-      element('form', { class: 'sliders', onsubmit: (event) => event.preventDefault() }, ...SLIDERS.map((slider) => this.slider(...slider))),
-      element('div', {}, this.verdict,
-        element('table', { class: 'answers' }, element('thead', {}, headRow(['What', 'Number', 'Why'])), this.answers))),
-    element('h2', {}, 'The row of the planning table'),
-    element('div', { class: 'scrolled' },
-      element('table', { class: 'answers' }, element('thead', {}, headRow(HEADS)), element('tbody', {}, this.row))),
-    element('p', { class: 'soft' }, 'A scan comes once a millisecond. A clean round is a poll that reaches the module and its answer '
-      + 'that reaches the CPU before the CPU polls again. The numbers hold from a time on at which '
-      + 'the CPU has taken every block and nothing waits, until the next load of the counter or restart, while '
-      + 'configurations open no more inputs, with no shorter filters. '
-      + 'docs/PLANNING.md has the formulas of these numbers, and names what is proved of each.'));
+  chosen = {};
+
+  constructor() {
+    byId('sliders').addEventListener('submit', (event) => event.preventDefault());
+    byId('sliders').append(...SLIDERS.map((slider) => this.slider(...slider)));
     this.draw();
   }
 
@@ -50,14 +39,15 @@ export class PlanView {
   }
 
   draw() {
-    const plan = planOf(this.chosen), least = paceAt(this.chosen), { inputs, filter, pace, lost, outage, rate } = this.chosen;
-    this.verdict.className = plan.isInTime && plan.isRiddenOut && least !== undefined && least.pace <= pace ? 'good' : 'bad';
-    this.verdict.textContent = (plan.isInTime
+    const plan = planOf(this.chosen), least = paceAt(this.chosen), { inputs, filter, pace, lost, outage, rate } = this.chosen, verdict = byId('plan-verdict');
+    const isInPace = least !== undefined && least.pace <= pace;
+    verdict.className = plan.isInTime && plan.isRiddenOut && isInPace ? 'good' : 'bad';
+    verdict.textContent = (plan.isInTime
       ? `A round every ${pace} ms is often enough${lost ? ` with ${counted(lost, 'lost round')} in a row` : ''}: nothing is lost.`
       : plan.startEvery > 0 ? `A round every ${pace} ms is too seldom: start one at least every ${plan.startEvery} ms.`
         : lost ? 'No pace is often enough for so many lost rounds.' : 'No pace is often enough if so few entries may wait.')
       + (plan.isRiddenOut ? '' : ` In an outage of ${outage} ms transitions may be lost.`)
-      + (least && least.pace <= pace ? '' : ` For that a line of ${withCommas(rate)} bit/s is too slow.`);
+      + (isInPace ? '' : ` For that a line of ${withCommas(rate)} bit/s is too slow.`);
     const rows = [
       ['The CPU has to poll at least every', plan.startEvery + ' ms',
         `Each open input changes at most once in ${filter} ms. So what can change between two rounds that get through `
@@ -75,10 +65,8 @@ export class PlanView {
         least ? `A round takes at most ${least.round} ms, and ends before the next one; a transition is in the record after at most ${withCommas(least.late)} ms`
           : 'No round that is often enough ends before the next one'],
     ];
-    this.answers.replaceChildren(...rows.map(([what, number, why]) => element('tr', {},
+    byId('plan-answers').replaceChildren(...rows.map(([what, number, why]) => element('tr', {},
       element('th', { scope: 'row' }, what), element('td', { class: 'mono' }, number), element('td', { class: 'soft' }, why))));
-    this.row.replaceChildren(...rowOf(inputs, filter).map((number) => element('td', { class: 'mono' }, withCommas(number))));
+    byId('plan-row').replaceChildren(...rowOf(inputs, filter).map((number) => element('td', { class: 'mono' }, withCommas(number))));
   }
 }
-
-const headRow = (heads) => element('tr', {}, ...heads.map((head) => element('th', { scope: 'col' }, head)));

@@ -3,7 +3,7 @@
 import { BLOCK_ENTRIES, MOST_WAITING, STANDARD_WAITING } from './constants.js';
 
 // How many entries may wait: the standard limit, and the largest.
-export const WAITING = [STANDARD_WAITING, MOST_WAITING];
+const WAITING = [STANDARD_WAITING, MOST_WAITING];
 const upTo = (number, divisor) => Math.ceil(number / divisor);
 const down = (number, divisor) => Math.floor(number / divisor);
 

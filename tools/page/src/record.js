@@ -2,9 +2,8 @@
 // that entries are missing. Times go on from one another, where the counter wraps, is loaded or starts anew.
 
 import { clockAfter } from './clocks.js';
-import { CONTENT_RULES } from './constants.js';
 import { BLOCK, HEARD, POLL } from './library.js';
-import { entryOf } from './rules.js';
+import { entryOf, ruleOf } from './rules.js';
 import { itemText } from './script.js';
 import { firstFrom } from './waves.js';
 
@@ -112,6 +111,6 @@ export class Record {
 
 // What `fio2070 record` says of a breach of a rule on content.
 export function contentLine(log, place) {
-  const { rule, input } = log.content(place);
-  return `line ${log.lines[place]} ${input === NO_INPUT ? '' : `input ${input} `}breaks ${CONTENT_RULES[rule]}`;
+  const content = log.content(place), input = content.input === NO_INPUT ? '' : `input ${content.input} `;
+  return `line ${log.lines[place]} ${input}breaks ${ruleOf(content)}`;
 }

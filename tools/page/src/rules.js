@@ -2,13 +2,12 @@
 // and why it is not judged.
 
 import { BITS } from './bits.js';
-import { ADVANCE_BREACHES, CONTENT_BREACHES, CONTENT_RULES, INPUTS, RIGHT, RULE_BREACHES, RULES, SOURCES } from './constants.js';
+import { ADVANCE_BREACHES, CONTENT_RULES, INPUTS, RULES } from './constants.js';
 import { BLOCK, FIRST_ANSWER, STATUS_BITS, WATCHDOG_ANSWER } from './library.js';
 import { BREACHES, POSSIBLE, TERMS } from './log_words.js';
 
-const LIMITS = RULES.indexOf('limits'), READABLE = RULES.indexOf('readable'), SEQUENCE = RULES.indexOf('sequence');
 // The last rule on content that an entry breaks.
-const LAST_OF_ENTRIES = CONTENT_RULES.indexOf('ignored');
+const LAST_OF_ENTRIES = CONTENT_RULES.findIndex((rule) => rule?.name === 'ignored');
 // What was due and what came, by rule, if the library says both.
 const DUE = {
   pair: (due, got) => `an answer ${due} was due, ${got} came`,
@@ -16,19 +15,19 @@ const DUE = {
   advance: (due, got) => `block ${due} was due, ${got} came: ${ADVANCE_BREACHES[(got - due & 255) < 128 ? 'ahead' : 'behind'].replace('{due}', due)}`,
 };
 
-// The name of the rule that is broken.
-export const ruleOf = (breach) => (breach.isContent ? CONTENT_RULES : RULES)[breach.rule];
+// The rule that is broken, and its name.
+const brokenBy = ({ rule, isContent }) => (isContent ? CONTENT_RULES : RULES)[rule];
+export const ruleOf = (breach) => brokenBy(breach).name;
 
 // What the rule says that is broken, and what its words mean.
-export function ruleWords({ rule, isContent }) {
-  if (!isContent) return [`It is broken by a line that ${RULE_BREACHES[rule]}.`];
-  const terms = Object.entries(TERMS).filter(([term]) => new RegExp(`\\b${term}\\b`).test(RIGHT[rule]));
-  return [`In a right link: ${RIGHT[rule]}`, ...terms.map((pair) => `${pair.join(': ')}.`)];
+export function ruleWords(breach) {
+  const { right, breach: words } = brokenBy(breach), terms = Object.entries(TERMS).filter(([term]) => new RegExp(`\\b${term}\\b`).test(right));
+  return breach.isContent ? [`In a right link: ${right}`, ...terms.map((pair) => `${pair.join(': ')}.`)] : [`It is broken by a line that ${words}.`];
 }
 
 // The sources of the rule that is broken.
 export function sourceWords(breach) {
-  const [behaviour, layout] = SOURCES[ruleOf(breach)];
+  const [behaviour, layout] = brokenBy(breach).sources;
   return `Source: behaviour ${behaviour}, layout ${layout}.`;
 }
 
@@ -43,13 +42,13 @@ export const RESTART_HELP = 'At a restart entries may be missing, and no gap mar
 
 // What was due and what came, or what the breach means.
 export function breachWords(log, place, breach) {
+  const { has_due: hasDue, due, got } = breach, { name, breach: words } = brokenBy(breach), code = log.codes[place], status = log.status[place];
   if (breach.isContent) return contentWords(log, place, breach);
-  const { rule, has_due: hasDue, due, got } = breach;
-  if (hasDue) return DUE[RULES[rule]](due, got);
-  if (rule === READABLE) return log.isFaulty[place] ? log.words(place)[0] : 'this line ' + RULE_BREACHES[rule];
-  if (rule === LIMITS) return limitsWords(log, place);
-  const words = BREACHES[rule === SEQUENCE && log.status[place] & STATUS_BITS.again ? 'again' : RULES[rule]], code = log.codes[place];
-  return words ? words.replace('{code}', code).replace('{command}', code - FIRST_ANSWER) : 'this line ' + RULE_BREACHES[rule];
+  if (hasDue) return DUE[name](due, got);
+  if (name === 'readable' && log.isFaulty[place]) return log.words(place)[0];
+  if (name === 'limits') return limitsWords(log, place);
+  const more = BREACHES[name === 'sequence' && status & STATUS_BITS.again ? 'again' : name];
+  return more ? more.replace('{code}', code).replace('{command}', code - FIRST_ANSWER) : 'this line ' + words;
 }
 
 // The index of the entry that breaks a rule on content; -1 if none does. Entries are the last items of a block, a gap mark is above
@@ -59,9 +58,8 @@ export function entryOf(log, place, { rule, items }) {
 }
 
 function contentWords(log, place, breach) {
-  const { rule, input } = breach, entry = entryOf(log, place, breach);
-  const state = entry < 0 ? '' : log.octets(place)[3 + 3 * entry] >> 7;
-  return CONTENT_BREACHES[rule].replace('{input}', input).replace('{state}', state);
+  const entry = entryOf(log, place, breach), state = entry < 0 ? '' : log.octets(place)[3 + 3 * entry] >> 7;
+  return brokenBy(breach).breach.replace('{input}', breach.input).replace('{state}', state);
 }
 
 // Which of the limits a block breaks.

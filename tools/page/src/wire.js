@@ -1,19 +1,17 @@
 // The library's decoders of what a line carried: octets with octet stuffing, or bits with bit stuffing.
 
-import { Kept } from './library.js';
+import { KeptReader } from './library.js';
 
-// The octets, or bits, that are handed to the library at a time.
-const READ_AT_ONCE = 4096;
 export const SAYS = { nothing: 0, message: 1, other: 2, damaged: 3 };
 // The address and control octet of a module, and those of any.
 export const OWN = { address: 0x14, control: 0x83 };
 export const ANY = { address: 256, control: 256 };
 
-class Wire extends Kept {
+class Wire extends KeptReader {
   // A decoder of octets or, if `isOfBits`, of bits: an octet each, of which the lowest bit counts.
   constructor(library, isOfBits = false) {
     super(library, isOfBits ? 'wire_bits' : 'wire', isOfBits ? 'wireBits' : 'wire');
-    Object.assign(this, { heard: this.machine.reserve(1), piece: this.machine.reserve(READ_AT_ONCE) });
+    this.heard = this.machine.reserve(1);
   }
 
   // Begins a line, before its first flag; frames with this address and control octet are one's own.
@@ -27,16 +25,11 @@ class Wire extends Kept {
   // What the next octets, or bits, say: at each flag that ends something, a kind of SAYS and, of a frame, address, control octet and
   // message, and how many octets or bits of the line were read.
   *read(line) {
-    for (let start = 0; start < line.length; start += READ_AT_ONCE) {
-      const piece = line.subarray(start, start + READ_AT_ONCE);
-      this.machine.octets(this.piece, piece.length).set(piece);
-      for (let taken = 0; taken < piece.length;) {
-        taken += Number(this.call('read', BigInt(this.piece + taken), BigInt(piece.length - taken), BigInt(this.heard)));
-        const kind = this.machine.all[this.heard];
-        if (kind !== SAYS.nothing) yield { kind, end: this.count + taken, ...this.frame() };
-      }
-      this.count += piece.length;
+    for (const taken of this.takes(line, this.heard)) {
+      const kind = this.machine.all[this.heard];
+      if (kind !== SAYS.nothing) yield { kind, end: this.count + taken, ...this.frame() };
     }
+    this.count += line.length;
   }
 
   // The frame that is held.
