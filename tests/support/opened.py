@@ -29,6 +29,8 @@ const cells = () => { %s; };
 DROP = '''const [text, name] = arguments, dropped = new DataTransfer();
 if (name) dropped.items.add(new File([text], name)); else dropped.setData("text/plain", text);
 document.querySelector(".drop").dispatchEvent(new DragEvent("drop", { bubbles: true, cancelable: true, dataTransfer: dropped }));'''
+# What work of the page in slices makes, at once.
+FINISHED = 'const finished = (work) => { let next = work.next(); while (!next.done) next = work.next(); return next.value; };'
 # Directions as rows show them.
 ARROWS = {'>': 'CPU → module', '<': 'module → CPU'}
 # The first and the last millisecond that are seen.

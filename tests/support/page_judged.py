@@ -9,7 +9,7 @@ import re
 from support.damage import DAMAGED
 from support.fiolog import LIBRARY, fiolog
 from support.kinds import KINDS, SIGNS
-from support.opened import CELLS, OPEN_ALL, PAGE, pasted, script_hash, started, text_of, words_in
+from support.opened import CELLS, FINISHED, OPEN_ALL, PAGE, pasted, script_hash, started, text_of, words_in
 from support.strangers import READ
 from support.tables import TOP
 
@@ -119,9 +119,9 @@ def check_restart(check, browser, _):
 
 
 # Judges a text with these marks above its messages, by the calls: the lines of breaches, and the counts of messages without a judgement.
-JUDGED = '''window.judged = async (text, marks) => {
+JUDGED = FINISHED + '''window.judged = async (text, marks) => {
     const library = new Library(await startMachine(BUILDS)), found = finished(readLog(library, new LogReader(library), new TextEncoder().encode(text), LOG_FORMS.auto));
-    for (const [place, mark] of marks) found.messages.marks[place] |= MARKS[mark];
+    for (const [place, mark] of marks) found.marks[place] |= MARKS[mark];
     const { breaches, lines, judging, verdict } = finished(new Log(library, new Arena(library), "marked", found, ENDS.auto).work());
     return [[...breaches.keys()].map((place) => lines[place]), judging.losses, judging.unjudged[WHY.placeLost], verdict.notJudged.join(" ")]; }'''
 MARKED = '''const [added, ...given] = arguments, script = document.createElement("script"); script.textContent = added;

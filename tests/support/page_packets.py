@@ -5,12 +5,12 @@ import base64
 import os
 
 from support import packets
-from support.opened import ARROWS, CELLS, TOP, opened
+from support.opened import ARROWS, CELLS, FINISHED, TOP, opened
 from support.fiolog import PACKAGES
 
 DAMAGED = 500
 # The lines of files, which are given in base64; a fault of the page is a text.
-LINES = '''return arguments[0].map((file) => { try { return new TextDecoder().decode(finished(linesOfCapture(Uint8Array.from(atob(file), (it) => it.charCodeAt(0))))); }
+LINES = FINISHED + '''return arguments[0].map((file) => { try { return new TextDecoder().decode(finished(linesOfCapture(Uint8Array.from(atob(file), (it) => it.charCodeAt(0))))); }
 catch (fault) { return String(fault); } })'''
 DUE = ['33010c0101', 'b300', '36ff', '36ff', 'b6ff010c000302000000c8', '3600', 'b600018c010400000001f4']
 

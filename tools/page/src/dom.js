@@ -5,9 +5,9 @@ export function element(name, attributes = {}, ...children) {
   const made = document.createElement(name);
   for (const [key, value] of Object.entries(attributes)) {
     if (key.startsWith('on')) made.addEventListener(key.slice(2), value);
-    else if (value !== false && value !== null) made.setAttribute(key, value === true ? '' : value);
+    else if (value !== false) made.setAttribute(key, value === true ? '' : value);
   }
-  made.append(...children.filter((child) => child !== null));
+  made.append(...children);
   return made;
 }
 
@@ -15,12 +15,7 @@ export const byId = (id) => document.getElementById(id);
 
 // Says a sentence to those who hear the page, once.
 export function say(text) {
-  let place = byId('said');
-  if (!place) {
-    place = element('div', { id: 'said', class: 'unseen', 'aria-live': 'polite' });
-    document.body.append(place);
-  }
-  place.textContent = text;
+  byId('said').textContent = text;
 }
 
 export const saveText = (name, text) => save(name, new Blob([text], { type: 'text/plain' }));

@@ -61,6 +61,7 @@ export class InputsView {
     this.canvas.setAttribute('aria-label', 'Waveforms of ' + note);
     byId('reading').textContent = 'Click or tap a transition to read it, and to go to its message.';
     Object.assign(byId('record-as-text'), { hidden: !log.isOfCpu, open: false });
+    byId('record-text').textContent = '';
     this.draw();
   }
 

@@ -4,7 +4,7 @@
 import { isCapture } from './captures.js';
 import { LOG_FORMS, LOG_KINDS, LOG_SIDES } from './constants.js';
 import { counted } from './dom.js';
-import { asLatin, fromHex, hexText } from './hex.js';
+import { asLatin, fromHex, hexText, inLines } from './hex.js';
 import { LINE } from './log_words.js';
 import { formOf, Found, linesOf, octetsOf, readLog } from './reader.js';
 import { AT_END, digitsOf, REWRITINGS, rewritten } from './rewriting.js';
@@ -105,7 +105,7 @@ class Heard extends Found {
 
   // Adds what a line says; it begins at this octet.
   hear(one, line, at, said = LOG_SIDES.noSide, time = null) {
-    if (one.kind === SAYS.other) this.messages.addOther(line, { why: this.doubts.note(one), text: hexText(one.message) });
+    if (one.kind === SAYS.other) this.addOther(line, { why: this.doubts.note(one), text: hexText(one.message) });
     else if (one.kind === SAYS.damaged) this.addUnchecked(line);
     else this.addFrames({ line, kind: LOG_KINDS.says, said, time, frames: [one.message], places: [], at });
   }
@@ -208,12 +208,15 @@ const endOfRow = (text) => Number.parseInt((ROW_OF_DUMP.exec(text) || [])[1], 16
 // Reads the lines of a log as the octets of a line.
 function* readDigits(library, logReader, octets, own) {
   const lines = yield* part(0, 0.1, linesOf(octets, LOG_FORMS.auto)), heard = new Heard(lines, octets.length), parts = [];
-  yield* part(0.1, 0.4, each(lines.length, (index) => { parts.push(partOfLine(lines[index], lines[index - 1] || '')); }));
-  const sides = Object.values(LOG_SIDES).map((side) => new Side(wireOf(library, side), wireOf(library, 'alone'), own));
-  // What the library says of a frame with the same before it.
-  const heads = new TextEncoder().encode(parts.map(({ head }) => `${head === null ? '' : head} b600000000000001\n`).join(''));
+  const sides = Object.values(LOG_SIDES).map((side) => new Side(wireOf(library, side), wireOf(library, 'alone'), own)), heads = [];
+  yield* part(0.1, 0.4, each(lines.length, (index) => {
+    const one = partOfLine(lines[index], lines[index - 1] || '');
+    parts.push(one);
+    // A frame with the same before it, of which the library says side and time.
+    heads.push(`${one.head ?? ''} b600000000000001`);
+  }));
   let heading = {};
-  for (const [verdicts, share] of logReader.read(heads, LOG_FORMS.auto)) {
+  for (const [verdicts, share] of logReader.read(new TextEncoder().encode(inLines(heads)), LOG_FORMS.auto)) {
     yield 0.4 + 0.6 * share;
     for (const { line, said, time } of verdicts) {
       const { digits, head } = parts[line - 1], before = head === null ? heading : { said, time };

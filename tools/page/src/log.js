@@ -16,9 +16,8 @@ export class Log {
   // `found` is what was read. `end` says where the log was taken: what was sent there is what the CPU sent or heard. If it is
   // `auto`, most directions say which end it was.
   constructor(library, arena, name, found, end) {
-    const { messages, form, passed, remarks, inTwoLines, isReversed, isWithoutLines = false } = found;
-    const { octets, end: after, ...columns } = messages;
-    Object.assign(this, { library, name, form, passed, remarks, inTwoLines, isReversed, isWithoutLines, ...columns });
+    const { octets, end: after, texts, doubts, ...columns } = found, { remarks, isReversed, form } = found;
+    Object.assign(this, { library, name, remarks, isReversed, ...columns });
     this.hasTimes = this.clocks.some((clock) => clock !== '');
     this.hasDirections = this.sides.some((it) => it !== noSide);
     this.end = !this.hasDirections ? ENDS.bus : end !== ENDS.auto ? end : isReversed && form !== LOG_FORMS.transcript ? ENDS.module : ENDS.cpu;

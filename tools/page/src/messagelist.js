@@ -30,7 +30,7 @@ export class MessageList {
     }
   }
 
-  add({ line, at = 0, side = LOG_SIDES.noSide, octets, isPossible = false, time = null, clock = '' }) {
+  addMessage({ line, at = 0, side = LOG_SIDES.noSide, octets, isPossible = false, time = null, clock = '' }) {
     const place = this.count++;
     this.starts[place] = this.end;
     this.lengths[place] = octets.length;
@@ -59,6 +59,6 @@ export class MessageList {
   // A line that can't be read: a message without octets. `damage` is why it gave no frame, and its text, if it may have held one.
   addBad(line, damage = null) {
     if (damage) this.damaged.set(this.count, damage);
-    this.add({ line, octets: new Uint8Array(0) });
+    this.addMessage({ line, octets: new Uint8Array(0) });
   }
 }

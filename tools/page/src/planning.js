@@ -25,21 +25,18 @@ const latest = (inputs, filter, apart, behind) =>
 // What follows for `inputs` open inputs with filters of at least `filter`, rounds `pace` scans apart of which `lost` in a
 // row are lost, `waiting` entries that may wait, and an outage of so many scans.
 export function planOf({ inputs, filter, pace, lost, waiting, outage }) {
-  const taken = longestPace(inputs, filter);
-  const kept = down(mostBehind(inputs, filter, waiting), lost > 0 ? 2 : 1);
-  const longest = Math.min(taken, kept);
-  const apart = pace * (lost + 1);
-  const rounds = lost > 0 ? 2 * apart : apart;
-  const after = Math.min(inputs * upTo(outage, filter), waiting);
+  const taken = longestPace(inputs, filter), kept = down(mostBehind(inputs, filter, waiting), lost > 0 ? 2 : 1);
+  const longest = Math.min(taken, kept), apart = pace * (lost + 1), rounds = lost > 0 ? 2 * apart : apart;
+  const after = Math.min(inputs * upTo(outage, filter), waiting), longestOutage = filter * down(waiting, inputs);
   return {
     isFewWaiting: kept < taken,
     isInTime: apart <= longest,
     startEvery: down(longest, lost + 1),
     waits: mostWait(inputs, filter, apart, rounds),
     late: latest(inputs, filter, apart, rounds),
-    longestOutage: filter * down(waiting, inputs),
+    longestOutage,
     after,
-    isRiddenOut: outage <= filter * down(waiting, inputs),
+    isRiddenOut: outage <= longestOutage,
     caughtUpIn: 1 + upTo(after, BLOCK_ENTRIES),
   };
 }

@@ -72,10 +72,11 @@ export function* readLog(library, logReader, octets, form) {
 
 // What is found in a log by verdicts: its messages, how many lines are passed over by the number of their reason, what is doubtful, and
 // what the log says of directions.
-export class Found {
-  // `lines` are those of a log with so many octets.
-  constructor(lines, form, octets, doubts) {
-    Object.assign(this, { lines, form, doubts, messages: new MessageList(lines.length, octets) });
+export class Found extends MessageList {
+  // `texts` are the lines of a log with so many octets.
+  constructor(texts, form, octets, doubts) {
+    super(texts.length, octets);
+    Object.assign(this, { texts, form, doubts });
     // How many frames are sure; how many have the direction of their type in the log's words, and how many the other one.
     Object.assign(this, { passed: REASONS.map(() => 0), inTwoLines: 0, sure: 0, agreeing: 0, reversed: 0 });
   }
@@ -90,7 +91,7 @@ export class Found {
   }
 
   textOf(line) {
-    return (this.lines[line - 1] || '').replace(UNSEEN, '');
+    return (this.texts[line - 1] || '').replace(UNSEEN, '');
   }
 
   add(verdict) {
@@ -98,15 +99,15 @@ export class Found {
     if (kind === LOG_KINDS.says || kind === LOG_KINDS.possible) this.addFrames(verdict);
     else if (this.form !== LOG_FORMS.auto && reason === LOG_REASONS.noMessage) this.addFaulty(verdict);
     else if (kind === LOG_KINDS.damaged) this.addDamaged(line, `damaged: ${REASONS[reason]}`);
-    else if (kind === LOG_KINDS.passedOver && this.form !== LOG_FORMS.auto) this.messages.addBad(line);
+    else if (kind === LOG_KINDS.passedOver && this.form !== LOG_FORMS.auto) this.addBad(line);
     else if (kind === LOG_KINDS.passedOver) {
       this.passed[reason] += 1;
-      this.messages.mark(MARK_OF[reason] || 0);
+      this.mark(MARK_OF[reason] || 0);
     }
   }
 
   addDamaged(line, why, hasWrongCheck = false) {
-    this.messages.addBad(line, { why, text: this.textOf(line).slice(0, LONGEST_SHOWN), hasWrongCheck });
+    this.addBad(line, { why, text: this.textOf(line).slice(0, LONGEST_SHOWN), hasWrongCheck });
   }
 
   // Two lines in which one message stands.
@@ -128,7 +129,7 @@ export class Found {
     const clock = inTime === null ? '' : clockOf([text, this.textOf(line - 1)], inTime);
     let begin = at;
     for (const octets of frames) {
-      this.messages.add({ line, side, octets, isPossible, time: inTime, clock, at: begin });
+      this.addMessage({ line, side, octets, isPossible, time: inTime, clock, at: begin });
       begin += octets.length;
       if (isPossible) continue;
       this.sure += 1;

@@ -21,13 +21,6 @@ export function* part(from, to, work) {
   return next.value;
 }
 
-// What work makes, at once.
-export function finished(work) {
-  let next = work.next();
-  while (!next.done) next = work.next();
-  return next.value;
-}
-
 // What work makes, in slices. Between two of them `goesOn(share)` is called: undefined is returned if it is false.
 export async function inSlices(work, goesOn) {
   const { port1, port2 } = new MessageChannel();
