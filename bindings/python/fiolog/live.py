@@ -174,7 +174,7 @@ class Station:
 
     def __init__(self, option, source):
         self.option, self.source, self.counts = option, source, Counts()
-        self.breaches = self.content_breaches = self.restarts = 0
+        self.broken = {'breaches': 0, 'breaches in content': 0, 'restarted': 0}
         self.out = sys.stderr if option.pcapng == '-' else sys.stdout
         self.paint = terminal.painter('auto')
         self.line = Text(self._write, self.paint)
@@ -224,9 +224,7 @@ class Station:
     def _name(self, broken):
         """Says what frames break, and where the module restarted."""
         for event, found in broken:
-            self.restarts += found.is_restart
-            self.content_breaches += found.is_content
-            self.breaches += not (found.is_restart or found.is_content)
+            self.broken['restarted' if found.is_restart else 'breaches in content' if found.is_content else 'breaches'] += 1
             self._write('line %d: %s: %s\n' % (event.number, self.paint('fault', found.rule), found.meaning))
 
     def flush(self):
@@ -248,12 +246,12 @@ class Station:
         """What was counted."""
         kinds = self.source.reader.kinds
         numbers = {in_words(name): number for name, number in self.counts.in_short(is_over).items()}
-        others = {'restarted': self.restarts, 'skipped lines': kinds[PASSED],
+        others = {'skipped lines': kinds[PASSED],
                   'wrong frame checks' if self.option.serial else 'damaged lines': sum(kinds[kind] for kind in LOSSES if kind != PIECE),
                   'lines with parts of messages': kinds[PIECE], 'frames of other addresses': kinds[OTHER],
                   **{UNJUDGED[name][1]: self.judgement.unjudged[name] for name in SHOWN}, 'datagrams dropped': self.source.dropped}
-        return {**numbers, 'breaches': self.breaches, 'breaches in content': self.content_breaches,
-                **{words: count for words, count in others.items() if count}}
+        broken = {name: count for name, count in self.broken.items() if count or name != 'restarted'}
+        return {**numbers, **broken, **{words: count for words, count in others.items() if count}}
 
     def end(self):
         """The summary; status 1 if a rule is broken, the module restarted, or nothing came."""
@@ -269,7 +267,7 @@ class Station:
         if not self.counts.frames:
             log.say_others(self.source.reader.others)
             terminal.say('no frame came')
-        return 1 if self.breaches or self.content_breaches or self.restarts or is_fault or not self.counts.frames else 0
+        return 1 if any(self.broken.values()) or is_fault or not self.counts.frames else 0
 
 
 def opened(option):
