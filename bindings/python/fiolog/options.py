@@ -21,71 +21,6 @@ NAMES = [name for rules in (RULES, CONTENT_RULES) for name, _ in rules.values()]
 OWN = [name for name, (behaviour, _) in SOURCES.items() if behaviour == 'own profile']
 
 
-def add_reading(parser):
-    """The options of all that read logs."""
-    parser.add_argument('files', nargs='*', default=['-'], metavar='FILE', help='logs; - is standard input, the default')
-    parser.add_argument('--format', choices=FORMS, default='auto', metavar='NAME',
-                        help='auto (the default); frames or transcript: as `fio2070 show` and `check` read lines')
-    parser.add_argument('--pattern', metavar='REGEX', help='a regular expression with the group octets (hexadecimal digits), and if you like time and dir')
-    parser.add_argument('--sdlc', action='store_true', help='each line ends with frames that have address, control and frame check; with '
-                                                            'flags, a frame may go on in the next line, or row of a dump')
-    parser.add_argument('--no-check', action='store_true', help='with --sdlc: each line ends with one frame, without the frame check')
-    parser.add_argument('--line', choices=LINES, default='', metavar='FORM',
-                        help='the file is what a line carried: octets, or bits (bits-high-first), one a clock, as a text of 0 and 1 or '
-                             'eight to an octet')
-    add_address(parser)
-    parser.add_argument('--merge', action='store_true', help='read the files as one log, in the order of their times: such as one file '
-                                                             'of each channel')
-    parser.add_argument('-v', '--verbose', action='store_true', help='name each line that is skipped, and why')
-    parser.add_argument('-q', '--quiet', action='store_true', help='write only errors to standard error')
-
-
-def add_address(parser):
-    """The option of whose frames are judged."""
-    parser.add_argument('--address', type=line_address, metavar='HEX',
-                        help='the address of the frames of a line that are judged (14), with or without the control octet (1483), or any')
-
-
-def add_many(parser):
-    """The options of commands that take many logs."""
-    parser.add_argument('-r', '--recursive', action='store_true', help='read all files below the folders that are named')
-    parser.add_argument('--jobs', type=number_in(1, MOST_ASKED), metavar='N', help='with several logs: read this many at a time (all processors)')
-
-
-def add_place(parser):
-    """The options of where and when a log was taken."""
-    parser.add_argument('--at', choices=('auto', 'cpu', 'module', 'bus'), default='auto',
-                        help='where the log was taken; auto: at the CPU where directions say so, else on the bus')
-    start = parser.add_mutually_exclusive_group()
-    start.add_argument('--start-at-poll', action='store_true', help='leave out what comes before the first poll')
-    add_module(parser, start)
-
-
-def add_module(parser, start):
-    """The options of what is above a log, and of the module's limits."""
-    start.add_argument('--whole', action='store_true', help='the log begins at the start of both ends: then more faults can be found')
-    parser.add_argument('--limits', nargs=2, action=Limits, default=(BLOCK_ENTRIES, STANDARD_WAITING), metavar=('ENTRIES', 'WAITING'),
-                        help='of the module: the most entries of a block, and the most that wait (%d %d)' % (BLOCK_ENTRIES, STANDARD_WAITING))
-
-
-def add_except(parser):
-    """The option of rules that are left out."""
-    parser.add_argument('--except', action='append', choices=NAMES, default=[], dest='excepted', metavar='RULE',
-                        help='leave out breaches of this rule, and count them; may be given again')
-
-
-def add_late_answers(parser):
-    """The option of a log with late answers."""
-    parser.add_argument('--late-answers', action='store_true', help='leave out answers that came late or twice, and count them')
-
-
-def rules_of(option):
-    """What the rules that judge a log are given, by the options of the command line."""
-    given = {name: getattr(option, name) for name in ('at', 'whole', 'limits', 'late_answers') if hasattr(option, name)}
-    return {**given, 'excepted': [*getattr(option, 'excepted', ()), *OWN * getattr(option, 'tees', False)],
-            'with_content': getattr(option, 'rules', 'all') == 'all'}
-
-
 class Limits(argparse.Action):
     """Both limits of a module, in their ranges."""
 
@@ -157,3 +92,58 @@ def line_range(text):
     if not first.isdigit() or last and not last.isdigit() or last and int(last) < int(first):
         raise argparse.ArgumentTypeError('%r is no range of lines, such as 10-20 or 10-' % text)
     return range(int(first), int(last or first) + 1 if last or not dash else sys.maxsize)
+
+
+# The options of several commands.
+_SHARED = {
+    'files': {'nargs': '*', 'default': ['-'], 'metavar': 'FILE', 'help': 'logs; - is standard input, the default'},
+    '--format': {'choices': FORMS, 'default': 'auto', 'metavar': 'NAME',
+                 'help': 'auto (the default); frames or transcript: as `fio2070 show` and `check` read lines'},
+    '--pattern': {'metavar': 'REGEX', 'help': 'a regular expression with the group octets (hexadecimal digits), and if you like time and dir'},
+    '--sdlc': {'action': 'store_true', 'help': 'each line ends with frames that have address, control and frame check; with flags, a frame '
+                                               'may go on in the next line, or row of a dump'},
+    '--no-check': {'action': 'store_true', 'help': 'with --sdlc: each line ends with one frame, without the frame check'},
+    '--line': {'choices': LINES, 'default': '', 'metavar': 'FORM',
+               'help': 'the file is what a line carried: octets, or bits (bits-high-first), one a clock, as a text of 0 and 1 or eight to an octet'},
+    '--address': {'type': line_address, 'metavar': 'HEX',
+                  'help': 'the address of the frames of a line that are judged (14), with or without the control octet (1483), or any'},
+    '--merge': {'action': 'store_true', 'help': 'read the files as one log, in the order of their times: such as one file of each channel'},
+    '-v --verbose': {'action': 'store_true', 'help': 'name each line that is skipped, and why'},
+    '-q --quiet': {'action': 'store_true', 'help': 'write only errors to standard error'},
+    '--at': {'choices': ('auto', 'cpu', 'module', 'bus'), 'default': 'auto',
+             'help': 'where the log was taken; auto: at the CPU where directions say so, else on the bus'},
+    '--start-at-poll': {'action': 'store_true', 'help': 'leave out what comes before the first poll'},
+    '--whole': {'action': 'store_true', 'help': 'the log begins at the start of both ends: then more faults can be found'},
+    '--limits': {'nargs': 2, 'action': Limits, 'default': (BLOCK_ENTRIES, STANDARD_WAITING), 'metavar': ('ENTRIES', 'WAITING'),
+                 'help': 'of the module: the most entries of a block, and the most that wait (%d %d)' % (BLOCK_ENTRIES, STANDARD_WAITING)},
+    '--except': {'action': 'append', 'choices': NAMES, 'default': [], 'dest': 'excepted', 'metavar': 'RULE',
+                 'help': 'leave out breaches of this rule, and count them; may be given again'},
+    '--late-answers': {'action': 'store_true', 'help': 'leave out answers that came late or twice, and count them'},
+    '-r --recursive': {'action': 'store_true', 'help': 'read all files below the folders that are named'},
+    '--jobs': {'type': number_in(1, MOST_ASKED), 'metavar': 'N', 'help': 'with several logs: read this many at a time (all processors)'},
+}
+
+
+def add(parser, *names):
+    """Adds options that other commands have too."""
+    for name in names:
+        parser.add_argument(*name.split(), **_SHARED[name])
+
+
+def add_reading(parser):
+    """Adds the options of all that read logs."""
+    add(parser, 'files', '--format', '--pattern', '--sdlc', '--no-check', '--line', '--address', '--merge', '-v --verbose', '-q --quiet')
+
+
+def add_place(parser):
+    """Adds the options of where and when a log was taken, and of the module's limits."""
+    add(parser, '--at')
+    add(parser.add_mutually_exclusive_group(), '--start-at-poll', '--whole')
+    add(parser, '--limits')
+
+
+def rules_of(option):
+    """What the rules that judge a log are given, by the options of the command line."""
+    given = {name: getattr(option, name) for name in ('at', 'whole', 'limits', 'late_answers') if hasattr(option, name)}
+    return {**given, 'excepted': [*getattr(option, 'excepted', ()), *OWN * getattr(option, 'tees', False)],
+            'with_content': getattr(option, 'rules', 'all') == 'all'}

@@ -11,7 +11,7 @@ MILLI = 1000    # microseconds
 
 def add_arguments(parser):
     options.add_reading(parser)
-    options.add_many(parser)
+    options.add(parser, '-r --recursive', '--jobs')
     parser.add_argument('--json', action='store_true', help='one object; with several logs one for each, and one for all')
 
 
