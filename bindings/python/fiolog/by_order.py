@@ -63,40 +63,35 @@ def end_of_row(text):
     return int(_ROW.match(text)[1], 16) + len(digits) // 2 if digits else None
 
 
-class ByOrder:
+class ByOrder(Texts):
     """Makes batches of lines. `pattern` is an expression with the group `octets`, hexadecimal digits, and perhaps `time` and `dir`;
     `framing` is CHECKED or UNCHECKED for frames of SDLC. `address` is that of the frames that are judged, with the control octet,
     each None for any; by default that of a module in lines with flags, and any in others."""
 
     def __init__(self, pattern=None, framing='', address=None):
-        self.pattern, self.framing = re.compile(pattern) if pattern else None, framing
-        self.address, self.texts = address, Texts()
+        super().__init__()
+        self.pattern, self.framing, self.address = re.compile(pattern) if pattern else None, framing, address
         self.words = fio2070.LogReader()    # reads what is said before octets
         self.heading = NOTHING              # what the last line without octets says
         self.last_row = ''                  # of a dump
         self.sides = {}
 
-    @property
-    def count(self):
-        """How many lines were read."""
-        return self.texts.count
-
     def feed(self, octets):
         """The lines that are whole now."""
-        self.texts.add(octets)
-        return self._of_lines(self.texts.drop(self.texts.count))
+        self.add(octets)
+        return self._of_lines(self.drop(self.count))
 
     def end(self):
         """The line that has no end, and the damage of each side whose last frame has none."""
-        self.texts.end()
-        yield from self._of_lines(self.texts.drop(self.texts.count))
+        self.close()
+        yield from self._of_lines(self.drop(self.count))
         ends = [side.last for side in self.sides.values() if side.is_open and side.decoder]
         yield from made_of(Line(kind=DAMAGED, note=WRONG_CHECK, **line) for line in sorted(ends, key=itemgetter('number')))
 
     def _of_lines(self, lines):
         parts = [self._part(raw) for raw in lines]
         said, events = self._said([one for part in parts for one in part.before]), []
-        for number, (raw, part) in enumerate(zip(lines, parts), self.texts.count - len(lines) + 1):
+        for number, (raw, part) in enumerate(zip(lines, parts), self.count - len(lines) + 1):
             events += self._of_part(number, raw, part, [next(said) for _ in part.before])
         return made_of(events)
 

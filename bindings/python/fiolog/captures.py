@@ -1,6 +1,6 @@
 """Files of captured packets, pcap and pcapng, as the lines of a log: a line for each packet, with its number as Wireshark has it.
 The line has the time, for a UDP datagram a word for its two ends and its octets, and else what the packet is. tools/page/src/captures.js
-does the same."""
+does the same. And frames as a pcapng file."""
 
 import struct
 
@@ -9,7 +9,9 @@ SECTION, ORDER, INTERFACE, SIMPLE, PACKET = 0x0a0d0d0a, 0x1a2b3c4d, 1, 3, 6
 # How such a file begins.
 BEGINNINGS = (SECTION.to_bytes(4, 'big'), *(magic.to_bytes(4, order) for magic in MAGICS for order in ('big', 'little')))
 RESOLUTION, OFFSET, FLAGS = 9, 14, 2                     # options of interfaces and packets
-UPPER_PDU, DISSECTOR_NAME = 252, 12
+UPPER_PDU, DISSECTOR_NAME, DISSECTOR = 252, 12, b'fio2070\0'
+_TAGS = struct.pack('>HH', DISSECTOR_NAME, len(DISSECTOR)) + DISSECTOR + struct.pack('>HH', 0, 0)
+INBOUND, OUTBOUND = 1, 2
 IPV4, IPV6, VLANS = 0x0800, 0x86dd, (0x8100, 0x88a8, 0x9100)
 UDP, FRAGMENT, FURTHER_HEADERS = 17, 44, (0, 43, 44, 60)
 LOOPBACK_FAMILIES = 2, 10, 24, 28, 30
@@ -221,3 +223,29 @@ def lines_of(chunks):
     for chunk in chunks:
         yield lines.feed(chunk)
     yield lines.end()
+
+
+def _written_block(kind, body):
+    length = 12 + len(body)
+    return struct.pack('<II', kind, length) + body + struct.pack('<I', length)
+
+
+class Writer:
+    """Writes frames as a pcapng file, each as it comes: upper PDUs that name their dissector, fio2070.lua. A frame without a time comes
+    a millisecond after the one before."""
+
+    STEP = 0.001
+
+    def __init__(self, out):
+        self.out, self.last = out, -self.STEP
+        out.write(_written_block(SECTION, struct.pack('<IHHq', ORDER, 1, 0, -1)))
+        out.write(_written_block(INTERFACE, struct.pack('<HHI', UPPER_PDU, 0, 0)))
+
+    def add(self, time, direction, octets):
+        """A frame: its time in seconds, `>` or `<`, and its octets."""
+        self.last = self.last + self.STEP if time is None else time
+        data = _TAGS + octets
+        stamp = max(round(self.last * 10 ** 6), 0)
+        options = struct.pack('<HHIHH', FLAGS, 4, OUTBOUND if direction == '>' else INBOUND, 0, 0)
+        self.out.write(_written_block(PACKET, struct.pack('<IIIII', 0, stamp >> 32, stamp & 0xffffffff, len(data), len(data))
+                              + data + bytes(-len(data) % 4) + options))

@@ -6,9 +6,9 @@ import sys
 
 from . import log, options
 from .batch import FRAME
+from .captures import Writer
 from .message import BLOCK, LOST, message_of
 from .output import Refused, made
-from .pcapng import Writer
 from .waveform import Block, draw
 
 

@@ -16,10 +16,10 @@ import time
 
 from . import check, log, options, output, sides, terminal
 from .batch import BAD, DAMAGED, FRAME, LOSSES, OTHER, PASSED, PIECE, POSSIBLE, Line, frame_of, made_of
+from .captures import Writer
 from .counts import UNJUDGED, Counts, in_words
 from .decode import Text, spoken
 from .options import OCTETS, number_in
-from .pcapng import Writer
 from .reader import Reader
 from .waiting import Waiting
 

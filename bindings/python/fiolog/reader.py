@@ -41,7 +41,7 @@ class Texts:
         if len(self.left) > LONGEST_TEXT:
             self.left = self.left[:LONGEST_TEXT] + b'\r' * self.left.endswith(b'\r')
 
-    def end(self):
+    def close(self):
         """Takes the line that has no end, if there is one."""
         self.lines += [self.left] * bool(self.left)
         self.left = b''
@@ -62,44 +62,40 @@ class Texts:
         return dropped
 
 
-class Found:
+class Found(Texts):
     """Makes batches of the octets of a log in which the library finds frames; `form` is one of FORMS."""
 
     def __init__(self, form):
-        self.library, self.texts, self.doubts = fio2070.LogReader(form), Texts(), Doubts()
+        super().__init__()
+        self.library, self.doubts = fio2070.LogReader(form), Doubts()
         self.form, self.has_frames = form, False
         self.told = 0   # the last line with a verdict
 
-    @property
-    def count(self):
-        """How many lines were read."""
-        return self.texts.count
-
     def feed(self, octets):
         """The lines that are certain once these octets are read."""
-        self.texts.add(octets)
+        self.add(octets)
         return self._batches(self.library.batches(octets))
 
     def end(self):
         """The lines that waited."""
-        self.texts.end()
+        self.close()
         return self._batches(self.library.last_batches())
 
     def waiting(self):
         """The lines that have no verdict yet, each with its number."""
-        return list(enumerate(self.texts.lines, self.texts.above + 1))[max(self.told - self.texts.above, 0):]
+        return list(enumerate(self.lines, self.above + 1))[max(self.told - self.above, 0):]
 
     def _batches(self, batches):
         for said in batches:
             first = -1 if self.has_frames else said.kinds.find(LOG_SAYS) if LOG_SAYS in said.kinds else len(said)
             self.has_frames, self.told = first < len(said), said.line(len(said) - 1)
-            batch = Batch(said, self.form == 'transcript', raw_of=self.texts.of, first=first)
+            batch = Batch(said, self.form == 'transcript', raw_of=self.of, first=first)
             if self.form == 'auto':
-                self.doubts.take(batch, self.texts)
+                self.doubts.take(batch, self)
                 yield batch
             else:
                 yield from self._by_form(batch)
-            self.texts.drop(self.told)
+            self.drop(self.told)
 
     def _by_form(self, batch):
         """Lines of the project's own texts: octets that spell no message are those of a frame."""
