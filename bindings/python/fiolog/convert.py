@@ -4,10 +4,12 @@ Wireshark, or the blocks as a VCD file for viewers of waveforms."""
 import contextlib
 import sys
 
+from fio2070.constants import BIT_LOST as LOST
+
 from . import log, options
 from .batch import FRAME
 from .captures import Writer
-from .message import BLOCK, LOST, message_of
+from .message import BLOCK, message_of
 from .output import Refused, made
 from .waveform import Block, draw
 

@@ -6,12 +6,13 @@ from itertools import chain, groupby
 from operator import itemgetter
 
 import fio2070
+from fio2070.constants import BIT_LOST as LOST
 
 from . import hires, log, options, sides, terminal
 from .check import judged
 from .convert import block_of
 from .counts import unjudged_words
-from .message import BLOCK, LOST, POLL, spells
+from .message import BLOCK, POLL, spells
 from .output import Refused
 from .terminal import shown
 from .waveform import draw

@@ -6,14 +6,14 @@ from operator import itemgetter
 from typing import NamedTuple
 
 import fio2070
-from fio2070.constants import CONTENT_IGNORED, LOG_DAMAGED, LOG_PASSED_OVER
+from fio2070.constants import BIT_LOST as LOST, BIT_MORE as MORE, CONTENT_IGNORED, LOG_DAMAGED, LOG_PASSED_OVER
 from fio2070.constants import OUTCOME_BROKEN, OUTCOME_BROKEN_CONTENT, OUTCOME_NOT_JUDGED, OUTCOME_RESTARTED
 from fio2070.constants import TYPE_ANSWER, TYPE_WATCHDOG, WHY_ABOVE_COMMAND, WHY_LATE, WHY_LATE_ABOVE, WHY_LOAD
 from fio2070.constants import WHY_PLACE_LOST, WHY_UNHEARD
 
 from .batch import LOSSES, MISSING, PIECE
 from .log_words import BREACHES, LINE
-from .message import AGAIN, BLOCK, LOST, MORE, message_of, words_of
+from .message import AGAIN, BLOCK, message_of, words_of
 from .protocol import ADVANCE, CONTENT_RULES, INPUTS, RULES, SOURCES
 
 # The note of what is in the place of a frame, and is none.
