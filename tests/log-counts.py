@@ -84,14 +84,14 @@ def by_library(log):
 
 def by_fiolog(log):
     from fiolog.batch import DAMAGED, Line as Event, frame_of, made_of
-    from fiolog.counts import NUMBERS as COUNTED, Counts
+    from fiolog.counts import NUMBERS as COUNTED, TABLES, Counts
     counts = Counts()
     events = [Event(number, DAMAGED) if line.octets is None else frame_of(number, line.octets, time=None if line.time is None else line.time / 1e6)
               for number, line in enumerate(log, 1)]
     for batch in made_of(events):
         counts.take(batch)
-    found = {name: getattr(counts, name) for name in COUNTED}
-    found.update(waits=counts.now.waits, first_reset=counts.first_reset, reset=counts.last_reset)
+    found = {name: getattr(counts, name) for name in (*COUNTED, *TABLES)}
+    found.update(waits=counts.waits, first_reset=counts.first_reset, reset=counts.reset)
     return found, list(counts.responses.kept)
 
 

@@ -94,7 +94,7 @@ class Findings:
         """Notes whether an answer that was not due came late or twice; `counts` are those above the lines."""
         for frame, event, found in () if self.has_late_answers else broken:
             if found.rule == 'pair' or found.is_restart:
-                self.has_late_answers |= is_late(event.octets, batch.octets[:frame], counts.now, found.is_restart)
+                self.has_late_answers |= is_late(event.octets, batch.octets[:frame], counts, found.is_restart)
 
 
 def is_late(octets, above, counts, may_be_due):

@@ -12,8 +12,7 @@ from .batch import BAD, DAMAGED, DOUBTFUL, seconds_of
 # How many response times are kept for the median and the 99th percentile: beyond, every second one, and so on.
 MOST_TIMES = 1 << 16
 # What the library counts: numbers, and tables.
-TABLES = 'types', 'inputs', 'fills'
-NUMBERS = 'frames', 'polls', 'repeats', 'unanswered', 'marks', 'entries', 'restarts', *TABLES
+NUMBERS, TABLES = ('frames', 'polls', 'repeats', 'unanswered', 'marks', 'entries', 'restarts'), ('types', 'inputs', 'fills')
 
 
 class Sample:
@@ -65,11 +64,6 @@ def in_words(name):
     return name.replace('_', ' ')
 
 
-def _sum(name):
-    """A number of the library, with that of the logs above."""
-    return property(lambda self: self._above[name] + getattr(self.now, name))
-
-
 def _timed(said):
     """The first line of a batch and the last that give frames and have a time; None if there is none."""
     timed, kinds = said.timed, said.kinds
@@ -77,27 +71,25 @@ def _timed(said):
     return [next((line for line in part if timed[line] and kinds[line] == LOG_SAYS), None) for part in (lines, reversed(lines))]
 
 
-class Counts:
+class Counts(fio2070.LogCounts):
     """Counts the frames of a log. `a + b` is what two logs, or two parts of a log, count."""
 
-    frames, polls, repeats, unanswered, marks, entries, restarts, types, inputs, fills = map(_sum, NUMBERS)
-
     def __init__(self):
-        self.now = fio2070.LogCounts()      # of the log that is counted
-        self._above = {name: Counter() if name in TABLES else 0 for name in NUMBERS}    # of those above it
-        self._first_reset = self._last_reset = None
+        super().__init__()
         self.damaged, self.responses = 0, Sample()
         self.first = self.last = None       # the times of the first frame and of the last
 
     def __add__(self, other):
-        both = Counts()
-        both.now, both._above = other.now, {name: getattr(self, name) + other._above[name] for name in NUMBERS}
-        # A poll at the end of the first has no answer.
-        both._above['unanswered'] += self.now.waits
-        # The first 177 of the second may be the first to say a restart.
-        both._above['restarts'] += self.last_reset is False and other.first_reset is True
-        both._first_reset = other.first_reset if self.first_reset is None else self.first_reset
-        both._last_reset = self.last_reset if other.last_reset is None else other.last_reset
+        both, ours, theirs = Counts(), self._counts, other._counts
+        for name in NUMBERS:
+            setattr(both._counts, name, getattr(ours, name) + getattr(theirs, name))
+        for name in TABLES:
+            getattr(both._counts, name)[:] = [count + more for count, more in zip(getattr(ours, name), getattr(theirs, name))]
+        # A poll at the end of the first has no answer; the first 177 of the second may be the first to say a restart.
+        both._counts.unanswered += self.waits
+        both._counts.restarts += self.reset is False and other.first_reset is True
+        both._counts.waits, both._counts.has_reset = theirs.waits, ours.has_reset or theirs.has_reset
+        both._counts.first_reset, both._counts.reset = (ours if ours.has_reset else theirs).first_reset, (theirs if theirs.has_reset else ours).reset
         both.damaged, both.responses = self.damaged + other.damaged, self.responses + other.responses
         times = [time for one in (self, other) for time in (one.first, one.last) if time is not None]
         both.first, both.last = min(times, default=None), max(times, default=None)
@@ -107,20 +99,10 @@ class Counts:
         """Counts the frames of a batch; at a line that may have held one it is not known whether the last poll was answered."""
         kinds = batch.kinds_of_events()
         self.damaged += kinds[BAD] + kinds[DAMAGED] + kinds[DOUBTFUL]
-        self.responses.add(self.now.batch(batch.said))
+        self.responses.add(self.batch(batch.said))
         first, last = _timed(batch.said)
         if first is not None:
             self.first, self.last = seconds_of(batch.said.told(first).time) if self.first is None else self.first, seconds_of(batch.said.told(last).time)
-
-    @property
-    def first_reset(self):
-        """Whether the first 177 says that the module was reset; None above it."""
-        return self.now.first_reset if self._first_reset is None else self._first_reset
-
-    @property
-    def last_reset(self):
-        """Whether the last one says so."""
-        return self._last_reset if self.now.reset is None else self.now.reset
 
     def unjudged(self):
         """What is missing by what the module says, by its reason."""
@@ -128,7 +110,7 @@ class Counts:
 
     def in_short(self, is_over=True):
         """The numbers of a summary; while more may come, the last poll still waits for its answer."""
-        lost = self.unanswered + (is_over and self.now.waits)
+        lost = self.unanswered + (is_over and self.waits)
         return {'frames': self.frames, 'polls': self.polls, 'repeats': self.repeats, 'answers_lost': lost, 'gap_marks': self.marks}
 
     @property
