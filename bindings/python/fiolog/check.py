@@ -35,33 +35,26 @@ def _place(event):
 def judged(read, option):
     """The lines of a log, with the breaches and restarts that are certain now and what judges them, which is new for each file; at
     the end of a file None with the others. With --start-at-poll from the first poll on."""
-    judgement, reader = None, None
-    for batch in read.batches():
-        if not (batch.count or any(event.is_loss for _, event in batch.others)):
-            continue
-        if reader is not read.reader or judgement is None:
-            yield from _ended(read, judgement, reader)
-            judgement, reader = sides.Judgement(rules_for(option), read.name if read.has_several else '', not option.start_at_poll), read.reader
-        if option.at in ('cpu', 'bus'):
-            read.balance += batch.balance
-        batch = judgement.opened(batch)
-        yield batch, judgement.take(batch), judgement
-    yield from _ended(read, judgement, reader)
+    for of_log, batches in read.logs():
+        judgement = None
+        for batch in batches:
+            if not (batch.count or any(event.is_loss for _, event in batch.others)):
+                continue
+            judgement = judgement or sides.Judgement(rules_for(option), read.name if read.has_several else '', not option.start_at_poll)
+            if option.at in ('cpu', 'bus'):
+                read.balance += batch.balance
+            batch = judgement.opened(batch)
+            yield batch, judgement.take(batch), judgement
+        if judgement:
+            broken = [(0, *one) for one in judgement.end(of_log.reasons, of_log.kinds[POSSIBLE])]
+            read.judgements.append(judgement)
+            read.unjudged += judgement.unjudged
+            yield None, broken, judgement
 
 
 def rules_for(option):
     """The rules that judge a log, by the options of the command line."""
     return Rules(**options.rules_of(option))
-
-
-def _ended(read, judgement, reader):
-    """The breaches and restarts that were held, at the end of what this reader read, of which is noted what is missing."""
-    if judgement:
-        of_log = read if read.option.merge else reader
-        broken = [(0, *one) for one in judgement.end(of_log.reasons, of_log.kinds[POSSIBLE])]
-        read.judgements.append(judgement)
-        read.unjudged += judgement.unjudged
-        yield None, broken, judgement
 
 
 class Findings:

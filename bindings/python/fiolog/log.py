@@ -95,7 +95,7 @@ class Log:
 
     def __init__(self, option, idle=lambda: None, writes=True):
         self.option, self.idle, self.writes = option, idle, writes
-        self.readers, self.name, self.reader = [Reader(**settings_of(option)) for _ in option.files], '-', None
+        self.readers, self.name = [Reader(**settings_of(option)) for _ in option.files], '-'
         self.has_several = has_several(option)
         self.balance = 0    # of how many more frames the log says another sender than that of their type: above 0 it is of the module's end
         self.judgements, self.unjudged = [], Counter()  # of each file that is judged, and what of them is not, by its reason
@@ -121,10 +121,23 @@ class Log:
         """How many lines are damaged."""
         return sum(self.kinds[kind] for kind in LOSSES if kind != PIECE)
 
+    def logs(self):
+        """Each log as what counts its lines, and its lines: file after file, or all files in the order of time. With -v lines that are skipped
+        are named before the next batch, or as far as the command asks for it by `name_passed`."""
+        if self.option.merge:
+            self.name = self.option.files[0]
+            yield self, self._named(self._merged())
+        else:
+            for self.name, reader in zip(self.option.files, self.readers):
+                yield reader, self._named(self._of_file(self.name, reader))
+
     def batches(self):
-        """All lines, file after file, or of all files in the order of time. With -v lines that are skipped are named before the next
-        batch, or as far as the command asks for it by `name_passed`."""
-        for batch in self._merged() if self.option.merge else self._in_turn():
+        """All lines."""
+        for _, batches in self.logs():
+            yield from batches
+
+    def _named(self, batches):
+        for batch in batches:
             self._unnamed = [one for one in batch.others if one[1].kind in (PASSED, *LOSSES)] if self.option.verbose else []
             yield batch
             self.name_passed(len(batch.kinds))
@@ -147,17 +160,12 @@ class Log:
                 self.name_passed(line + 1)
             yield event
 
-    def _in_turn(self):
-        for self.name, self.reader in zip(self.option.files, self.readers):
-            yield from self._of_file(self.name, self.reader)
-
     def _merged(self):
-        """The lines of all files as of one log, with the first reader in place of all readers."""
+        """The lines of all files as of one log."""
         from . import merge
-        self.name, self.reader = self.option.files[0], self.readers[0]
         both = merge.Merge([merge.File(name, (event for batch in self._of_file(name, reader) for event in batch.events()))
                             for name, reader in zip(self.option.files, self.readers)])
-        yield from made_of(both, self.reader.as_said)
+        yield from made_of(both, self.readers[0].as_said)
         if both.is_apart:
             say('one file ends before another begins: are they of the same link and the same time?')
 
