@@ -8,6 +8,7 @@ from fio2070.constants import WIRE_CONTROL
 
 from .fields import FIELDS
 from .message import BLOCK, LETTERS, POLL
+from .output import Refused
 from .protocol import BLOCK_ENTRIES, CONTENT_RULES, MOST_WAITING, RULES, SOURCES, STANDARD_WAITING
 
 FORMS = 'auto', 'frames', 'transcript'
@@ -19,17 +20,6 @@ MOST_ASKED = 1_000_000
 NAMES = [name for rules in (RULES, CONTENT_RULES) for name, _ in rules.values()]
 # The rules of which no behaviour is of TEES 2009.
 OWN = [name for name, (behaviour, _) in SOURCES.items() if behaviour == 'own profile']
-
-
-class Limits(argparse.Action):
-    """Both limits of a module, in their ranges."""
-
-    def __call__(self, parser, namespace, values, option_string=None):
-        try:
-            limits = [number_in(1, most)(value) for value, most in zip(values, (BLOCK_ENTRIES, MOST_WAITING))]
-        except ValueError:
-            raise argparse.ArgumentError(self, 'a block has 1 to %d entries, and 1 to %d wait' % (BLOCK_ENTRIES, MOST_WAITING)) from None
-        setattr(namespace, self.dest, limits)
 
 
 def number_in(low, high):
@@ -114,7 +104,7 @@ _SHARED = {
              'help': 'where the log was taken; auto: at the CPU where directions say so, else on the bus'},
     '--start-at-poll': {'action': 'store_true', 'help': 'leave out what comes before the first poll'},
     '--whole': {'action': 'store_true', 'help': 'the log begins at the start of both ends: then more faults can be found'},
-    '--limits': {'nargs': 2, 'action': Limits, 'default': (BLOCK_ENTRIES, STANDARD_WAITING), 'metavar': ('ENTRIES', 'WAITING'),
+    '--limits': {'nargs': 2, 'type': int, 'default': (BLOCK_ENTRIES, STANDARD_WAITING), 'metavar': ('ENTRIES', 'WAITING'),
                  'help': 'of the module: the most entries of a block, and the most that wait (%d %d)' % (BLOCK_ENTRIES, STANDARD_WAITING)},
     '--except': {'action': 'append', 'choices': NAMES, 'default': [], 'dest': 'excepted', 'metavar': 'RULE',
                  'help': 'leave out breaches of this rule, and count them; may be given again'},
@@ -143,7 +133,10 @@ def add_place(parser):
 
 
 def rules_of(option):
-    """What the rules that judge a log are given, by the options of the command line."""
+    """What the rules that judge a log are given, by the options of the command line. Raises Refused if the limits are none."""
     given = {name: getattr(option, name) for name in ('at', 'whole', 'limits', 'late_answers') if hasattr(option, name)}
+    entries, waiting = given.get('limits', (1, 1))
+    if not (1 <= entries <= BLOCK_ENTRIES and 1 <= waiting <= MOST_WAITING):
+        raise Refused('--limits: a block has 1 to %d entries, and 1 to %d wait' % (BLOCK_ENTRIES, MOST_WAITING))
     return {**given, 'excepted': [*getattr(option, 'excepted', ()), *OWN * getattr(option, 'tees', False)],
             'with_content': getattr(option, 'rules', 'all') == 'all'}

@@ -31,12 +31,19 @@ def results(work, names, jobs, seen):
     Ctrl-C ended there is none."""
     output.end_at_signals()
     done = {}
+
+    def add(index, found):
+        done[index] = found
+        seen(found)
     try:
-        _together(work, names, jobs, done, seen)
+        _together(work, names, [index for index, name in enumerate(names) if name != '-'], jobs, add)
         for index, name in enumerate(names):
+            if index in done:
+                continue
+            # Its process died, or that of another, or the system lets none begin.
+            is_alone = name != '-' and _together(work, names, [index], 1, add)
             if index not in done:
-                done[index] = work(name) if name == '-' else _alone(work, name)
-                seen(done[index])
+                add(index, DIED if is_alone else work(name))
     except KeyboardInterrupt:
         _end_all()
     return done
@@ -91,27 +98,16 @@ def _pool(jobs):
             raise
 
 
-def _together(work, names, jobs, done, seen):
-    """Does the work in several processes, as far as none of them dies."""
+def _together(work, names, indexes, jobs, add):
+    """Does the work in several processes, as far as none of them dies; returns whether the system lets them begin."""
     try:
         with _pool(jobs) as pool:
             with _held():
-                futures = {pool.submit(work, name): index for index, name in enumerate(names) if name != '-'}
+                futures = {pool.submit(work, names[index]): index for index in indexes}
             for future in as_completed(futures):
-                done[futures[future]] = future.result()
-                seen(done[futures[future]])
-    except (BrokenExecutor, *_NO_PROCESS):
-        pass
-
-
-def _alone(work, name):
-    """Does the work in a process of its own, or in this one if the system lets none begin."""
-    try:
-        with _pool(1) as pool:
-            with _held():
-                future = pool.submit(work, name)
-            return future.result()
+                add(futures[future], future.result())
     except BrokenExecutor:
-        return DIED
+        pass
     except _NO_PROCESS:
-        return work(name)
+        return False
+    return True
