@@ -39,7 +39,8 @@ _MARKS = dict.fromkeys((0, 0xfeff))
 _LETTERS = 'ABCDEFGHIJKLMNOPQRSTUVWXYZabcdefghijklmnopqrstuvwxyz'
 # The most lines of a batch that is made of events, and the most octets of its frames.
 MOST_LINES, MOST_OCTETS = 4096, 1 << 16
-# Who sent a frame, by its type.
+# Who sent a frame, by its type, and as it is shown.
+_WAYS = {LOG_FROM_CPU: '>', LOG_FROM_MODULE: '<'}
 _BY_TYPE = bytes(LOG_FROM_MODULE if code >= TYPE_ANSWER else LOG_FROM_CPU for code in range(256))
 # The kinds of events as the library names them; any other one is passed over.
 _KINDS = {**{kind: kind for kind in (FRAME, BLANK, PART)}, BAD: FRAME, **dict.fromkeys(LOSSES, DAMAGED)}
@@ -212,13 +213,12 @@ class Batch:
         if line in self._made:
             return self._made[line]
         verdict = self.said.told(line)
-        kind, raw, seconds = verdict.kind, self._raw_of(verdict.line), seconds_of(verdict.time)
-        frames = self.octets[self.frames_above(line):self.frames_above(line + 1)] if kind in (FRAME, POSSIBLE) else ()
-        kind = DOUBTFUL if kind == POSSIBLE and line > self._first else kind
+        kind = DOUBTFUL if verdict.kind == POSSIBLE and line > self._first else verdict.kind
+        event = Line(verdict.line, kind, self._raw_of(verdict.line), time=seconds_of(verdict.time), said=verdict.said)
+        frames = range(self.frames_above(line), self.frames_above(line + 1)) if kind in (FRAME, POSSIBLE, DOUBTFUL) else ()
         if not frames:
-            return [Line(verdict.line, kind, raw, b'', seconds, '', REASONS.get(verdict.reason, verdict.reason), verdict.said)]
-        return [Line(verdict.line, kind, raw, octets, seconds, self.as_said and verdict.said or direction_of(octets), '', verdict.said)
-                for octets in frames]
+            return [event._replace(note=REASONS.get(verdict.reason, verdict.reason))]
+        return [event._replace(octets=self.octets[frame], direction=_WAYS[self.senders[frame]]) for frame in frames]
 
     def numbered(self, first=0):
         """The events of the lines from this one on, each with the index of its line."""
