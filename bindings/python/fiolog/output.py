@@ -9,7 +9,7 @@ import signal
 import stat
 import sys
 
-from .terminal import fault_words, say
+from .terminal import fault_words, say, status as status_line
 
 STANDARD = 'standard output'
 STREAMS = {1: STANDARD, 2: 'standard error'}
@@ -228,6 +228,7 @@ def guarded(name, run):
     except OSError as fault:
         say(fault_words(fault), name)
         status = 3
+    status_line.clear()
     try:
         sys.stdout.flush()
     except OSError:

@@ -80,14 +80,17 @@ class Status:
         except OSError:
             room = 0
         self.is_shown = True
-        sys.stderr.write('\r\x1b[K%s\r' % (words[:room] if room > 0 else words))
-        sys.stderr.flush()
+        self._write('\r\x1b[K%s\r' % (words[:room] if room > 0 else words))
 
     def clear(self):
         """Removes the line."""
         if self.is_shown:
             self.is_shown = False
-            sys.stderr.write('\r\x1b[K')
+            self._write('\r\x1b[K')
+
+    def _write(self, text):
+        with contextlib.suppress(OSError):      # nobody sees it
+            sys.stderr.write(text)
             sys.stderr.flush()
 
 
