@@ -72,11 +72,11 @@ def figure(height):
 
 
 def figure_of(logs):
-    """The picture of the blocks of each log."""
-    lanes = lanes_of(logs)
+    """The picture of the blocks of each log, which are read once there is one."""
+    found, lanes = figure(HEAD), lanes_of(logs)
     inputs, gaps, broken = (sum(len(getattr(one, what)) for one in lanes) for what in ('times', 'gaps', 'broken'))
     count = max(inputs, 1)
-    found = figure(HEAD + LANE * min(count, HIGHEST))
+    found.set_figheight(HEAD + LANE * min(count, HIGHEST))
     axes = found.subplots(count, sharex=True, squeeze=False)[:, 0]
     rows = iter(axes)
     for one in lanes:
