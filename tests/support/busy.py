@@ -5,6 +5,7 @@ that failed with its part, the time and the processor time of each part, and las
 import argparse
 import contextlib
 import os
+import signal
 import subprocess
 import sys
 import time
@@ -53,6 +54,13 @@ def main():
     os.sched_setaffinity(0, sorted(os.sched_getaffinity(0))[:2])
     report, paths = Quiet(), checks()
     runs = Runs(report)
+
+    def end(number, _):
+        for process in runs.running:
+            os.killpg(process, number)
+        sys.exit(128 + number)
+    for number in (signal.SIGINT, signal.SIGTERM, signal.SIGHUP):
+        signal.signal(number, end)
     with loops(given.loops):
         for number in range(given.runs):
             begun = time.monotonic()
