@@ -4,21 +4,22 @@ use Rattle.std.specs.Prelude.{not, ◌⊎◌}
 use Rattle.std.specs.List.{AllByRecursion}
 use Rattle.std.proofs.lemmas.Bool.{cases_Bool, and_parts, false≢true}
 use Rattle.std.proofs.lemmas.Bool.Decides.{nat_tests}
-use Rattle.std.proofs.lemmas.List.{append-nil}
-use Rattle.fio_form.specs.Forms.{are_separate, is_space_or_tab, is_decimal, is_hex, is_numeric, is_part, is_shut, are_shut}
+use Rattle.std.proofs.lemmas.List.{append-nil, length-append}
+use Rattle.fio_form.specs.Forms.{are_separate, is_space_or_tab, is_decimal, is_hex, is_last, is_part, is_shut, are_shut}
 use Rattle.fio_form.specs.Fronts.{after_front, has_value, past, taken_parts}
-use Rattle.fio_form.specs.Octets.{next_steps, octets_from, run_in}
-use Rattle.fio_form.specs.Reading.{Other, by_rest, ends_in_front, ends_in_octet, ends_in_form, is_empty, octets_after, octets_by, read_line}
-use Rattle.fio_form.specs.Writing.{AreOctetTexts, AreFrontTexts, Has, IsOctetText, IsOther, IsPiece, AreOctetsIn, begins_octet, cycle_of, decimal_value, is_octet_number, joined, makes_longer, more_text}
+use Rattle.fio_form.specs.Octets.{ends_open, makes_longer, next_steps, octets_from, run_in}
+use Rattle.fio_form.specs.Reading.{Other, by_rest, ends_in_front, ends_in_form, is_empty, octets_after, octets_by, read_line}
+use Rattle.fio_form.specs.Writing.{AreOctetTexts, AreFrontTexts, Has, IsOctetText, IsOther, IsPiece, AreOctetsIn, cycle_of, joined, more_text}
 use Rattle.fio_form.specs.declared.form.LineForm.{LineForm}
 use Rattle.fio_form.specs.declared.form.Digits.{Digits}
-use Rattle.fio_form.specs.declared.form.Digits.TheVariants as digits
+use Rattle.fio_form.specs.declared.octets.Begun.TheVariants.{Nothing}
 use Rattle.fio_form.specs.declared.form.Piece.{Piece}
 use Rattle.fio_form.specs.declared.form.Piece.TheVariants.{Character, Decimal, Hexadecimal, Blanks, Value}
 use Rattle.fio_form.specs.declared.form.Step.{Step}
 use Rattle.fio_form.specs.declared.form.Step.TheVariants.{Octet}
 use Rattle.fio_form.proofs.Fronts.{after_written, begins_part, ends, taken_all}
-use Rattle.fio_form.proofs.OctetTexts.{grows, octet_or_not, octet_read}
+use Rattle.fio_form.proofs.OctetTexts.{goes_same, octet_one, octet_or_not, octet_read}
+use Rattle.fio_form.proofs.OneOctet.{Missing, missing_not, one_cut, read_one}
 use Rattle.fio_form.proofs.Runs.{begun, gaps_apart, more_ends}
 use Rattle.fio_form.proofs.Stepping.{longer}
 use Rattle.fio_form.proofs.Lines.{cycle_parts, first_begins, whole_front}
@@ -56,8 +57,7 @@ divided (y ∷ a) b (x ∷ c) d h = elim (divided a b c d (same_rest y x (a ++ b
 -- ---- The front
 
 ends_empty : (digits : Digits) (values : List ℕ) (front : List Piece) → ends_in_front digits values front [] ≡ true
-ends_empty digits.Pairs values [] = refl
-ends_empty digits.Decimal values [] = refl
+ends_empty digits values [] = refl
 ends_empty digits values (piece ∷ front) = refl
 
 past_none : (piece : Piece) (parts : List ℕ) → AllByRecursion (λ part. is_part piece part ≡ true) parts → past piece parts ≡ []
@@ -100,7 +100,7 @@ piece_cut digits values Value front text x line is within = part_cut digits valu
 record Left (digits : Digits) (values : List ℕ) (front : List Piece) (line more body : List ℕ) : Type 0 where
   left : List ℕ
   is : after_front values front line ≡ Some left
-  ends : ends_in_front digits values front line ≡ ends_in_octet digits left
+  ends : ends_in_front digits values front line ≡ ends_open digits Nothing left
   rest : left ++ more ≡ body
 
 -- what begins a text that goes on with another one
@@ -128,19 +128,19 @@ with_piece digits values piece front (x ∷ text) line more body left is whole a
       rest = rest.rest;
     }
 
-cut_front : (digits : Digits) (values : List ℕ) (front : List Piece) (texts : List (List ℕ)) (line more body : List ℕ) → AreFrontTexts values front texts → are_shut front ≡ true
-    → ((piece : Piece) → not (is_numeric piece) ≡ true → begins_part piece body ≡ false) → line ++ more ≡ joined texts ++ body
+cut_front : (digits : Digits) (values : List ℕ) (front : List Piece) (texts : List (List ℕ)) (line more body : List ℕ) → AreFrontTexts values front texts → are_shut digits front ≡ true
+    → ((piece : Piece) → is_last digits piece ≡ true → begins_part piece body ≡ false) → line ++ more ≡ joined texts ++ body
     → (ends_in_front digits values front line ≡ true) ⊎ Left digits values front line more body
 cut_front digits values [] [] line more body are whole octet is = inr (record { left = line; is = refl; ends = refl; rest = is })
 cut_front digits values [] (text ∷ texts) line more body are whole octet is = absurd are
 cut_front digits values (piece ∷ front) [] line more body are whole octet is = absurd are
 cut_front digits values (piece ∷ front) (text ∷ texts) [] more body are whole octet is = inl refl
 cut_front digits values (piece ∷ front) (text ∷ texts) (x ∷ line) more body are whole octet is =
-    let parts = and_parts (is_shut piece front) (are_shut front) whole in
+    let parts = and_parts (is_shut digits piece front) (are_shut digits front) whole in
     elim (divided (x ∷ line) more text (joined texts ++ body) (is ∙ append_assoc text (joined texts) body)) [
       | inr within ↦ inl (piece_cut digits values piece front text x line are.0 within)
       | inl on ↦ (
-          let apart = begins_same piece on.more more (joined texts ++ body) on.rest (ends values piece front texts body are.1 parts.0 octet) in
+          let apart = begins_same piece on.more more (joined texts ++ body) on.rest (ends digits values piece front texts body are.1 parts.0 octet) in
           elim (cut_front digits values front texts on.more more body are.1 parts.1 octet on.rest) [
             | inr left ↦ inr (with_piece digits values piece front text (x ∷ line) more body on.more are.0 on.is apart left)
             | inl cut ↦ inl (cut_after piece front text (x ∷ line) on.more are.0 on.is apart cut)
@@ -165,63 +165,32 @@ cut_front digits values (piece ∷ front) (text ∷ texts) (x ∷ line) more bod
 
 -- ---- The first octet
 
-pair_cut : (octet : ℕ) (initial left more body : List ℕ) → IsOctetText digits.Pairs octet initial → left ++ more ≡ initial ++ body
-    → (ends_in_octet digits.Pairs left ≡ true) ⊎ (begins_octet digits.Pairs left ≡ true)
-pair_cut octet [] left more body is whole = absurd is
-pair_cut octet (high ∷ []) left more body is whole = absurd is
-pair_cut octet (high ∷ (low ∷ (x ∷ initial))) left more body is whole = absurd is
-pair_cut octet (high ∷ (low ∷ [])) [] more body is whole = inl refl
-pair_cut octet (high ∷ (low ∷ [])) (x ∷ []) more body is whole = inl (ap is_hex (same_head x high more (low ∷ body) whole) ∙ is.0)
-pair_cut octet (high ∷ (low ∷ [])) (x ∷ (y ∷ left)) more body is whole =
-    let first : is_hex x ≡ true = ap is_hex (same_head x high (y ∷ (left ++ more)) (low ∷ body) whole) ∙ is.0 in
-    let second : is_hex y ≡ true = ap is_hex (same_head y low (left ++ more) body (same_rest x high (y ∷ (left ++ more)) (low ∷ body) whole)) ∙ is.1 in
-    inr (rw first second)
-
-decimal_parts : (value : ℕ) (a b : List ℕ) → decimal_value value (a ++ b) ≡ decimal_value (decimal_value value a) b
-decimal_parts value [] b = refl
-decimal_parts value (d ∷ a) b = decimal_parts (10 * value + (d - 48)) a b
-
-number_begins : (x : ℕ) (text : List ℕ) → decimal_value 0 (x ∷ text) < 256 → is_octet_number (x ∷ text) ≡ true
-number_begins x text small = grind (arith, nat_tests)
-
-makes_same : (a b d : List ℕ) → a ++ b ≡ d → makes_longer digits.Decimal d ≡ false → begins_part Decimal a ≡ false
-makes_same [] b d is apart = refl
-makes_same (x ∷ a) b d is apart = ap (makes_longer digits.Decimal) is ∙ apart
-
-number_cut : (octet : ℕ) (initial left more body : List ℕ) → IsOctetText digits.Decimal octet initial → makes_longer digits.Decimal body ≡ false → left ++ more ≡ initial ++ body
-    → (ends_in_octet digits.Decimal left ≡ true) ⊎ (begins_octet digits.Decimal left ≡ true)
-number_cut octet initial [] more body is apart whole = inl refl
-number_cut octet [] (x ∷ left) more body is apart whole = absurd (is.0.0 refl)
-number_cut octet (d ∷ initial) (x ∷ left) more body is apart whole = elim (divided (x ∷ left) more (d ∷ initial) body whole) [
-  | inl on ↦ (
-      let all = taken_all Decimal (d ∷ initial) on.more is.0.1 (makes_same on.more more body on.rest apart) in
-      let same : taken_parts Decimal (x ∷ left) ≡ d ∷ initial = ap (taken_parts Decimal) on.is ∙ all in
-      let small : decimal_value 0 (d ∷ initial) < 256 = subst (λ (v : ℕ). v < 256) is.1 is.2 in
-      inr (ap is_octet_number same ∙ number_begins d initial small))
-  | inr within ↦ (
-      let parts = all_first is_decimal (x ∷ left) within.next within.more (subst (λ (t : List ℕ). AllByRecursion (λ y. is_decimal y ≡ true) t) within.is is.0.1) in
-      let same : taken_parts Decimal (x ∷ left) ≡ x ∷ left = ap (taken_parts Decimal) (sym (append-nil (x ∷ left))) ∙ taken_all Decimal (x ∷ left) [] parts refl in
-      let more_ = grows (decimal_value 0 (x ∷ left)) (within.next ∷ within.more) in
-      let value : octet ≡ decimal_value (decimal_value 0 (x ∷ left)) (within.next ∷ within.more) = is.1 ∙ (ap (decimal_value 0) within.is ∙ decimal_parts 0 (x ∷ left) (within.next ∷ within.more)) in
-      let small : decimal_value 0 (x ∷ left) < 256 = omega (arith, more_, value, is.2) in
-      inr (ap is_octet_number same ∙ number_begins x left small))
-]
+makes_same : (digits : Digits) (a b d : List ℕ) → a ++ b ≡ d → makes_longer digits d ≡ false → makes_longer digits a ≡ false
+makes_same digits [] b d is apart = refl
+makes_same digits (x ∷ a) b d is apart = ap (makes_longer digits) is ∙ apart
 
 octet_cut : (digits : Digits) (octets initial : List ℕ) (texts : List (List ℕ)) (left more body : List ℕ) → AreOctetTexts digits octets (initial ∷ texts) → makes_longer digits body ≡ false → left ++ more ≡ initial ++ body
-    → (ends_in_octet digits left ≡ true) ⊎ (begins_octet digits left ≡ true)
+    → (ends_open digits Nothing left ≡ true) ⊎ (read_one digits Nothing left ≢ Missing)
 octet_cut digits [] initial texts left more body are apart whole = absurd are
-octet_cut digits.Pairs (octet ∷ octets) initial texts left more body are apart whole = pair_cut octet initial left more body are.0 whole
-octet_cut digits.Decimal (octet ∷ octets) initial texts left more body are apart whole = number_cut octet initial left more body are.0 apart whole
+octet_cut digits (octet ∷ octets) initial texts left more body are apart whole = elim (divided left more initial body whole) [
+  | inl on ↦ (
+      let here = octet_one digits octet initial on.more are.0 (makes_same digits on.more more body on.rest apart) in
+      inr (λ none. missing_not octet on.more (sym none ∙ (ap (read_one digits Nothing) on.is ∙ here))))
+  | inr within ↦ (
+      let same = append_assoc left (within.next ∷ within.more) body in
+      let here = ap (read_one digits Nothing) (sym same) ∙ (ap (λ t. read_one digits Nothing (t ++ body)) (sym within.is) ∙ octet_one digits octet initial body are.0 apart) in
+      one_cut digits (goes_same digits) Nothing left (within.next ∷ (within.more ++ body)) body octet (omega (arith, length-append within.more body)) here)
+]
 
 -- a text that begins with an octet has one
-has_octet : (digits : Digits) (first : List ℕ) (others : List (List ℕ)) (text : List ℕ) → begins_octet digits text ≡ true → run_in digits (cycle_of (first ∷ others)) text ≢ []
+has_octet : (digits : Digits) (first : List ℕ) (others : List (List ℕ)) (text : List ℕ) → read_one digits Nothing text ≢ Missing → run_in digits (cycle_of (first ∷ others)) text ≢ []
 has_octet digits first others text begins none = elim (octet_or_not digits text) [
-  | inl not_ ↦ absurd (false≢true (sym not_ ∙ begins))
+  | inl not_ ↦ absurd (begins not_)
   | inr one ↦ (
-      let steps = ap (λ (steps : List Step). octets_from digits (cycle_of (first ∷ others)) steps false 0 [] text) (sym (begun first (cycle_of others))) ∙ none in
+      let steps = ap (λ (steps : List Step). octets_from digits (cycle_of (first ∷ others)) steps Nothing [] text) (sym (begun first (cycle_of others))) ∙ none in
       let here = octet_read digits (cycle_of (first ∷ others)) (cycle_of others) one.octet one.written [] one.rest one.is one.apart in
-      let all = sym here ∙ (ap (λ t. octets_from digits (cycle_of (first ∷ others)) (Octet ∷ cycle_of others) false 0 [] t) (sym one.whole) ∙ steps) in
-      let some = longer digits (cycle_of (first ∷ others)) (next_steps (cycle_of (first ∷ others)) (cycle_of others)) false 0 (one.octet ∷ []) one.rest in
+      let all = sym here ∙ (ap (λ t. octets_from digits (cycle_of (first ∷ others)) (Octet ∷ cycle_of others) Nothing [] t) (sym one.whole) ∙ steps) in
+      let some = longer digits (cycle_of (first ∷ others)) (next_steps (cycle_of (first ∷ others)) (cycle_of others)) Nothing (one.octet ∷ []) one.rest in
       absurd (omega (arith, some, ap length all)))
 ]
 

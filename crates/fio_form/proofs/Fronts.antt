@@ -4,9 +4,10 @@ use Rattle.std.specs.Prelude.{not, ◌==◌, ◌⊎◌}
 use Rattle.std.specs.List.{AllByRecursion}
 use Rattle.std.proofs.lemmas.Bool.{and_parts, not-true, cases_Bool, false≢true, eqb-true}
 use Rattle.std.proofs.lemmas.Bool.Decides.{nat_tests}
-use Rattle.fio_form.specs.Forms.{is_space_or_tab, is_blanks, is_decimal, is_hex, is_numeric, is_part, is_shut, are_shut}
+use Rattle.fio_form.specs.Forms.{is_space_or_tab, is_blanks, is_decimal, is_hex, is_last, is_numeric, is_part, is_shut, are_shut}
 use Rattle.fio_form.specs.Fronts.{after_front, after_piece, has_value, past, taken_parts}
 use Rattle.fio_form.specs.Writing.{AreSome, IsPiece, AreFrontTexts, joined}
+use Rattle.fio_form.specs.declared.form.Digits.{Digits}
 use Rattle.fio_form.specs.declared.form.Piece.{Piece}
 use Rattle.fio_form.specs.declared.form.Piece.TheVariants.{Character, Decimal, Hexadecimal, Blanks, Value}
 
@@ -92,27 +93,27 @@ some_apart test piece (x ∷ text) rest some apart = apart x some.1.0
 mark_apart : (piece : Piece) (mark : ℕ) (text rest : List ℕ) → text ≡ mark ∷ [] → not (is_part piece mark) ≡ true → begins_part piece (text ++ rest) ≡ false
 mark_apart piece mark text rest is shut = rw is (not-true (is_part piece mark) shut)
 
-pub ends : (values : List ℕ) (piece : Piece) (front : List Piece) (texts : List (List ℕ)) (rest : List ℕ) → AreFrontTexts values front texts → is_shut piece front ≡ true
-    → ((piece : Piece) → not (is_numeric piece) ≡ true → begins_part piece rest ≡ false) → begins_part piece (joined texts ++ rest) ≡ false
-ends values piece [] [] rest are shut octet = octet piece shut
-ends values piece [] (text ∷ texts) rest are shut octet = absurd are
-ends values piece (next ∷ front) [] rest are shut octet = absurd are
-ends values piece (Character mark ∷ front) (text ∷ texts) rest are shut octet = rw append_assoc (mark_apart piece mark text (joined texts ++ rest) are.0 shut)
-ends values piece (Blanks ∷ front) (text ∷ texts) rest are shut octet = rw append_assoc (some_apart is_space_or_tab piece text (joined texts ++ rest) are.0 (λ x. blank_apart piece x shut))
-ends values piece (Decimal ∷ front) (text ∷ texts) rest are shut octet =
+pub ends : (digits : Digits) (values : List ℕ) (piece : Piece) (front : List Piece) (texts : List (List ℕ)) (rest : List ℕ) → AreFrontTexts values front texts → is_shut digits piece front ≡ true
+    → ((piece : Piece) → is_last digits piece ≡ true → begins_part piece rest ≡ false) → begins_part piece (joined texts ++ rest) ≡ false
+ends digits values piece [] [] rest are shut octet = octet piece shut
+ends digits values piece [] (text ∷ texts) rest are shut octet = absurd are
+ends digits values piece (next ∷ front) [] rest are shut octet = absurd are
+ends digits values piece (Character mark ∷ front) (text ∷ texts) rest are shut octet = rw append_assoc (mark_apart piece mark text (joined texts ++ rest) are.0 shut)
+ends digits values piece (Blanks ∷ front) (text ∷ texts) rest are shut octet = rw append_assoc (some_apart is_space_or_tab piece text (joined texts ++ rest) are.0 (λ x. blank_apart piece x shut))
+ends digits values piece (Decimal ∷ front) (text ∷ texts) rest are shut octet =
     rw append_assoc (some_apart is_decimal piece text (joined texts ++ rest) are.0 (λ x is. digit_apart piece x shut (decimal_hex x is)))
-ends values piece (Hexadecimal ∷ front) (text ∷ texts) rest are shut octet = rw append_assoc (some_apart is_hex piece text (joined texts ++ rest) are.0 (λ x. digit_apart piece x shut))
-ends values piece (Value ∷ front) (text ∷ texts) rest are shut octet = rw append_assoc (some_apart is_hex piece text (joined texts ++ rest) are.0.0 (λ x. digit_apart piece x shut))
+ends digits values piece (Hexadecimal ∷ front) (text ∷ texts) rest are shut octet = rw append_assoc (some_apart is_hex piece text (joined texts ++ rest) are.0 (λ x. digit_apart piece x shut))
+ends digits values piece (Value ∷ front) (text ∷ texts) rest are shut octet = rw append_assoc (some_apart is_hex piece text (joined texts ++ rest) are.0.0 (λ x. digit_apart piece x shut))
 
-pub front_read : (values : List ℕ) (front : List Piece) (texts : List (List ℕ)) (rest : List ℕ) → AreFrontTexts values front texts → are_shut front ≡ true
-    → ((piece : Piece) → not (is_numeric piece) ≡ true → begins_part piece rest ≡ false) → after_front values front (joined texts ++ rest) ≡ Some rest
-front_read values [] [] rest are whole octet = refl
-front_read values [] (text ∷ texts) rest are whole octet = absurd are
-front_read values (piece ∷ front) [] rest are whole octet = absurd are
-front_read values (piece ∷ front) (text ∷ texts) rest are whole octet =
-    let parts = and_parts (is_shut piece front) (are_shut front) whole in
-    let here = after_written values piece text (joined texts ++ rest) are.0 (ends values piece front texts rest are.1 parts.0 octet) in
-    rw append_assoc (rw here (front_read values front texts rest are.1 parts.1 octet))
+pub front_read : (digits : Digits) (values : List ℕ) (front : List Piece) (texts : List (List ℕ)) (rest : List ℕ) → AreFrontTexts values front texts → are_shut digits front ≡ true
+    → ((piece : Piece) → is_last digits piece ≡ true → begins_part piece rest ≡ false) → after_front values front (joined texts ++ rest) ≡ Some rest
+front_read digits values [] [] rest are whole octet = refl
+front_read digits values [] (text ∷ texts) rest are whole octet = absurd are
+front_read digits values (piece ∷ front) [] rest are whole octet = absurd are
+front_read digits values (piece ∷ front) (text ∷ texts) rest are whole octet =
+    let parts = and_parts (is_shut digits piece front) (are_shut digits front) whole in
+    let here = after_written values piece text (joined texts ++ rest) are.0 (ends digits values piece front texts rest are.1 parts.0 octet) in
+    rw append_assoc (rw here (front_read digits values front texts rest are.1 parts.1 octet))
 
 -- ---- What is read is written
 

@@ -3,7 +3,11 @@ pub mod Values
 pub mod MessageSize
 pub mod Ends
 pub mod Fronts
+pub mod OneOctet
+pub mod FixedTexts
+pub mod NumberTexts
 pub mod OctetTexts
+pub mod Gaps
 pub mod Runs
 pub mod Lines
 pub mod Logs

@@ -1,55 +1,57 @@
 -- What is written of a line is what is read.
 use Rattle.std.proofs.Common.{◌≡◌, ◌≢◌, ℕ, ◌+◌, ◌-◌, ◌<◌, Some, None, true, false, List, [], ◌∷◌, ◌++◌, length, refl, sym, ap, ◌∙◌, append_assoc, subst, inl, inr, arith}
-use Rattle.std.specs.Prelude.{Option, not, nat_lt, ◌&&◌, drop, take}
+use Rattle.std.specs.Prelude.{Option, nat_lt, ◌&&◌, drop, take}
 use Rattle.std.proofs.lemmas.Bool.{cases_Bool, false≢true, and_parts, ltb-true}
 use Rattle.std.proofs.lemmas.Bool.Decides.{nat_tests}
 use Rattle.std.proofs.lemmas.List.{length-append, length-drop, length-take-le, take-append-drop, drop_at, take_at}
 use Rattle.fio_message.specs.Decoding.{message_in}
-use Rattle.fio_form.specs.Forms.{are_separate, ends_with_octet, is_numeric, are_shut}
+use Rattle.fio_form.specs.Forms.{are_separate, ends_with_octet, is_last, are_shut}
 use Rattle.fio_form.specs.Fronts.{after_front}
-use Rattle.fio_form.specs.Octets.{octets_from, run_in}
+use Rattle.fio_form.specs.Octets.{makes_longer, octets_from, run_in}
 use Rattle.fio_form.specs.Reading.{Frame, Damaged, octets_between, is_message, said_by_octets, octets_after, octets_by}
-use Rattle.fio_form.specs.Writing.{AreOctetTexts, AreOctetsIn, IsWrittenLine, cycle_of, has_next_octet, joined, makes_longer, more_text, next_gap}
+use Rattle.fio_form.specs.Writing.{AreOctetTexts, AreOctetsIn, BeginsOctet, IsWrittenLine, cycle_of, joined, more_text, next_gap}
 use Rattle.fio_form.specs.declared.form.LineForm.{LineForm}
 use Rattle.fio_form.specs.declared.form.Digits.{Digits}
 use Rattle.fio_form.specs.declared.form.Piece.{Piece}
 use Rattle.fio_form.specs.declared.form.Step.{Step}
 use Rattle.fio_form.specs.declared.form.Step.TheVariants.{Octet}
+use Rattle.fio_form.specs.declared.octets.Begun.TheVariants.{Nothing}
 use Rattle.fio_form.proofs.Fronts.{begins_part, front_read, written_front}
-use Rattle.fio_form.proofs.OctetTexts.{Begun, begun_or_not, octet_begins, octet_read, stops}
+use Rattle.fio_form.proofs.Gaps.{begun_or_not, stops}
+use Rattle.fio_form.proofs.OctetTexts.{octet_begins, octet_read}
 use Rattle.fio_form.proofs.Runs.{AreApart, More, begun, cycle_gaps, gaps_apart, left_next, more_ends, more_read, more_written}
 
 -- ---- The parts of a form
 
-pub whole_front : (form : LineForm) → are_shut form.front.items ≡ true
-whole_front form = (and_parts (are_shut form.front.items) (ends_with_octet false form.cycle.items && are_separate form.digits form.cycle.items) form.whole).0
+pub whole_front : (form : LineForm) → are_shut form.digits form.front.items ≡ true
+whole_front form = (and_parts (are_shut form.digits form.front.items) (ends_with_octet false form.cycle.items && are_separate form.digits form.cycle.items) form.whole).0
 
 pub cycle_parts : (form : LineForm) → (ends_with_octet false form.cycle.items ≡ true) × (are_separate form.digits form.cycle.items ≡ true)
 cycle_parts form = and_parts (ends_with_octet false form.cycle.items) (are_separate form.digits form.cycle.items)
-    (and_parts (are_shut form.front.items) (ends_with_octet false form.cycle.items && are_separate form.digits form.cycle.items) form.whole).1
+    (and_parts (are_shut form.digits form.front.items) (ends_with_octet false form.cycle.items && are_separate form.digits form.cycle.items) form.whole).1
 
 -- ---- What is written is read
 
 first_read : (digits : Digits) (first : List ℕ) (others : List (List ℕ)) (octets : List ℕ) (initial : List ℕ) (texts : List (List ℕ)) (tail : List ℕ)
     → AreApart digits (first ∷ others) → AreOctetTexts digits octets (initial ∷ texts)
-    → has_next_octet digits (next_gap first others others texts) tail ≡ false → makes_longer digits tail ≡ false
+    → (BeginsOctet digits (next_gap first others others texts) tail → ⊥) → makes_longer digits tail ≡ false
     → run_in digits (cycle_of (first ∷ others)) (initial ++ (more_text first others others texts ++ tail)) ≡ octets
 first_read digits first others [] initial texts tail apart spelled ends short = absurd spelled
 first_read digits first others (octet ∷ octets) initial texts tail apart spelled ends short =
-    ap (λ (steps : List Step). octets_from digits (cycle_of (first ∷ others)) steps false 0 [] (initial ++ (more_text first others others texts ++ tail))) (begun first (cycle_of others))
+    ap (λ (steps : List Step). octets_from digits (cycle_of (first ∷ others)) steps Nothing [] (initial ++ (more_text first others others texts ++ tail))) (begun first (cycle_of others))
     ∙ (octet_read digits (cycle_of (first ∷ others)) (cycle_of others) octet initial [] (more_text first others others texts ++ tail) spelled.0 (more_ends digits first others others texts tail apart.0 apart.1 short)
-    ∙ (ap (λ (steps : List Step). octets_from digits (cycle_of (first ∷ others)) steps false 0 (octet ∷ []) (more_text first others others texts ++ tail)) (left_next first others others)
+    ∙ (ap (λ (steps : List Step). octets_from digits (cycle_of (first ∷ others)) steps Nothing (octet ∷ []) (more_text first others others texts ++ tail)) (left_next first others others)
     ∙ more_read digits first others others (octet ∷ []) octets texts tail apart.0 apart.1 apart.1 spelled.1 ends short))
 
 pub first_begins : (digits : Digits) (octets initial : List ℕ) (texts : List (List ℕ)) (rest : List ℕ) → AreOctetTexts digits octets (initial ∷ texts)
-    → (piece : Piece) → not (is_numeric piece) ≡ true → begins_part piece (initial ++ rest) ≡ false
+    → (piece : Piece) → is_last digits piece ≡ true → begins_part piece (initial ++ rest) ≡ false
 first_begins digits [] initial texts rest spelled piece not_ = absurd spelled
 first_begins digits (octet ∷ octets) initial texts rest spelled piece not_ = octet_begins digits octet initial rest spelled.0 piece not_
 
 pub run_read : (form : LineForm) (octets line : List ℕ) → AreOctetsIn form octets line → octets_by form line ≡ octets
 run_read form octets line run =
     let text = run.initial ++ (more_text run.first run.others run.others run.texts ++ run.tail) in
-    let found = front_read form.values.items form.front.items run.front text run.pieces (whole_front form)
+    let found = front_read form.digits form.values.items form.front.items run.front text run.pieces (whole_front form)
     (first_begins form.digits octets run.initial run.texts (more_text run.first run.others run.others run.texts ++ run.tail) run.spelled) in
     let apart = gaps_apart form.digits (run.first ∷ run.others) (subst (λ (cycle : List Step). are_separate form.digits cycle ≡ true) run.gaps (cycle_parts form).1) in
     let read = first_read form.digits run.first run.others octets run.initial run.texts run.tail apart run.spelled run.ends run.apart in
@@ -65,11 +67,11 @@ record Whole (digits : Digits) (first : List ℕ) (others : List (List ℕ)) (al
   texts : List (List ℕ)
   tail : List ℕ
   spelled : AreOctetTexts digits all (initial ∷ texts)
-  ends : has_next_octet digits (next_gap first others others texts) tail ≡ false
+  ends : BeginsOctet digits (next_gap first others others texts) tail → ⊥
   apart : makes_longer digits tail ≡ false
   whole : text ≡ initial ++ (more_text first others others texts ++ tail)
 
-whole_of : (digits : Digits) (first : List ℕ) (others : List (List ℕ)) (all text : List ℕ) (one : Begun digits [] text)
+whole_of : (digits : Digits) (first : List ℕ) (others : List (List ℕ)) (all text : List ℕ) (one : BeginsOctet digits [] text)
     → More digits first others others (one.octet ∷ []) all one.rest → Whole digits first others all text
 whole_of digits first others all text one more = record {
   initial = one.written;
@@ -84,13 +86,13 @@ whole_of digits first others all text one more = record {
 octets_written : (digits : Digits) (first : List ℕ) (others : List (List ℕ)) (all text : List ℕ)
     → run_in digits (cycle_of (first ∷ others)) text ≡ all → all ≢ [] → Whole digits first others all text
 octets_written digits first others all text read some =
-    let from_first = ap (λ (steps : List Step). octets_from digits (cycle_of (first ∷ others)) steps false 0 [] text) (sym (begun first (cycle_of others))) ∙ read in
+    let from_first = ap (λ (steps : List Step). octets_from digits (cycle_of (first ∷ others)) steps Nothing [] text) (sym (begun first (cycle_of others))) ∙ read in
     elim (begun_or_not digits [] text) [
       | inl ends ↦ absurd (some (sym from_first ∙ stops digits (cycle_of (first ∷ others)) (cycle_of others) [] [] text ends))
       | inr one ↦ (
           let here = octet_read digits (cycle_of (first ∷ others)) (cycle_of others) one.octet one.written [] one.rest one.is one.apart in
-          let next = ap (λ (steps : List Step). octets_from digits (cycle_of (first ∷ others)) steps false 0 (one.octet ∷ []) one.rest) (left_next first others others) in
-          let rest = sym next ∙ (sym here ∙ (ap (λ t. octets_from digits (cycle_of (first ∷ others)) (Octet ∷ cycle_of others) false 0 [] t) (sym one.whole) ∙ from_first)) in
+          let next = ap (λ (steps : List Step). octets_from digits (cycle_of (first ∷ others)) steps Nothing (one.octet ∷ []) one.rest) (left_next first others others) in
+          let rest = sym next ∙ (sym here ∙ (ap (λ t. octets_from digits (cycle_of (first ∷ others)) (Octet ∷ cycle_of others) Nothing [] t) (sym one.whole) ∙ from_first)) in
           whole_of digits first others all text one
           (more_written digits first others (length one.rest) others (one.octet ∷ []) all one.rest (omega arith) one.apart rest))
     ]

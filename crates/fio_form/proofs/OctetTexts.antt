@@ -1,221 +1,304 @@
 -- An octet that is written is the one that is read.
-use Rattle.std.proofs.Common.{◌≡◌, ℕ, ◌+◌, ◌-◌, ◌*◌, ◌%◌, ◌<◌, ◌≤◌, true, false, Bool, List, [], ◌∷◌, ◌++◌, length, refl, sym, ap, ◌∙◌, eq-eqb, inl, inr, arith}
-use Rattle.std.specs.Prelude.{not, nat_lt, ◌==◌, ◌&&◌, map, ◌⊎◌}
+use Rattle.std.proofs.Common.{◌≡◌, ◌≢◌, ℕ, ◌+◌, ◌-◌, ◌*◌, ◌<◌, ◌≤◌, true, false, Bool, List, [], ◌∷◌, ◌++◌, length, refl, sym, ap, ◌∙◌, append_assoc, inl, inr, arith}
+use Rattle.std.specs.Prelude.{not, nat_lt, ◌==◌, ◌⊎◌}
 use Rattle.std.specs.List.{AllByRecursion}
-use Rattle.std.proofs.lemmas.Bool.{cases_Bool, not-false, not-true, eqb-true, ltb-true, ltb-false}
+use Rattle.std.proofs.lemmas.Bool.{and_parts, cases_Bool, eqb-true, false≢true}
 use Rattle.std.proofs.lemmas.Bool.Decides.{nat_tests}
-use Rattle.fio_form.specs.Forms.{hex_value, is_decimal, is_hex, is_numeric}
-use Rattle.fio_form.specs.Fronts.{taken_parts, past}
-use Rattle.fio_form.specs.Octets.{next_steps, octets_from, if_mark}
-use Rattle.fio_form.specs.Writing.{IsOctetText, begins_octet, decimal_value, has_next_octet, is_octet_number, makes_longer}
+use Rattle.fio_form.specs.Forms.{hex_value, is_blanks, is_decimal, is_fixed, is_hex, is_last, is_numeric, is_part}
+use Rattle.fio_form.specs.Octets.{makes_longer, next_in, next_negative, next_unsigned, next_steps, octets_from}
+use Rattle.fio_form.specs.Writing.{BeginsOctet, IsDecimalText, IsFixedText, IsNegativeText, IsNumberText, IsOctetText, decimal_value, value_in_base}
 use Rattle.fio_form.specs.declared.form.Digits.{Digits}
 use Rattle.fio_form.specs.declared.form.Digits.TheVariants as digits
 use Rattle.fio_form.specs.declared.form.Step.{Step}
-use Rattle.fio_form.specs.declared.form.Step.TheVariants.{Octet, Mark}
+use Rattle.fio_form.specs.declared.form.Step.TheVariants.{Octet}
 use Rattle.fio_form.specs.declared.form.Piece.{Piece}
-use Rattle.fio_form.specs.declared.form.Piece.TheVariants.{Decimal}
-use Rattle.fio_form.proofs.Fronts.{begins_part, decimal_hex, digit_apart, not_empty, past_ends, taken_are, taken_past}
+use Rattle.fio_form.specs.declared.form.Piece.TheVariants.{Character, Decimal, Hexadecimal, Blanks, Value}
+use Rattle.fio_form.specs.declared.octets.Begun.{Begun}
+use Rattle.fio_form.specs.declared.octets.Begun.TheVariants.{Nothing, Fixed, Number, Negative}
+use Rattle.fio_form.proofs.Fronts.{begins_part, decimal_hex, digit_apart, not_empty}
+use Rattle.fio_form.proofs.FixedTexts.{IsFixedBy, fixed_or_not, fixed_read}
+use Rattle.fio_form.proofs.NumberTexts.{AreDecimal, AreNumbers, grows, negative_or_not, negative_read, number_or_not, number_read}
+use Rattle.fio_form.proofs.OneOctet.{At, Missing, after_found, fold_one, goes_on, read_one}
 
--- ---- Two hexadecimal digits
+-- ---- What is written is read
 
-hex_most : (x : ℕ) → hex_value x ≤ 16
-hex_most x = grind (arith, nat_tests)
+fixed_one : (digits : Digits) (base width : ℕ) → IsFixedBy digits base width → ((value : ℕ) → value ≤ base * value) → 0 < width → (octet : ℕ) (text rest : List ℕ)
+    → IsFixedText base width octet text → read_one digits Nothing (text ++ rest) ≡ At octet rest
+fixed_one digits base width same up some octet text rest is =
+    fixed_read digits base width same up Nothing text rest (omega (arith, some, is.0)) is.0 is.1 (omega (arith, is.2, is.3)) ∙ ap (λ o. At o rest) (sym is.2)
 
-hex_low : (x : ℕ) → is_hex x ≡ true → hex_value x < 16
-hex_low x so =
-    let other : (hex_value x == 16) ≡ false = not-true (hex_value x == 16) so in
-    let most = hex_most x in
-    grind (arith, nat_tests)
+few : (most value : ℕ) → value ≤ most → nat_lt most value ≡ false
+few most value small = grind (arith, nat_tests)
 
-pair_read : (cycle steps : List Step) (octet high low : ℕ) (done rest : List ℕ) → IsOctetText digits.Pairs octet (high ∷ low ∷ [])
-    → octets_from digits.Pairs cycle (Octet ∷ steps) false 0 done (high ∷ low ∷ rest)
-    ≡ octets_from digits.Pairs cycle (next_steps cycle steps) false 0 (done ++ octet ∷ []) rest
-pair_read cycle steps octet high low done rest is =
-    let small : hex_value high < 16 = hex_low high is.0 in
-    let whole : hex_value high % 16 ≡ hex_value high = omega arith in
-    let first : (hex_value high == 16) ≡ false = not-true (hex_value high == 16) is.0 in
-    let second : (hex_value low == 16) ≡ false = not-true (hex_value low == 16) is.1 in
-    let value : 16 * (hex_value high % 16) + hex_value low ≡ octet = ap (λ h. 16 * h + hex_value low) whole ∙ sym is.2 in
-    rw first (rw second (ap (λ o. octets_from digits.Pairs cycle (next_steps cycle steps) false 0 (done ++ o ∷ []) rest) value))
+-- what a first digit does
+abbrev IsFirst : Digits → Type 0
+IsFirst digits = (x : ℕ) (longer : Bool) → is_decimal x ≡ true → next_in digits Nothing x longer ≡ next_unsigned 0 x longer
 
--- ---- A decimal number
+number_one : (digits : Digits) → IsFirst digits → AreNumbers digits → AreDecimal digits → (octet : ℕ) (text rest : List ℕ) → IsNumberText octet text → makes_longer digits rest ≡ false
+    → read_one digits Nothing (text ++ rest) ≡ At octet rest
+number_one digits first same decimal octet [] rest is apart = absurd (is.0.0 refl)
+number_one digits first same decimal octet (d ∷ text) rest is apart =
+    let more = grows (10 * 0 + (d - 48)) text in
+    let small : decimal_value (10 * 0 + (d - 48)) text < 256 = omega (arith, is.1, is.2) in
+    rw (first d (makes_longer digits (text ++ rest)) is.0.1.0) (rw (is.0.1.0) (rw (few 255 (10 * 0 + (d - 48)) (omega (arith, more, small)))
+    (number_read digits same decimal (10 * 0 + (d - 48)) text rest is.0.1.1 small apart ∙ ap (λ o. At o rest) (sym is.1))))
 
-pub grows : (value : ℕ) (text : List ℕ) → value ≤ decimal_value value text
-grows value [] = omega arith
-grows value (digit ∷ text) = omega (arith, grows (10 * value + (digit - 48)) text)
+negative_one : (octet : ℕ) (text rest : List ℕ) → IsNegativeText octet text → makes_longer digits.Decimal rest ≡ false → read_one digits.Decimal (Negative 0) (text ++ rest) ≡ At octet rest
+negative_one octet [] rest is apart = absurd (is.0.0 refl)
+negative_one octet (d ∷ text) rest is apart =
+    let more = grows (10 * 0 + (d - 48)) text in
+    let small : decimal_value (10 * 0 + (d - 48)) text < 129 = is.3 in
+    rw (is.0.1.0) (rw (few 128 (10 * 0 + (d - 48)) (omega (arith, more, small)))
+    (negative_read digits.Decimal (λ value x longer. refl) (λ x. refl) (10 * 0 + (d - 48)) text rest is.0.1.1 is.2 small apart ∙ ap (λ o. At o rest) (sym is.1)))
 
-after_number : (cycle steps : List Step) (x : ℕ) (octets text : List ℕ) → is_decimal x ≡ false
-    → if_mark steps x octets (λ left. octets_from digits.Decimal cycle (next_steps cycle left) false 0 octets text)
-    ≡ octets_from digits.Decimal cycle steps false 0 octets (x ∷ text)
-after_number cycle [] x octets text none = refl
-after_number cycle (Octet ∷ steps) x octets text none = rw none refl
-after_number cycle (Mark mark ∷ steps) x octets text none = refl
+not_sign : (x : ℕ) → is_decimal x ≡ true → (x == 45) ≡ false
+not_sign x digit = grind (arith, nat_tests)
 
-decimal_more : (cycle steps : List Step) (value : ℕ) (done text rest : List ℕ) → AllByRecursion (λ digit. is_decimal digit ≡ true) text
-    → decimal_value value text < 256 → makes_longer digits.Decimal rest ≡ false
-    → octets_from digits.Decimal cycle (Octet ∷ steps) true value done (text ++ rest)
-    ≡ octets_from digits.Decimal cycle (next_steps cycle steps) false 0 (done ++ decimal_value value text ∷ []) rest
-decimal_more cycle steps value done [] [] all small ends = refl
-decimal_more cycle steps value done [] (x ∷ rest) all small ends = rw ends (after_number cycle (next_steps cycle steps) x (done ++ value ∷ []) rest ends)
-decimal_more cycle steps value done (d ∷ text) rest all small ends =
-    let more = grows (10 * value + (d - 48)) text in
-    let fits : nat_lt 255 (10 * value + (d - 48)) ≡ false = grind (arith, nat_tests) in
-    rw (all.0) (rw fits (decimal_more cycle steps (10 * value + (d - 48)) done text rest all.1 small ends))
+not_blank : (x : ℕ) → is_decimal x ≡ true → (x == 32) ≡ false
+not_blank x digit = grind (arith, nat_tests)
 
-from_zero : (d : ℕ) (text : List ℕ) → decimal_value 0 (d ∷ text) ≡ decimal_value (d - 48) text
-from_zero d text =
-    let same : 10 * 0 + (d - 48) ≡ d - 48 = omega arith in
-    ap (λ v. decimal_value v text) same
+decimal_first : IsFirst digits.Decimal
+decimal_first x longer digit = rw (not_sign x digit) refl
 
-number_read : (cycle steps : List Step) (octet d : ℕ) (done text rest : List ℕ) → IsOctetText digits.Decimal octet (d ∷ text) → makes_longer digits.Decimal rest ≡ false
-    → octets_from digits.Decimal cycle (Octet ∷ steps) false 0 done (d ∷ (text ++ rest))
-    ≡ octets_from digits.Decimal cycle (next_steps cycle steps) false 0 (done ++ octet ∷ []) rest
-number_read cycle steps octet d done text rest is ends =
-    let same : decimal_value (d - 48) text ≡ octet = sym (from_zero d text) ∙ sym is.1 in
-    let small : decimal_value (d - 48) text < 256 = omega (arith, same, is.2) in
-    rw (is.0.1.0) (decimal_more cycle steps (d - 48) done text rest is.0.1.1 small ends
-    ∙ ap (λ o. octets_from digits.Decimal cycle (next_steps cycle steps) false 0 (done ++ o ∷ []) rest) same)
+column_first : IsFirst digits.Columns
+column_first x longer digit = rw (not_blank x digit) refl
 
--- ---- An octet
+decimal_one : (octet : ℕ) (text rest : List ℕ) → IsDecimalText octet text → makes_longer digits.Decimal rest ≡ false → read_one digits.Decimal Nothing (text ++ rest) ≡ At octet rest
+decimal_one octet [] rest is apart = absurd is
+decimal_one octet (x ∷ text) rest is apart = elim is [
+  | inl number ↦ number_one digits.Decimal decimal_first (λ value x longer. refl) (λ x. refl) octet (x ∷ text) rest number apart
+  | inr negative ↦ rw (negative.0) (negative_one octet text rest negative.1 apart)
+]
+
+blanks_one : (octet : ℕ) (blanks number rest : List ℕ) → AllByRecursion (λ blank. blank ≡ 32) blanks → IsNumberText octet number → makes_longer digits.Columns rest ≡ false
+    → read_one digits.Columns Nothing (blanks ++ (number ++ rest)) ≡ At octet rest
+blanks_one octet [] number rest all is apart = number_one digits.Columns column_first (λ value x longer. refl) (λ x. refl) octet number rest is apart
+blanks_one octet (blank ∷ blanks) number rest all is apart = rw (all.0) (blanks_one octet blanks number rest all.1 is apart)
+
+pub octet_one : (digits : Digits) (octet : ℕ) (text rest : List ℕ) → IsOctetText digits octet text → makes_longer digits rest ≡ false
+    → read_one digits Nothing (text ++ rest) ≡ At octet rest
+octet_one digits.Pairs octet text rest is apart = fixed_one digits.Pairs 16 2 (λ begun x longer. refl) (λ value. omega arith) (omega arith) octet text rest is
+octet_one digits.Octal octet text rest is apart = fixed_one digits.Octal 8 3 (λ begun x longer. refl) (λ value. omega arith) (omega arith) octet text rest is
+octet_one digits.Binary octet text rest is apart = fixed_one digits.Binary 2 8 (λ begun x longer. refl) (λ value. omega arith) (omega arith) octet text rest is
+octet_one digits.Decimal octet text rest is apart = decimal_one octet text rest is apart
+octet_one digits.Columns octet text rest is apart =
+    ap (λ t. read_one digits.Columns Nothing (t ++ rest)) is.whole
+    ∙ (ap (read_one digits.Columns Nothing) (append_assoc is.blanks is.number rest) ∙ blanks_one octet is.blanks is.number rest is.all is.is apart)
 
 pub octet_read : (digits : Digits) (cycle steps : List Step) (octet : ℕ) (text done rest : List ℕ) → IsOctetText digits octet text → makes_longer digits rest ≡ false
-    → octets_from digits cycle (Octet ∷ steps) false 0 done (text ++ rest)
-    ≡ octets_from digits cycle (next_steps cycle steps) false 0 (done ++ octet ∷ []) rest
-octet_read digits.Pairs cycle steps octet [] done rest is ends = absurd is
-octet_read digits.Pairs cycle steps octet (high ∷ []) done rest is ends = absurd is
-octet_read digits.Pairs cycle steps octet (high ∷ (low ∷ [])) done rest is ends = pair_read cycle steps octet high low done rest is
-octet_read digits.Pairs cycle steps octet (high ∷ (low ∷ (x ∷ text))) done rest is ends = absurd is
-octet_read digits.Decimal cycle steps octet [] done rest is ends = absurd (is.0.0 refl)
-octet_read digits.Decimal cycle steps octet (d ∷ text) done rest is ends = number_read cycle steps octet d done text rest is ends
+    → octets_from digits cycle (Octet ∷ steps) Nothing done (text ++ rest)
+    ≡ octets_from digits cycle (next_steps cycle steps) Nothing (done ++ octet ∷ []) rest
+octet_read digits cycle steps octet text done rest is apart =
+    fold_one digits cycle steps Nothing done (text ++ rest)
+    ∙ ap (λ found. after_found found done (λ last rest. octets_from digits cycle (next_steps cycle steps) Nothing (done ++ last ∷ []) rest)) (octet_one digits octet text rest is apart)
 
--- an octet begins with a digit
-pub octet_begins : (digits : Digits) (octet : ℕ) (text rest : List ℕ) → IsOctetText digits octet text → (piece : Piece) → not (is_numeric piece) ≡ true
+-- ---- What an octet begins with
+
+hex_of : (base x : ℕ) → base ≤ 16 → nat_lt (hex_value x) base ≡ true → is_hex x ≡ true
+hex_of base x most is = grind (arith, nat_tests)
+
+fixed_begins : (base width octet : ℕ) → 0 < width → base ≤ 16 → (text rest : List ℕ) → IsFixedText base width octet text → (piece : Piece) → not (is_numeric piece) ≡ true
     → begins_part piece (text ++ rest) ≡ false
-octet_begins digits.Pairs octet [] rest is piece none = absurd is
-octet_begins digits.Pairs octet (high ∷ []) rest is piece none = absurd is
-octet_begins digits.Pairs octet (high ∷ (low ∷ [])) rest is piece none = digit_apart piece high none is.0
-octet_begins digits.Pairs octet (high ∷ (low ∷ (x ∷ text))) rest is piece none = absurd is
-octet_begins digits.Decimal octet [] rest is piece none = absurd (is.0.0 refl)
-octet_begins digits.Decimal octet (d ∷ text) rest is piece none = digit_apart piece d none (decimal_hex d is.0.1.0)
+fixed_begins base width octet some most [] rest is piece none = absurd (omega (arith, some, is.0))
+fixed_begins base width octet some most (x ∷ text) rest is piece none = digit_apart piece x none (hex_of base x most is.1.0)
+
+number_begins : (octet : ℕ) (text rest : List ℕ) → IsNumberText octet text → (piece : Piece) → not (is_numeric piece) ≡ true → begins_part piece (text ++ rest) ≡ false
+number_begins octet [] rest is piece none = absurd (is.0.0 refl)
+number_begins octet (d ∷ text) rest is piece none = digit_apart piece d none (decimal_hex d is.0.1.0)
+
+sign_apart : (piece : Piece) → not (is_numeric piece) ≡ true → is_part piece 45 ≡ false
+sign_apart (Character mark) none = refl
+sign_apart Blanks none = refl
+sign_apart Decimal none = refl
+sign_apart Hexadecimal none = refl
+sign_apart Value none = refl
+
+decimal_begins : (octet : ℕ) (text rest : List ℕ) → IsDecimalText octet text → (piece : Piece) → not (is_numeric piece) ≡ true → begins_part piece (text ++ rest) ≡ false
+decimal_begins octet [] rest is piece none = absurd is
+decimal_begins octet (x ∷ text) rest is piece none = elim is [
+  | inl number ↦ number_begins octet (x ∷ text) rest number piece none
+  | inr negative ↦ rw (negative.0) (sign_apart piece none)
+]
+
+space_apart : (piece : Piece) → not (is_blanks piece) ≡ true → is_part piece 32 ≡ false
+space_apart (Character mark) none = refl
+space_apart Blanks none = absurd (false≢true none)
+space_apart Decimal none = refl
+space_apart Hexadecimal none = refl
+space_apart Value none = refl
+
+column_begins : (octet : ℕ) (blanks number rest : List ℕ) → AllByRecursion (λ blank. blank ≡ 32) blanks → IsNumberText octet number → (piece : Piece) → not (is_numeric piece) ≡ true → not (is_blanks piece) ≡ true
+    → begins_part piece ((blanks ++ number) ++ rest) ≡ false
+column_begins octet [] number rest all is piece none not_ = number_begins octet number rest is piece none
+column_begins octet (blank ∷ blanks) number rest all is piece none not_ = rw (all.0) (space_apart piece not_)
+
+pub octet_begins : (digits : Digits) (octet : ℕ) (text rest : List ℕ) → IsOctetText digits octet text → (piece : Piece) → is_last digits piece ≡ true
+    → begins_part piece (text ++ rest) ≡ false
+octet_begins digits.Pairs octet text rest is piece last = fixed_begins 16 2 octet (omega arith) (omega arith) text rest is piece (and_parts (not (is_numeric piece)) true last).0
+octet_begins digits.Octal octet text rest is piece last = fixed_begins 8 3 octet (omega arith) (omega arith) text rest is piece (and_parts (not (is_numeric piece)) true last).0
+octet_begins digits.Binary octet text rest is piece last = fixed_begins 2 8 octet (omega arith) (omega arith) text rest is piece (and_parts (not (is_numeric piece)) true last).0
+octet_begins digits.Decimal octet text rest is piece last = decimal_begins octet text rest is piece (and_parts (not (is_numeric piece)) true last).0
+octet_begins digits.Columns octet text rest is piece last =
+    let parts = and_parts (not (is_numeric piece)) (not (is_blanks piece)) last in
+    ap (λ t. begins_part piece (t ++ rest)) is.whole ∙ column_begins octet is.blanks is.number rest is.all is.is piece parts.0 parts.1
+
+some_text : (text : List ℕ) → text ≢ [] → 0 < length text
+some_text [] some = absurd (some refl)
+some_text (x ∷ text) some = omega arith
 
 pub octet_some : (digits : Digits) (octet : ℕ) (text : List ℕ) → IsOctetText digits octet text → 0 < length text
-octet_some digits.Pairs octet [] is = absurd is
-octet_some digits.Pairs octet (high ∷ text) is = omega arith
-octet_some digits.Decimal octet [] is = absurd (is.0.0 refl)
-octet_some digits.Decimal octet (d ∷ text) is = omega arith
-
--- ---- No octet
-
-so_not : (a b : Bool) → a ≡ true → (a && b) ≡ false → b ≡ false
-so_not a b so h = rw so at h
-
-too_large : (cycle steps : List Step) (value : ℕ) (done text : List ℕ) → value < 256 → 256 ≤ decimal_value value (taken_parts Decimal text)
-    → octets_from digits.Decimal cycle (Octet ∷ steps) true value done text ≡ done
-too_large cycle steps value done [] small large = absurd (omega arith)
-too_large cycle steps value done (x ∷ text) small large = elim (cases_Bool (is_decimal x)) [
-  | inl digit ↦ elim (cases_Bool (nat_lt 255 (10 * value + (x - 48)))) [
-    | inl many ↦ rw digit (rw many refl)
-    | inr few ↦ rw digit (rw few (too_large cycle steps (10 * value + (x - 48)) done text (omega (arith, ltb-false 255 (10 * value + (x - 48)) few)) (rw digit at large)))
-  ]
-  | inr other ↦ (let same : 256 ≤ value = rw other at large in absurd (omega arith))
-]
-
-no_octet : (digits : Digits) (cycle steps : List Step) (done text : List ℕ) → begins_octet digits text ≡ false
-    → octets_from digits cycle (Octet ∷ steps) false 0 done text ≡ done
-no_octet digits.Pairs cycle steps done [] ends = refl
-no_octet digits.Pairs cycle steps done (high ∷ []) ends = elim (cases_Bool (hex_value high == 16)) [
-  | inl no_digit ↦ rw no_digit refl
-  | inr digit ↦ rw digit refl
-]
-no_octet digits.Pairs cycle steps done (high ∷ (low ∷ text)) ends = elim (cases_Bool (hex_value high == 16)) [
-  | inl no_digit ↦ rw no_digit refl
-  | inr digit ↦ (
-      let so : is_hex high ≡ true = rw digit refl in
-      let last : (hex_value low == 16) ≡ true = not-false (hex_value low == 16) (so_not (is_hex high) (is_hex low) so ends) in
-      rw digit (rw last refl))
-]
-no_octet digits.Decimal cycle steps done [] ends = refl
-no_octet digits.Decimal cycle steps done (x ∷ text) ends = elim (cases_Bool (is_decimal x)) [
-  | inl digit ↦ (
-      let large : nat_lt (decimal_value 0 (x ∷ taken_parts Decimal text)) 256 ≡ false = rw digit at ends in
-      let most : 256 ≤ decimal_value (x - 48) (taken_parts Decimal text) = omega (arith, ltb-false (decimal_value 0 (x ∷ taken_parts Decimal text)) 256 large, from_zero x (taken_parts Decimal text)) in
-      rw digit (too_large cycle steps (x - 48) done text (digit_small x digit) most))
-  | inr other ↦ rw other refl
-]
+octet_some digits.Pairs octet text is = omega (arith, is.0)
+octet_some digits.Octal octet text is = omega (arith, is.0)
+octet_some digits.Binary octet text is = omega (arith, is.0)
+octet_some digits.Decimal octet [] is = absurd is
+octet_some digits.Decimal octet (x ∷ text) is = omega arith
+octet_some digits.Columns octet text is = omega (arith, ap length is.whole, length_of is.blanks is.number, some_text is.number is.is.0.0)
   where
-    digit_small : (x : ℕ) → is_decimal x ≡ true → x - 48 < 256
-    digit_small x digit = grind (arith, nat_tests)
-
--- ---- The gap before an octet
-
-next_marks : (cycle : List Step) (gap : List ℕ) (steps : List Step) → next_steps cycle (map Mark gap ++ Octet ∷ steps) ≡ map Mark gap ++ Octet ∷ steps
-next_marks cycle [] steps = refl
-next_marks cycle (mark ∷ gap) steps = refl
-
-pub gap_read : (digits : Digits) (cycle steps : List Step) (gap done text : List ℕ)
-    → octets_from digits cycle (map Mark gap ++ Octet ∷ steps) false 0 done (gap ++ text) ≡ octets_from digits cycle (Octet ∷ steps) false 0 done text
-gap_read digits cycle steps [] done text = refl
-gap_read digits cycle steps (mark ∷ gap) done text = rw (eq-eqb mark mark refl) (rw (next_marks cycle gap steps) (gap_read digits cycle steps gap done text))
-
-pub stops : (digits : Digits) (cycle steps : List Step) (gap done text : List ℕ) → has_next_octet digits gap text ≡ false
-    → octets_from digits cycle (map Mark gap ++ Octet ∷ steps) false 0 done text ≡ done
-stops digits cycle steps [] done text ends = no_octet digits cycle steps done text ends
-stops digits.Pairs cycle steps (mark ∷ gap) done [] ends = refl
-stops digits.Decimal cycle steps (mark ∷ gap) done [] ends = refl
-stops digits cycle steps (mark ∷ gap) done (x ∷ text) ends = elim (cases_Bool (x == mark)) [
-  | inl same ↦ rw same (rw (next_marks cycle gap steps) (stops digits cycle steps gap done text (so_not (x == mark) (has_next_octet digits gap text) same ends)))
-  | inr other ↦ rw other refl
-]
+    length_of : (a b : List ℕ) → length b ≤ length (a ++ b)
+    length_of [] b = omega arith
+    length_of (x ∷ a) b = omega (arith, length_of a b)
 
 -- ---- What is read is written
 
--- a text that begins with a gap and an octet
-pub record Begun (digits : Digits) (gap text : List ℕ) : Type 0 where
-  pub octet : ℕ
-  pub written : List ℕ
-  pub rest : List ℕ
-  pub is : IsOctetText digits octet written
-  pub apart : makes_longer digits rest ≡ false
-  pub whole : text ≡ gap ++ (written ++ rest)
+pub fixed_short : (digits : Digits) (text : List ℕ) → is_fixed digits ≡ true → makes_longer digits text ≡ false
+fixed_short digits [] is = refl
+fixed_short digits (x ∷ text) is = rw is refl
 
-number_or_not : (text digits_of_it rest : List ℕ) → text ≡ digits_of_it ++ rest → AllByRecursion (λ digit. is_decimal digit ≡ true) digits_of_it → makes_longer digits.Decimal rest ≡ false
-    → (is_octet_number digits_of_it ≡ false) ⊎ Begun digits.Decimal [] text
-number_or_not text [] rest whole all ends = inl refl
-number_or_not text (d ∷ more) rest whole all ends = elim (cases_Bool (nat_lt (decimal_value 0 (d ∷ more)) 256)) [
-  | inl small ↦ inr (record { octet = decimal_value 0 (d ∷ more); written = d ∷ more; rest = rest; is = ((not_empty d more, all), refl, ltb-true (decimal_value 0 (d ∷ more)) 256 small); apart = ends; whole = whole })
-  | inr large ↦ inl large
+fixed_found : (digits : Digits) (base width : ℕ) → IsFixedBy digits base width → is_fixed digits ≡ true → 0 < width
+    → ((octet : ℕ) (text : List ℕ) → IsFixedText base width octet text → IsOctetText digits octet text) → (text : List ℕ)
+    → (read_one digits Nothing text ≡ Missing) ⊎ BeginsOctet digits [] text
+fixed_found digits base width same fixed some is_text text = elim (fixed_or_not digits base width same Nothing text some) [
+  | inl none ↦ inl none
+  | inr one ↦ inr (record {
+    octet = value_in_base base 0 one.written;
+    written = one.written;
+    rest = one.rest;
+    is = is_text (value_in_base base 0 one.written) one.written (one.size, one.all, refl, one.small);
+    apart = fixed_short digits one.rest fixed;
+    whole = one.whole;
+  })
 ]
 
-past_apart : (text : List ℕ) → begins_part Decimal text ≡ false → makes_longer digits.Decimal text ≡ false
-past_apart [] ends = refl
-past_apart (x ∷ text) ends = ends
+digit_few : (x : ℕ) → is_decimal x ≡ true → 10 * 0 + (x - 48) < 10
+digit_few x digit = grind (arith, nat_tests)
 
-pub octet_or_not : (digits : Digits) (text : List ℕ) → (begins_octet digits text ≡ false) ⊎ Begun digits [] text
-octet_or_not digits.Pairs [] = inl refl
-octet_or_not digits.Pairs (high ∷ []) = inl refl
-octet_or_not digits.Pairs (high ∷ (low ∷ text)) = elim (cases_Bool (is_hex high)) [
-  | inl first ↦ elim (cases_Bool (is_hex low)) [
-    | inl second ↦ inr (record { octet = 16 * hex_value high + hex_value low; written = high ∷ low ∷ []; rest = text; is = (first, second, refl); apart = refl; whole = refl })
-    | inr other ↦ inl (rw first (rw other refl))
-  ]
+number_found : (digits : Digits) → IsFirst digits → AreNumbers digits → AreDecimal digits
+    → ((octet d : ℕ) (text : List ℕ) → IsNumberText octet (d ∷ text) → IsOctetText digits octet (d ∷ text)) → (x : ℕ) (text : List ℕ) → is_decimal x ≡ true
+    → (read_one digits Nothing (x ∷ text) ≡ Missing) ⊎ BeginsOctet digits [] (x ∷ text)
+number_found digits first same decimal is_text x text digit =
+    let fits = few 255 (10 * 0 + (x - 48)) (omega (arith, digit_few x digit)) in
+    elim (number_or_not digits same decimal (10 * 0 + (x - 48)) text (omega (arith, digit_few x digit))) [
+      | inl none ↦ inl (rw (first x (makes_longer digits text) digit) (rw digit (rw fits none)))
+      | inr one ↦ inr (record {
+        octet = decimal_value 0 (x ∷ one.written);
+        written = x ∷ one.written;
+        rest = one.rest;
+        is = is_text (decimal_value 0 (x ∷ one.written)) x one.written ((not_empty x one.written, (digit, one.all)), refl, one.small);
+        apart = one.apart;
+        whole = ap (λ t. x ∷ t) one.whole;
+      })
+    ]
+
+negative_found : (sign : ℕ) (text : List ℕ) → sign ≡ 45 → (read_one digits.Decimal (Negative 0) text ≡ Missing) ⊎ BeginsOctet digits.Decimal [] (sign ∷ text)
+negative_found sign [] same = inl refl
+negative_found sign (x ∷ text) same = elim (cases_Bool (is_decimal x)) [
   | inr other ↦ inl (rw other refl)
+  | inl digit ↦ (
+      let fits = few 128 (10 * 0 + (x - 48)) (omega (arith, digit_few x digit)) in
+      elim (negative_or_not digits.Decimal (λ value x longer. refl) (λ x. refl) (10 * 0 + (x - 48)) text (omega (arith, digit_few x digit))) [
+        | inl none ↦ inl (rw digit (rw fits none))
+        | inr one ↦ inr (record {
+          octet = 256 - decimal_value 0 (x ∷ one.written);
+          written = sign ∷ (x ∷ one.written);
+          rest = one.rest;
+          is = inr (same, ((not_empty x one.written, (digit, one.all)), refl, one.some, one.small));
+          apart = one.apart;
+          whole = ap (λ t. sign ∷ (x ∷ t)) one.whole;
+        })
+      ])
 ]
-octet_or_not digits.Decimal text = number_or_not text (taken_parts Decimal text) (past Decimal text) (taken_past Decimal text) (taken_are Decimal text) (past_apart (past Decimal text) (past_ends Decimal text))
 
-pub begun_or_not : (digits : Digits) (gap text : List ℕ) → (has_next_octet digits gap text ≡ false) ⊎ Begun digits gap text
-begun_or_not digits [] text = octet_or_not digits text
-begun_or_not digits (mark ∷ gap) [] = inl refl
-begun_or_not digits (mark ∷ gap) (x ∷ text) = elim (cases_Bool (x == mark)) [
-  | inl same ↦ elim (begun_or_not digits gap text) [
-    | inl ends ↦ inl (rw same ends)
-    | inr more ↦ inr (record {
-      octet = more.octet;
-      written = more.written;
-      rest = more.rest;
-      is = more.is;
-      apart = more.apart;
-      whole = ap (λ t. x ∷ t) more.whole ∙ ap (λ m. m ∷ (gap ++ (more.written ++ more.rest))) (eqb-true x mark same);
+decimal_found : (text : List ℕ) → (read_one digits.Decimal Nothing text ≡ Missing) ⊎ BeginsOctet digits.Decimal [] text
+decimal_found [] = inl refl
+decimal_found (x ∷ text) = elim (cases_Bool (x == 45)) [
+  | inl sign ↦ elim (negative_found x text (eqb-true x 45 sign)) [
+    | inl none ↦ inl (rw sign none)
+    | inr one ↦ inr one
+  ]
+  | inr plain ↦ elim (cases_Bool (is_decimal x)) [
+    | inl digit ↦ number_found digits.Decimal decimal_first (λ value x longer. refl) (λ x. refl) (λ octet d text is. inl is) x text digit
+    | inr other ↦ inl (rw plain (rw other refl))
+  ]
+]
+
+column_found : (text : List ℕ) → (read_one digits.Columns Nothing text ≡ Missing) ⊎ BeginsOctet digits.Columns [] text
+column_found [] = inl refl
+column_found (x ∷ text) = elim (cases_Bool (x == 32)) [
+  | inl blank ↦ elim (column_found text) [
+    | inl none ↦ inl (rw blank none)
+    | inr one ↦ inr (record {
+      octet = one.octet;
+      written = x ∷ one.written;
+      rest = one.rest;
+      is = record { blanks = x ∷ one.is.blanks; number = one.is.number; all = (eqb-true x 32 blank, one.is.all); is = one.is.is; whole = ap (λ t. x ∷ t) one.is.whole };
+      apart = one.apart;
+      whole = ap (λ t. x ∷ t) one.whole;
     })
   ]
-  | inr other ↦ inl (rw other refl)
+  | inr plain ↦ elim (cases_Bool (is_decimal x)) [
+    | inl digit ↦ number_found digits.Columns column_first (λ value x longer. refl) (λ x. refl)
+        (λ octet d text is. record { blanks = []; number = d ∷ text; all = tt; is = is; whole = refl }) x text digit
+    | inr other ↦ inl (rw plain (rw other refl))
+  ]
 ]
+
+pub octet_or_not : (digits : Digits) (text : List ℕ) → (read_one digits Nothing text ≡ Missing) ⊎ BeginsOctet digits [] text
+octet_or_not digits.Pairs text = fixed_found digits.Pairs 16 2 (λ begun x longer. refl) refl (omega arith) (λ octet text is. is) text
+octet_or_not digits.Octal text = fixed_found digits.Octal 8 3 (λ begun x longer. refl) refl (omega arith) (λ octet text is. is) text
+octet_or_not digits.Binary text = fixed_found digits.Binary 2 8 (λ begun x longer. refl) refl (omega arith) (λ octet text is. is) text
+octet_or_not digits.Decimal text = decimal_found text
+octet_or_not digits.Columns text = column_found text
+
+-- ---- A digit that more come after goes on without them
+
+number_same : (value x : ℕ) (longer : Bool) → goes_on (next_unsigned value x longer) ≡ goes_on (next_unsigned value x false)
+number_same value x false = refl
+number_same value x true = elim (cases_Bool (is_decimal x)) [
+  | inr other ↦ rw other refl
+  | inl digit ↦ elim (cases_Bool (nat_lt 255 (10 * value + (x - 48)))) [
+    | inl many ↦ rw digit (rw many refl)
+    | inr fits ↦ rw digit (rw fits refl)
+  ]
+]
+
+negative_same : (value x : ℕ) (longer : Bool) → goes_on (next_negative value x longer) ≡ goes_on (next_negative value x false)
+negative_same value x false = refl
+negative_same value x true = elim (cases_Bool (is_decimal x)) [
+  | inr other ↦ rw other refl
+  | inl digit ↦ elim (cases_Bool (nat_lt 128 (10 * value + (x - 48)))) [
+    | inl many ↦ rw digit (rw many refl)
+    | inr fits ↦ elim (cases_Bool (10 * value + (x - 48) == 0)) [
+      | inl zero ↦ rw digit (rw fits (rw zero refl))
+      | inr some ↦ rw digit (rw fits (rw some refl))
+    ]
+  ]
+]
+
+pub goes_same : (digits : Digits) (begun : Begun) (x : ℕ) (longer : Bool) → goes_on (next_in digits begun x longer) ≡ goes_on (next_in digits begun x false)
+goes_same digits.Pairs begun x longer = refl
+goes_same digits.Octal begun x longer = refl
+goes_same digits.Binary begun x longer = refl
+goes_same digits.Decimal Nothing x longer = elim (cases_Bool (x == 45)) [
+  | inl sign ↦ rw sign refl
+  | inr plain ↦ rw plain (number_same 0 x longer)
+]
+goes_same digits.Decimal (Number value) x longer = number_same value x longer
+goes_same digits.Decimal (Negative value) x longer = negative_same value x longer
+goes_same digits.Decimal (Fixed value left) x longer = refl
+goes_same digits.Columns Nothing x longer = elim (cases_Bool (x == 32)) [
+  | inl blank ↦ rw blank refl
+  | inr plain ↦ rw plain (number_same 0 x longer)
+]
+goes_same digits.Columns (Number value) x longer = number_same value x longer
+goes_same digits.Columns (Negative value) x longer = refl
+goes_same digits.Columns (Fixed value left) x longer = refl

@@ -35,6 +35,26 @@ is_part Hexadecimal character = is_hex character
 is_part Blanks character = is_space_or_tab character
 is_part Value character = is_hex character
 
+-- whether an octet has a fixed number of digits
+abbrev pub is_fixed : Digits → Bool
+is_fixed digits.Pairs = true
+is_fixed digits.Octal = true
+is_fixed digits.Binary = true
+is_fixed digits.Decimal = false
+is_fixed digits.Columns = false
+
+-- whether there may be blanks before an octet, in its column
+abbrev pub is_padded : Digits → Bool
+is_padded digits.Columns = true
+is_padded digits.Pairs = false
+is_padded digits.Octal = false
+is_padded digits.Binary = false
+is_padded digits.Decimal = false
+
+-- whether a character is one more digit of an octet that has no fixed number of them
+abbrev pub is_more : Digits → ℕ → Bool
+is_more digits character = not (is_fixed digits) && is_decimal character
+
 -- ---- The front
 
 -- whether a piece is blanks
@@ -53,20 +73,24 @@ is_numeric Value = true
 is_numeric (Character mark) = false
 is_numeric Blanks = false
 
+-- whether a piece ends where an octet begins: with a digit, or with a sign or a blank if it may have one
+abbrev pub is_last : Digits → Piece → Bool
+is_last digits piece = not (is_numeric piece) && not (is_padded digits && is_blanks piece)
+
 -- Whether a piece ends where the next one begins: no character that the next one begins with can be part of it. After the
--- last piece an octet begins, with a digit.
-abbrev pub is_shut : Piece → List Piece → Bool
-is_shut piece [] = not (is_numeric piece)
-is_shut piece (Character mark ∷ front) = not (is_part piece mark)
-is_shut piece (Blanks ∷ front) = not (is_blanks piece)
-is_shut piece (Decimal ∷ front) = not (is_numeric piece)
-is_shut piece (Hexadecimal ∷ front) = not (is_numeric piece)
-is_shut piece (Value ∷ front) = not (is_numeric piece)
+-- last piece an octet begins.
+abbrev pub is_shut : Digits → Piece → List Piece → Bool
+is_shut digits piece [] = is_last digits piece
+is_shut digits piece (Character mark ∷ front) = not (is_part piece mark)
+is_shut digits piece (Blanks ∷ front) = not (is_blanks piece)
+is_shut digits piece (Decimal ∷ front) = not (is_numeric piece)
+is_shut digits piece (Hexadecimal ∷ front) = not (is_numeric piece)
+is_shut digits piece (Value ∷ front) = not (is_numeric piece)
 
 -- whether each piece of a front ends where the next one begins
-abbrev pub are_shut : List Piece → Bool
-are_shut [] = true
-are_shut (piece ∷ front) = is_shut piece front && are_shut front
+abbrev pub are_shut : Digits → List Piece → Bool
+are_shut digits [] = true
+are_shut digits (piece ∷ front) = is_shut digits piece front && are_shut digits front
 
 -- ---- The cycle
 
@@ -82,13 +106,12 @@ are_apart inside [] = true
 are_apart inside (Octet ∷ steps) = inside && are_apart false steps
 are_apart inside (Mark mark ∷ steps) = (inside || not (is_decimal mark)) && are_apart true steps
 
--- whether octets can be told apart: always, if each has two digits
+-- whether octets can be told apart: always, if each has a fixed number of digits
 abbrev pub are_separate : Digits → List Step → Bool
-are_separate digits.Pairs cycle = true
-are_separate digits.Decimal cycle = are_apart false cycle
+are_separate digits cycle = is_fixed digits || are_apart false cycle
 
 -- ---- The form
 
 -- whether these are a front and a cycle of a form
 abbrev pub is_form : List Piece → Digits → List Step → Bool
-is_form front digits cycle = are_shut front && (ends_with_octet false cycle && are_separate digits cycle)
+is_form front digits cycle = are_shut digits front && (ends_with_octet false cycle && are_separate digits cycle)

@@ -1,13 +1,12 @@
 -- What lines say by forms.
 use Rattle.std.specs.Prelude.{ℕ, ◌+◌, ◌-◌, ◌&&◌, ◌||◌, Bool, true, false, not, nat_lt, if◌then◌else◌, List, [], ◌∷◌, Option, Some, None, is_some, length, drop, take, slice_index}
 use Rattle.fio_message.specs.Decoding.{command_in, answer_in}
-use Rattle.fio_form.specs.Forms.{is_hex}
 use Rattle.fio_form.specs.Fronts.{after_piece, after_front, past}
-use Rattle.fio_form.specs.Octets.{run_in}
+use Rattle.fio_form.specs.Octets.{ends_open, run_in}
 use Rattle.fio_form.specs.declared.form.LineForm.{LineForm}
 use Rattle.fio_form.specs.declared.form.Piece.{Piece}
 use Rattle.fio_form.specs.declared.form.Digits.{Digits}
-use Rattle.fio_form.specs.declared.form.Digits.TheVariants as digits
+use Rattle.fio_form.specs.declared.octets.Begun.TheVariants.{Nothing}
 use Rattle.fio_form.specs.declared.reading.Read.{Read}
 use Rattle.fio_form.specs.declared.reading.Read.TheVariants as reads
 
@@ -44,12 +43,6 @@ octets_after form (Some text) = run_in form.digits form.cycle.items text
 abbrev pub octets_by : LineForm → List ℕ → List ℕ
 octets_by form line = octets_after form (after_front form.values.items form.front.items line)
 
--- whether a text ends before its first octet is whole
-abbrev pub ends_in_octet : Digits → List ℕ → Bool
-ends_in_octet digits [] = true
-ends_in_octet digits.Pairs (digit ∷ []) = is_hex digit
-ends_in_octet digits other = false
-
 -- whether a text is empty
 abbrev pub is_empty : List ℕ → Bool
 is_empty [] = true
@@ -62,7 +55,7 @@ by_rest cut (Some rest) more = more rest
 
 -- whether a text ends within a front or its first octet: it is not empty after pieces that it begins with, or ends in a number
 abbrev pub ends_in_front : Digits → List ℕ → List Piece → List ℕ → Bool
-ends_in_front digits values [] text = ends_in_octet digits text
+ends_in_front digits values [] text = ends_open digits Nothing text
 ends_in_front digits values (piece ∷ front) [] = true
 ends_in_front digits values (piece ∷ front) (character ∷ text) =
     by_rest (is_empty (past piece (character ∷ text))) (after_piece values piece (character ∷ text)) (λ rest. ends_in_front digits values front rest)

@@ -1,8 +1,9 @@
 -- What a logger of a form writes.
-use Rattle.std.specs.Prelude.{ℕ, ◌+◌, ◌-◌, ◌*◌, ◌<◌, ◌≡◌, ◌≢◌, ◌==◌, ◌&&◌, Bool, true, false, nat_lt, List, [], ◌∷◌, ◌++◌, Option, Some, None, length, map}
+use Rattle.std.specs.Prelude.{ℕ, ◌+◌, ◌-◌, ◌*◌, ◌<◌, ◌≡◌, ◌≢◌, ◌⊎◌, Bool, true, false, nat_lt, List, [], ◌∷◌, ◌++◌, Option, Some, None, length, map}
 use Rattle.std.specs.List.{AllByRecursion}
 use Rattle.fio_form.specs.Forms.{hex_value, is_space_or_tab, is_decimal, is_hex}
-use Rattle.fio_form.specs.Fronts.{has_value, taken_parts}
+use Rattle.fio_form.specs.Fronts.{has_value}
+use Rattle.fio_form.specs.Octets.{makes_longer}
 use Rattle.fio_form.specs.Reading.{LineSaid, Frame, Other, ends_in_form, is_message}
 use Rattle.fio_form.specs.declared.form.LineForm.{LineForm}
 use Rattle.fio_form.specs.declared.form.Piece.{Piece}
@@ -45,13 +46,44 @@ abbrev pub decimal_value : ℕ → List ℕ → ℕ
 decimal_value value [] = value
 decimal_value value (digit ∷ digits) = decimal_value (10 * value + (digit - 48)) digits
 
--- a text that an octet may have: two hexadecimal digits, in either case; or a decimal number below 256
+-- the number that digits are in a base, after a value
+abbrev pub value_in_base : ℕ → ℕ → List ℕ → ℕ
+value_in_base base value [] = value
+value_in_base base value (digit ∷ digits) = value_in_base base (base * value + hex_value digit) digits
+
+-- so many digits in a base, which are an octet
+abbrev pub IsFixedText : ℕ → ℕ → ℕ → List ℕ → Type 0
+IsFixedText base width octet text = (length text ≡ width) × AllByRecursion (λ digit. nat_lt (hex_value digit) base ≡ true) text
+    × (octet ≡ value_in_base base 0 text) × (octet < 256)
+
+-- a decimal number below 256
+abbrev pub IsNumberText : ℕ → List ℕ → Type 0
+IsNumberText octet text = AreSome is_decimal text × (octet ≡ decimal_value 0 text) × (octet < 256)
+
+-- A decimal number from -1 down to -128, without its sign: an octet above 127 of a type with a sign. As `74` of `-74` for 182.
+abbrev pub IsNegativeText : ℕ → List ℕ → Type 0
+IsNegativeText octet text = AreSome is_decimal text × (octet ≡ 256 - decimal_value 0 text) × (0 < decimal_value 0 text) × (decimal_value 0 text < 129)
+
+-- a decimal number, or one below 0
+abbrev pub IsDecimalText : ℕ → List ℕ → Type 0
+IsDecimalText octet [] = ⊥
+IsDecimalText octet (first ∷ text) = IsNumberText octet (first ∷ text) ⊎ ((first ≡ 45) × IsNegativeText octet text)
+
+-- a decimal number after blanks or none
+pub record IsColumnText (octet : ℕ) (text : List ℕ) : Type 0 where
+  pub blanks : List ℕ
+  pub number : List ℕ
+  pub all : AllByRecursion (λ blank. blank ≡ 32) blanks
+  pub is : IsNumberText octet number
+  pub whole : text ≡ blanks ++ number
+
+-- a text that an octet may have: two hexadecimal digits, in either case; three octal or eight binary ones; or a decimal number
 abbrev pub IsOctetText : Digits → ℕ → List ℕ → Type 0
-IsOctetText digits.Pairs octet [] = ⊥
-IsOctetText digits.Pairs octet (high ∷ []) = ⊥
-IsOctetText digits.Pairs octet (high ∷ low ∷ []) = (is_hex high ≡ true) × (is_hex low ≡ true) × (octet ≡ 16 * hex_value high + hex_value low)
-IsOctetText digits.Pairs octet (high ∷ low ∷ more ∷ text) = ⊥
-IsOctetText digits.Decimal octet text = AreSome is_decimal text × (octet ≡ decimal_value 0 text) × (octet < 256)
+IsOctetText digits.Pairs octet text = IsFixedText 16 2 octet text
+IsOctetText digits.Octal octet text = IsFixedText 8 3 octet text
+IsOctetText digits.Binary octet text = IsFixedText 2 8 octet text
+IsOctetText digits.Decimal octet text = IsDecimalText octet text
+IsOctetText digits.Columns octet text = IsColumnText octet text
 
 -- a text for each octet
 abbrev pub AreOctetTexts : Digits → List ℕ → List (List ℕ) → Type 0
@@ -78,29 +110,14 @@ next_gap first others (gap ∷ gaps) [] = gap
 next_gap first others [] (text ∷ texts) = next_gap first others others texts
 next_gap first others (gap ∷ gaps) (text ∷ texts) = next_gap first others gaps texts
 
--- whether decimal digits are an octet: there is one, and their number is below 256
-abbrev pub is_octet_number : List ℕ → Bool
-is_octet_number [] = false
-is_octet_number (digit ∷ digits) = nat_lt (decimal_value 0 (digit ∷ digits)) 256
-
--- whether a text begins with an octet
-abbrev pub begins_octet : Digits → List ℕ → Bool
-begins_octet digits.Pairs [] = false
-begins_octet digits.Pairs (high ∷ []) = false
-begins_octet digits.Pairs (high ∷ low ∷ text) = is_hex high && is_hex low
-begins_octet digits.Decimal text = is_octet_number (taken_parts Decimal text)
-
--- whether a text begins with a gap and an octet
-abbrev pub has_next_octet : Digits → List ℕ → List ℕ → Bool
-has_next_octet digits [] text = begins_octet digits text
-has_next_octet digits (mark ∷ gap) [] = false
-has_next_octet digits (mark ∷ gap) (character ∷ text) = character == mark && has_next_octet digits gap text
-
--- whether a text would make the octet before it another one
-abbrev pub makes_longer : Digits → List ℕ → Bool
-makes_longer digits.Pairs text = false
-makes_longer digits.Decimal [] = false
-makes_longer digits.Decimal (character ∷ text) = is_decimal character
+-- a text begins with a gap and an octet
+pub record BeginsOctet (digits : Digits) (gap text : List ℕ) : Type 0 where
+  pub octet : ℕ
+  pub written : List ℕ
+  pub rest : List ℕ
+  pub is : IsOctetText digits octet written
+  pub apart : makes_longer digits rest ≡ false
+  pub whole : text ≡ gap ++ (written ++ rest)
 
 -- ---- The line
 
@@ -116,7 +133,7 @@ pub record AreOctetsIn (form : LineForm) (octets line : List ℕ) : Type 0 where
   pub pieces : AreFrontTexts form.values.items form.front.items front
   pub gaps : form.cycle.items ≡ cycle_of (first ∷ others)
   pub spelled : AreOctetTexts form.digits octets (initial ∷ texts)
-  pub ends : has_next_octet form.digits (next_gap first others others texts) tail ≡ false
+  pub ends : BeginsOctet form.digits (next_gap first others others texts) tail → ⊥
   pub apart : makes_longer form.digits tail ≡ false
   pub whole : line ≡ joined front ++ (initial ++ (more_text first others others texts ++ tail))
 

@@ -32,14 +32,20 @@ pub enum Piece {
     Value,
 }
 
-/// How the digits of an octet are written.
+/// How an octet is written.
 #[derive(Clone, Copy, Debug, Default, Drop, PartialEq, Eq)]
 pub enum Digits {
     /// Two hexadecimal digits: `0c`.
     #[default]
     Pairs,
-    /// A decimal number below 256: `12`.
+    /// A decimal number: `12`; an octet above 127 may be one below 0: `-74`.
     Decimal,
+    /// A decimal number with blanks before it or not, at the right end of its column: ` 12`.
+    Columns,
+    /// Three octal digits: `014`.
+    Octal,
+    /// Eight binary digits: `00001100`.
+    Binary,
 }
 
 /// A step of the *cycle*: what is written of some octets and between them, after which it begins again. A cycle begins with
@@ -101,7 +107,7 @@ pub struct LineForm {
 impl LineForm {
     /// Returns the form of lines with this front and these octets: messages of one line, with no octets before and after
     /// them, and no values. `None` if it is no form: a piece of the front does not end where the next one begins, the cycle
-    /// does not end with an octet, decimal numbers have no mark between them; or if there are too many pieces or steps.
+    /// does not end with an octet, numbers of no fixed width have no mark between them; or if there are too many pieces or steps.
     pub fn new(front: &[Piece], digits: Digits, cycle: &[Step]) -> Option<LineForm>
         ensures front { IfSome result (λ form. form.front.items ≡ front.now) }
         ensures digits { IfSome result (λ form. form.digits ≡ digits) }

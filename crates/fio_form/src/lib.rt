@@ -1,8 +1,9 @@
 //! Lines of logs, read by the forms that they are written in.
 //!
 //! A *form* says how some lines write octets: the *front*, which is the text before them with its numbers masked, the digits of
-//! an octet and what is between two octets, and how many octets are before and after the message. No program and no export uses
-//! this crate yet: `fiolog` and the page read by `fio_log`.
+//! an octet (two hexadecimal, three octal or eight binary ones, or a decimal number, which may be below 0 or stand in a column)
+//! and what is between two octets, and how many octets are before and after the message. No program and no export uses this crate
+//! yet: `fiolog` and the page read by `fio_log`.
 //!
 //! # What is proved
 //!

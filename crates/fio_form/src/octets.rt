@@ -1,6 +1,7 @@
 //! The octets of a line.
 ghost use Rattle.std.specs.Prelude.{◌≡◌, ◌<◌, ◌≤◌, ◌+◌, ◌++◌, ◌∷◌, [], true, false, drop, length};
-ghost use Rattle.fio_form.specs.Octets.{at_end, from_octet, next_in, next_steps, octets_from, run_in};
+ghost use Rattle.fio_form.specs.Octets.{ends_open, from_octet, makes_longer, next_column, next_decimal, next_fixed, next_in, next_negative, next_unsigned, next_steps, octets_from, run_in};
+ghost use Rattle.fio_form.specs.declared.octets.Begun.TheVariants.{Nothing};
 ghost use Rattle.fio_form.specs.declared.octets.TheConstants.{OCTETS};
 
 use crate::form::{Digits, Step};
@@ -14,52 +15,145 @@ pub const OCTETS: usize = FRAME_OCTETS + 510;
 /// The octets of a line.
 pub type Octets = ArrayVec<u8, OCTETS>;
 
-/// What a character makes of an octet of which some digits, or none, are read.
+/// What is read of an octet.
+#[derive(Clone, Copy)]
+pub(crate) enum Begun {
+    /// Nothing, or the blanks before it in its column.
+    Nothing,
+    /// Digits with this value, and so many are left.
+    Fixed { value: u8, left: u8 },
+    /// Decimal digits with this value.
+    Number(u8),
+    /// The sign of a number below 0, and decimal digits with this value.
+    Negative(u8),
+}
+
+/// What a character makes of an octet that is begun.
 #[derive(Clone, Copy)]
 pub(crate) enum NextDigit {
-    /// It is a digit after which more may come: the value so far.
-    More(u8),
-    /// It is the last digit.
+    /// It belongs to the octet, and more comes.
+    More(Begun),
+    /// It is the last one of the octet.
     Last(u8),
-    /// It comes after the octet.
-    After(u8),
-    /// It is no digit of an octet.
+    /// It is none of an octet.
     Stop,
 }
 
-/// Returns what a character makes of an octet; `begun`: digits with this value are read.
-fn next_in(digits: Digits, begun: bool, value: u8, character: u8) -> NextDigit
-    ensures { result ≡ next_in digits begun value character }
+/// Returns whether a text goes on with a digit that makes the octet before it another one.
+fn makes_longer(digits: Digits, text: &[u8]) -> bool
+    ensures { result ≡ makes_longer digits text.now }
+{
+    match (digits, text) {
+        (Digits::Decimal | Digits::Columns, [character, ..]) => is_decimal(*character),
+        _ => false,
+    }
+}
+
+/// Returns what a character makes of an octet that has so many digits in a base.
+fn next_fixed(base: u8, width: u8, begun: Begun, character: u8) -> NextDigit
+    requires { base ≤ 16 }
+    ensures { result ≡ next_fixed base width begun character }
+{
+    let (value, left) = match begun {
+        Begun::Fixed { value, left } => (value, left),
+        _ => (0, width),
+    };
+    let digit = hex_value(character);
+    if digit >= base {
+        return NextDigit::Stop;
+    }
+    let more = u16::from(base) * u16::from(value) + u16::from(digit);
+    if more > 255 {
+        NextDigit::Stop
+    } else if left > 1 {
+        NextDigit::More(Begun::Fixed {
+            value: more as u8,
+            left: left - 1,
+        })
+    } else {
+        NextDigit::Last(more as u8)
+    }
+}
+
+/// Returns what a character makes of a decimal number with this value.
+fn next_unsigned(value: u8, character: u8, longer: bool) -> NextDigit
+    ensures { result ≡ next_unsigned value character longer }
+{
+    if !is_decimal(character) {
+        return NextDigit::Stop;
+    }
+    let more = 10 * u16::from(value) + u16::from(character - 48);
+    if more > 255 {
+        NextDigit::Stop
+    } else if longer {
+        NextDigit::More(Begun::Number(more as u8))
+    } else {
+        NextDigit::Last(more as u8)
+    }
+}
+
+/// Returns what a character makes of a decimal number below 0.
+fn next_negative(value: u8, character: u8, longer: bool) -> NextDigit
+    ensures { result ≡ next_negative value character longer }
+{
+    if !is_decimal(character) {
+        return NextDigit::Stop;
+    }
+    let more = 10 * u16::from(value) + u16::from(character - 48);
+    if more > 128 {
+        NextDigit::Stop
+    } else if longer || more == 0 {
+        NextDigit::More(Begun::Negative(more as u8))
+    } else {
+        NextDigit::Last((256 - more) as u8)
+    }
+}
+
+/// Returns what a character makes of an octet that is a decimal number.
+fn next_decimal(begun: Begun, character: u8, longer: bool) -> NextDigit
+    ensures { result ≡ next_decimal begun character longer }
+{
+    match begun {
+        Begun::Nothing => {
+            if character == b'-' {
+                NextDigit::More(Begun::Negative(0))
+            } else {
+                next_unsigned(0, character, longer)
+            }
+        }
+        Begun::Number(value) => next_unsigned(value, character, longer),
+        Begun::Negative(value) => next_negative(value, character, longer),
+        Begun::Fixed { .. } => NextDigit::Stop,
+    }
+}
+
+/// Returns what a character makes of an octet that is a decimal number in a column.
+fn next_column(begun: Begun, character: u8, longer: bool) -> NextDigit
+    ensures { result ≡ next_column begun character longer }
+{
+    match begun {
+        Begun::Nothing => {
+            if character == b' ' {
+                NextDigit::More(Begun::Nothing)
+            } else {
+                next_unsigned(0, character, longer)
+            }
+        }
+        Begun::Number(value) => next_unsigned(value, character, longer),
+        Begun::Negative(_) | Begun::Fixed { .. } => NextDigit::Stop,
+    }
+}
+
+/// Returns what a character makes of an octet that is begun; `longer`: a digit comes after it that makes the octet another one.
+fn next_in(digits: Digits, begun: Begun, character: u8, longer: bool) -> NextDigit
+    ensures { result ≡ next_in digits begun character longer }
 {
     match digits {
-        Digits::Pairs => {
-            let digit = hex_value(character);
-            if digit == 16 {
-                NextDigit::Stop
-            } else if begun {
-                NextDigit::Last(16 * (value % 16) + digit)
-            } else {
-                NextDigit::More(digit)
-            }
-        }
-        Digits::Decimal => {
-            if !is_decimal(character) {
-                if begun {
-                    NextDigit::After(value)
-                } else {
-                    NextDigit::Stop
-                }
-            } else if begun {
-                let more = 10 * u16::from(value) + u16::from(character - 48);
-                if more > 255 {
-                    NextDigit::Stop
-                } else {
-                    NextDigit::More(more as u8)
-                }
-            } else {
-                NextDigit::More(character - 48)
-            }
-        }
+        Digits::Pairs => next_fixed(16, 2, begun, character),
+        Digits::Octal => next_fixed(8, 3, begun, character),
+        Digits::Binary => next_fixed(2, 8, begun, character),
+        Digits::Decimal => next_decimal(begun, character, longer),
+        Digits::Columns => next_column(begun, character, longer),
     }
 }
 
@@ -92,26 +186,13 @@ fn add(octets: &mut Octets, octet: u8) -> bool
     octets.try_push(octet).is_ok()
 }
 
-/// Appends the decimal number that a text ends with, and returns whether there was room.
-fn add_last(digits: Digits, begun: bool, value: u8, octets: &mut Octets) -> bool
-    requires { length octets.old.items ≤ OCTETS }
-    ensures room { result ≡ true → octets.new.items ≡ at_end digits begun value octets.old.items }
-    ensures full { result ≡ false → OCTETS < length (at_end digits begun value octets.old.items) }
-{
-    match digits {
-        Digits::Pairs => true,
-        Digits::Decimal => !begun || add(octets, value),
-    }
-}
-
 /// Reads the octets that a text begins with, and returns whether there was room.
 pub(crate) fn run_in(digits: Digits, cycle: &[Step], text: &[u8], octets: &mut Octets) -> bool
     ensures room { result ≡ true → run_in digits cycle.now text.now ≡ octets.new.items }
     ensures full { result ≡ false → OCTETS < length (run_in digits cycle.now text.now) }
 {
     octets.clear();
-    let mut begun = false;
-    let mut value = 0;
+    let mut begun = Begun::Nothing;
     let mut at = first_octet(cycle);
     let mut place = 0;
     'characters: while place < text.len() {
@@ -124,30 +205,46 @@ pub(crate) fn run_in(digits: Digits, cycle: &[Step], text: &[u8], octets: &mut O
                 if mark != character {
                     return true;
                 }
-                (at, begun, value) = (next_at(cycle, at), false, 0);
-                place += 1;
+                (at, begun) = (next_at(cycle, at), Begun::Nothing);
             }
-            Step::Octet => match next_in(digits, begun, value, character) {
-                NextDigit::More(more) => {
-                    (begun, value) = (true, more);
-                    place += 1;
-                }
+            Step::Octet => match next_in(
+                digits,
+                begun,
+                character,
+                makes_longer(digits, &text[place + 1..]),
+            ) {
+                NextDigit::More(more) => begun = more,
                 NextDigit::Last(last) => {
                     if !add(octets, last) {
                         return false;
                     }
-                    (at, begun, value) = (next_at(cycle, at), false, 0);
-                    place += 1;
-                }
-                NextDigit::After(last) => {
-                    if !add(octets, last) {
-                        return false;
-                    }
-                    (at, begun, value) = (next_at(cycle, at), false, 0);
+                    (at, begun) = (next_at(cycle, at), Begun::Nothing);
                 }
                 NextDigit::Stop => return true,
             },
         }
+        place += 1;
     }
-    add_last(digits, begun, value, octets)
+    true
+}
+
+/// Returns whether a text ends before its first octet is whole.
+pub(crate) fn ends_in_octet(digits: Digits, text: &[u8]) -> bool
+    ensures { result ≡ ends_open digits Nothing text.now }
+{
+    let mut begun = Begun::Nothing;
+    let mut place = 0;
+    'characters: while place < text.len() {
+        match next_in(
+            digits,
+            begun,
+            text[place],
+            makes_longer(digits, &text[place + 1..]),
+        ) {
+            NextDigit::More(more) => begun = more,
+            NextDigit::Last(_) | NextDigit::Stop => return false,
+        }
+        place += 1;
+    }
+    true
 }

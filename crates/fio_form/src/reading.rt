@@ -1,11 +1,11 @@
 //! What lines say by forms.
 ghost use Rattle.std.specs.Prelude.{◌≡◌, ◌≢◌, ◌≤◌, ◌<◌, ◌+◌, Some, None, [], ◌∷◌, true, false, IfSome, IfNone, drop, length};
-ghost use Rattle.fio_form.specs.Reading.{LineSaid, ends_in_front, ends_in_octet, ends_in_form, is_message, said_by_octets, octets_by, read_from, read_line, said_by, said_as};
+ghost use Rattle.fio_form.specs.Reading.{LineSaid, ends_in_front, ends_in_form, is_message, said_by_octets, octets_by, read_from, read_line, said_by, said_as};
 ghost use Rattle.fio_form.specs.declared.octets.TheConstants.{OCTETS};
 
 use crate::form::{Digits, LineForm, Piece};
-use crate::front::{front_in, hex_value};
-use crate::octets::{Octets, run_in};
+use crate::front::front_in;
+use crate::octets::{Octets, ends_in_octet, run_in};
 use fio_message::{read_answer, read_command};
 
 /// What a line says.
@@ -42,17 +42,6 @@ pub(crate) fn message_in(before: u8, after: u8, octets: &[u8]) -> Read
     Read::Frame {
         start,
         end: octets.len() - last,
-    }
-}
-
-/// Returns whether a text ends before its first octet is whole.
-fn ends_in_octet(digits: Digits, text: &[u8]) -> bool
-    ensures { result ≡ ends_in_octet digits text.now }
-{
-    match text {
-        [] => true,
-        [digit] => digits == Digits::Pairs && hex_value(*digit) != 16,
-        _ => false,
     }
 }
 

@@ -135,7 +135,9 @@ fn octet_end(line: &[u8], place: usize, digits: Digits) -> Option<usize>
     }
     let end = match digits {
         Digits::Pairs => place + 2,
-        Digits::Decimal => end_of(line, place, Piece::Decimal),
+        Digits::Decimal | Digits::Columns => end_of(line, place, Piece::Decimal),
+        Digits::Octal => place + 3,
+        Digits::Binary => place + 8,
     };
     if end > line.len() || end <= place || !is_hex(line[place]) || !is_hex(line[end - 1]) {
         return None;

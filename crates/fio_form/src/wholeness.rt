@@ -1,6 +1,6 @@
 //! What is a form.
 ghost use Rattle.std.specs.Prelude.{◌≡◌, true, false};
-ghost use Rattle.fio_form.specs.Forms.{are_apart, are_separate, ends_with_octet, is_form, is_numeric, is_shut, are_shut};
+ghost use Rattle.fio_form.specs.Forms.{are_apart, are_separate, ends_with_octet, is_form, is_fixed, is_last, is_numeric, is_padded, is_shut, are_shut};
 
 use crate::form::{Digits, Piece, Step};
 use crate::front::is_decimal;
@@ -12,24 +12,39 @@ fn is_numeric(piece: Piece) -> bool
     matches!(piece, Piece::Decimal | Piece::Hexadecimal | Piece::Value)
 }
 
+/// Returns whether an octet has a fixed number of digits.
+fn is_fixed(digits: Digits) -> bool
+    ensures { result ≡ is_fixed digits }
+{
+    matches!(digits, Digits::Pairs | Digits::Octal | Digits::Binary)
+}
+
+/// Returns whether a piece ends where an octet begins.
+fn is_last(digits: Digits, piece: Piece) -> bool
+    ensures { result ≡ is_last digits piece }
+{
+    !is_numeric(piece) && !(digits == Digits::Columns && piece == Piece::Blanks)
+}
+
 /// Returns whether a piece ends where the next one begins.
-fn is_shut(piece: Piece, front: &[Piece]) -> bool
-    ensures { result ≡ is_shut piece front.now }
+fn is_shut(digits: Digits, piece: Piece, front: &[Piece]) -> bool
+    ensures { result ≡ is_shut digits piece front.now }
 {
     match front {
         [Piece::Character(mark), ..] => !piece.is_part(*mark),
         [Piece::Blanks, ..] => piece != Piece::Blanks,
+        [] => is_last(digits, piece),
         _ => !is_numeric(piece),
     }
 }
 
 /// Returns whether each piece of a front ends where the next one begins.
-fn are_shut(front: &[Piece]) -> bool
-    ensures { result ≡ are_shut front.now }
+fn are_shut(digits: Digits, front: &[Piece]) -> bool
+    ensures { result ≡ are_shut digits front.now }
 {
     let mut at = 0;
     'pieces: while at < front.len() {
-        if !is_shut(front[at], &front[at + 1..]) {
+        if !is_shut(digits, front[at], &front[at + 1..]) {
             return false;
         }
         at += 1;
@@ -80,5 +95,5 @@ fn are_apart(cycle: &[Step]) -> bool
 pub(crate) fn is_form(front: &[Piece], digits: Digits, cycle: &[Step]) -> bool
     ensures { result ≡ is_form front.now digits cycle.now }
 {
-    are_shut(front) && ends_with_octet(cycle) && (digits == Digits::Pairs || are_apart(cycle))
+    are_shut(digits, front) && ends_with_octet(cycle) && (is_fixed(digits) || are_apart(cycle))
 }
