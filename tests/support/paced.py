@@ -1,14 +1,10 @@
 """Paces of a line that takes its time, by a plain calculation, and both ends at such a pace: the module's buffer and blocks, the
 CPU that polls, and a line on which a message takes the time of its bits."""
 
-import ctypes
 import math
 import random
 from collections import deque, namedtuple
 from fractions import Fraction
-
-from support import c_header
-from support.fiolog import LIBRARY
 
 Line = namedtuple('Line', 'rate stop_bits answer other lost')
 Traffic = namedtuple('Traffic', 'inputs filter per_block waiting')
@@ -129,27 +125,17 @@ class Played:
         return self.lost, self.late, self.longest
 
 
-def found_by(library, line, traffic):
-    """The least pace that `fio2070_plan` finds and what holds at it, or None."""
-    struct, pace = c_header.STRUCTS['line'](), c_header.STRUCTS['pace']()
-    for name, number in {**line._asdict(), **traffic._asdict()}.items():
-        setattr(struct, name, number)
-    if library.fio2070_plan(ctypes.byref(struct), ctypes.byref(pace)) != c_header.NUMBERS['PACE_FOUND']:
-        return None
-    return pace.scans, pace.round, pace.late, pace.load
-
-
 def check_paces(check):
     """The least pace of a line that `fiolog plan` and `libfio2070` find is that of a plain calculation. Both ends at it lose nothing,
     no round is longer than it says, and no transition later; in some runs one is as late."""
+    import fio2070
     from fiolog import rate
-    library, choose, reached, paces = ctypes.CDLL(LIBRARY), random.Random(1), 0, 0
-    library.fio2070_plan.restype = ctypes.c_uint8
+    choose, reached, paces = random.Random(1), 0, 0
     count = 10_000 if check.whole('paces of %d lines' % 10_000) else 500
     for seed in range(count):
         line, traffic = setting(choose)
         name, known = 'a pace over %s for %s' % (line, traffic), least(line, traffic)
-        check.equal(name, [known, known], [found_by(library, line, traffic), rate.least_pace(rate.Line(*line), rate.Traffic(*traffic))])
+        check.equal(name, [known, known], [fio2070.plan(fio2070.Line(**line._asdict(), **traffic._asdict())), rate.least_pace(rate.Line(*line), rate.Traffic(*traffic))])
         if known:
             every, longest, latest, _ = known
             lost, late, taken = Played(line, traffic, every, seed).play(6 if every > 60 else 12)

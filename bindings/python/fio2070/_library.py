@@ -67,6 +67,16 @@ class CHeard(ctypes.Structure):
                 ('items', c_uint16), ('entries', c_uint8), ('reserved', c_uint8 * 5), ('fault', CFault)]
 
 
+class CLine(ctypes.Structure):
+    _fields_ = [('rate', c_uint32), ('answer', c_uint32), ('other', c_uint32), ('lost', c_uint16),
+                ('waiting', c_uint16), ('per_block', c_uint8), ('inputs', c_uint8), ('filter', c_uint8), ('stop_bits', c_uint8),
+                ('reserved', c_uint8 * 4)]
+
+
+class CPace(ctypes.Structure):
+    _fields_ = [('scans', c_uint64), ('round', c_uint64), ('late', c_uint64), ('load', c_uint64)]
+
+
 class CConfigured(ctypes.Structure):
     _fields_ = [('kind', c_uint8), ('reserved', c_uint8 * 7), ('place', c_uint64)]
 
@@ -250,6 +260,7 @@ _declare('fio2070_log_signs_sign', c_uint8, POINTER(CLogSigns))
 _declare('fio2070_sized_module_makers_command', c_uint8, POINTER(CSizedModule), c_char_p, c_size_t)
 _declare('fio2070_sized_module_answer_other', c_size_t, POINTER(CSizedModule), c_uint8, c_char_p, c_size_t,
          POINTER(c_uint8), c_size_t)
+_declare('fio2070_plan', c_uint8, POINTER(CLine), POINTER(CPace))
 _declare('fio2070_poller_start', None, POINTER(CPoller), c_uint8)
 _declare('fio2070_poller_poll', c_size_t, POINTER(CPoller), POINTER(c_uint8), c_size_t)
 _declare('fio2070_poller_hear', CHeard, POINTER(CPoller), c_char_p, c_size_t, POINTER(CRecordItem), c_size_t)
