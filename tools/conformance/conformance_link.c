@@ -90,6 +90,20 @@ static uint32_t hidden_fields(const struct link *link, struct difference *differ
     return fields;
 }
 
+/* How often a module under test answered 56, 57 and 59, to which the proved one has no answer. */
+static unsigned long makers_answers[3];
+
+unsigned long conformance_makers_answers(unsigned place) { return makers_answers[place]; }
+
+static void count_makers_answer(const uint8_t *octets, size_t length, const struct difference *difference) {
+    static const uint8_t types[] = {FIO2070_TYPE_TRACK_INPUTS, FIO2070_TYPE_COMPLEX_OUTPUTS, FIO2070_TYPE_CONTROLLER_ID};
+    unsigned place;
+    for (place = 0; place < 3; place++) {
+        makers_answers[place] += length > 0 && octets[0] == types[place] && difference->expected_length == 0 &&
+                                 difference->got_length > 0 && difference->got[0] == types[place] + FIO2070_TYPE_ANSWER;
+    }
+}
+
 /* The module under test gets the frame that the proved one got. */
 static int compare_answers(struct link *link, const uint8_t *octets, size_t length, struct difference *difference) {
     const struct maker *maker = link->ends.module;
@@ -100,6 +114,7 @@ static int compare_answers(struct link *link, const uint8_t *octets, size_t leng
                    maker->exchange(maker->context, octets, length, difference->got))) {
         return 1;
     }
+    count_makers_answer(octets, length, difference);
     fields = conformance_answer_fields(difference);
     if (link->ends.has_own_clock) {
         span.last = conformance_now_ms();

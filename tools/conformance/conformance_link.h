@@ -41,6 +41,9 @@ void conformance_link_start(struct link *link, const struct ends *ends, const st
 /* Does an event. Returns 1 if the end under test differs from the proved one. */
 int conformance_link_step(struct link *link, const struct event *event, struct difference *difference);
 
+/* How often a module under test answered 56, 57 or 59, by places 0 to 2. */
+unsigned long conformance_makers_answers(unsigned place);
+
 /* Does an event, whatever the end under test does. */
 void conformance_link_go(struct link *link, const struct event *event);
 

@@ -1,4 +1,5 @@
 /* The words of a tester. */
+#include "conformance_link.h"
 #include "conformance_results.h"
 
 #include <stdlib.h>
@@ -179,6 +180,16 @@ static void write_each(const char *head, const struct rule_set *rules) {
     }
 }
 
+/* Writes which commands the maker of the module answers himself. */
+static void write_makers_answers(void) {
+    static const unsigned types[] = {FIO2070_TYPE_TRACK_INPUTS, FIO2070_TYPE_COMPLEX_OUTPUTS, FIO2070_TYPE_CONTROLLER_ID};
+    unsigned place;
+    for (place = 0; place < 3; place++) {
+        unsigned long count = conformance_makers_answers(place);
+        if (count > 0) printf(RESULT_MAKERS "%u, %lu times\n", types[place], count);
+    }
+}
+
 /* Writes what was seen now and then, and what was not asked to the end. */
 static void write_left_out(const struct result *result) {
     int rule;
@@ -204,6 +215,7 @@ static int run(const struct ends *ends, struct words *words) {
                   ? 0
                   : write_missing(&result, end_of(ends), excepted, words->shows_coverage);
     write_left_out(&result);
+    write_makers_answers();
     if (result.differences == 0) printf(RESULT_SAME " in %lu events\n", result.events);
     if (result.differences > 0) printf(RESULT_DIFFERS "%u in %lu events\n", result.differences, result.events);
     return result.differences > 0 || (words->shows_coverage && missing > 0);

@@ -15,7 +15,7 @@ static int is_row(const char *line) {
 
 int conformance_is_result(const char *line) {
     static const char *const beginnings[] = {RESULT_SAME,     RESULT_DIFFERS, RESULT_MISSING,      RESULT_ONCE,
-                                             RESULT_LEFT_OUT, RESULT_UNTOLD,  RESULT_UNTOLD_COUNT, RESULT_FAILED};
+                                             RESULT_LEFT_OUT, RESULT_UNTOLD,  RESULT_UNTOLD_COUNT, RESULT_MAKERS, RESULT_FAILED};
     size_t row;
     for (row = 0; row < sizeof beginnings / sizeof beginnings[0]; row++) {
         if (strncmp(line, beginnings[row], strlen(beginnings[row])) == 0) return 1;

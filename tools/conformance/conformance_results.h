@@ -11,6 +11,7 @@
 #define RESULT_LEFT_OUT "left out too, to go on after a difference: "
 #define RESULT_UNTOLD "could not be told from those above: "
 #define RESULT_UNTOLD_COUNT "differences that could not be told from others: "
+#define RESULT_MAKERS "answered by its maker: "
 #define RESULT_FAILED "the end under test failed"
 
 /* Whether a line is one of these, or of the table of conformance_coverage. */
