@@ -171,6 +171,8 @@ def check_phone(check, browser, folder):
     check.holds('the footer takes less than a fifteenth of a phone', footer * 15 < 740, footer)
     example(browser, NEAR_ENTRIES)
     check.equal('a message is a card', [True] * 4, browser.run(CARD, '#row-5'))
+    widths = browser.run('return ["#row-0", "#row-5"].map((it) => document.querySelector(it + " .words").clientWidth)')
+    check.equal('one without a note is as wide', widths[1:], widths[:1])
     check.equal('no sheet is over the list at first', [False, False], browser.run(SHEET)[:2])
     browser.run('document.querySelector("#row-5").scrollIntoView({ block: "center" })')
     browser.click('#row-5')

@@ -67,6 +67,16 @@ def check_stop(check, browser, folder):
         'return [document.documentElement.dataset.opened, document.getElementById("note").textContent, document.querySelectorAll(".line").length]'))
 
 
+def check_fault(check, browser, _):
+    """A log that cannot be read says why."""
+    choose(browser, form='pattern', pattern='(')
+    browser.run('document.getElementById("paste").value = "3605"; document.getElementById("open-paste").click()')
+    browser.wait('return document.getElementById("no-log").checkVisibility()')
+    seen = words_in(browser, '#no-log')
+    check.holds('what cannot be read says why', re.fullmatch('pasted text could not be read.{10,}Open a log or an example', seen), seen)
+    choose(browser, form='auto', pattern='')
+
+
 # A CPU that asks for block 6, and hears block 7.
 STREAM = [bytes.fromhex(digits) for digits in ('3605', 'b605000000000001', '3606', 'b607000000000002')]
 
@@ -124,4 +134,4 @@ def check_room(check, browser, _):
     check.equal('those without are as wide as both columns', [[False, True, True]] * len(bare), bare)
 
 
-CHECKS = (check_slices, check_stop, check_stream, check_words, check_room)
+CHECKS = (check_slices, check_stop, check_fault, check_stream, check_words, check_room)

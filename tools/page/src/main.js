@@ -63,6 +63,9 @@ function startViews(library) {
       inputs.close();
       messages.showReading(name, share, stop);
       return true;
+    }).catch((reason) => {
+      inputs.close();
+      messages.close(`${name} could not be read`, element('p', {}, reason.message));
     });
     if (!log) return;
     messages.open(log, octets, () => open(name, octets, { ...chosen, form: 'any' }));
