@@ -56,7 +56,7 @@ export class Judging {
     const { log } = this;
     this.isBegun = true;
     if (log.codes[place] === POLL) this.isLost = false;
-    const outcome = this.judge.frame(...log.told(place));
+    const outcome = this.judge.frame(...log.frame(place));
     if (outcome) this.note(place, outcome);
   }
 

@@ -34,7 +34,7 @@ export class Log {
     signs.call('start');
     yield* part(0.3, 0.45, each(this.count, (place) => {
       sides.add(place);
-      if (this.isSure(place)) signs.frame(...this.told(place));
+      if (this.isSure(place)) signs.frame(...this.frame(place));
     }));
     const judging = new Judging(this, judge), { breaches, restarts } = judging;
     Object.assign(this, { logged: sides.kind, sign: signs.call('sign'), judging, breaches, restarts });
@@ -115,8 +115,8 @@ export class Log {
     Object.assign(this.summary, { messages: this.count - this.others.size, entries: this.entries.reduce((sum, entries) => sum + entries, 0) });
   }
 
-  // A message as the library's judge is told of it: whether the CPU sent it, who the log says sent it, and its octets.
-  told(place) {
+  // A message as the library takes it: whether the CPU sent it, who the log says sent it, and its octets.
+  frame(place) {
     return [this.isSent(place), this.sides[place], this.address(place), this.lengths[place]];
   }
 
