@@ -1,23 +1,22 @@
 -- A line that is cut is not another one.
-use Rattle.std.proofs.Common.{◌≡◌, ◌≢◌, ℕ, ◌+◌, ◌-◌, ◌*◌, ◌<◌, Some, true, false, Bool, List, [], ◌∷◌, ◌++◌, length, refl, sym, ap, ◌∙◌, append_assoc, subst, inl, inr, arith}
-use Rattle.std.specs.Prelude.{not, ◌⊎◌}
+use Rattle.std.proofs.Common.{◌≡◌, ◌≢◌, ℕ, Some, true, false, Bool, List, [], ◌∷◌, ◌++◌, length, refl, sym, ap, ◌∙◌, append_assoc, subst, inl, inr, arith}
+use Rattle.std.specs.Prelude.{◌⊎◌}
 use Rattle.std.specs.List.{AllByRecursion}
 use Rattle.std.proofs.lemmas.Bool.{cases_Bool, and_parts, false≢true}
-use Rattle.std.proofs.lemmas.Bool.Decides.{nat_tests}
-use Rattle.std.proofs.lemmas.List.{append-nil, length-append}
+use Rattle.std.proofs.lemmas.List.{length-append}
 use Rattle.fio_form.specs.Forms.{are_separate, is_space_or_tab, is_decimal, is_hex, is_last, is_part, is_shut, are_shut}
-use Rattle.fio_form.specs.Fronts.{after_front, has_value, past, taken_parts}
+use Rattle.fio_form.specs.Fronts.{after_digits, after_front, has_value, past, past_piece, taken_parts}
 use Rattle.fio_form.specs.Octets.{ends_open, makes_longer, next_steps, octets_from, run_in}
 use Rattle.fio_form.specs.Reading.{Other, by_rest, ends_in_front, ends_in_form, is_empty, octets_after, octets_by, read_line}
-use Rattle.fio_form.specs.Writing.{AreOctetTexts, AreFrontTexts, Has, IsOctetText, IsOther, IsPiece, AreOctetsIn, cycle_of, joined, more_text}
+use Rattle.fio_form.specs.Writing.{AreOctetTexts, AreFrontTexts, Has, IsOther, IsPiece, AreOctetsIn, cycle_of, joined, more_text}
 use Rattle.fio_form.specs.declared.form.LineForm.{LineForm}
 use Rattle.fio_form.specs.declared.form.Digits.{Digits}
 use Rattle.fio_form.specs.declared.octets.Begun.TheVariants.{Nothing}
 use Rattle.fio_form.specs.declared.form.Piece.{Piece}
-use Rattle.fio_form.specs.declared.form.Piece.TheVariants.{Character, Decimal, Hexadecimal, Blanks, Value}
+use Rattle.fio_form.specs.declared.form.Piece.TheVariants.{Character, Decimal, Hexadecimal, Blanks, Padded, Quote, Value}
 use Rattle.fio_form.specs.declared.form.Step.{Step}
 use Rattle.fio_form.specs.declared.form.Step.TheVariants.{Octet}
-use Rattle.fio_form.proofs.Fronts.{after_written, begins_part, ends, taken_all}
+use Rattle.fio_form.proofs.Fronts.{after_written, begins_part, ends, hex_not_blank}
 use Rattle.fio_form.proofs.OctetTexts.{goes_same, octet_one, octet_or_not, octet_read}
 use Rattle.fio_form.proofs.OneOctet.{Missing, missing_not, one_cut, read_one}
 use Rattle.fio_form.proofs.Runs.{begun, gaps_apart, more_ends}
@@ -71,6 +70,8 @@ part_cut digits values (Character mark) front x parts all = absurd (false≢true
 part_cut digits values Decimal front x parts all = rw (all.0) (rw (past_none Decimal parts all.1) (ends_empty digits values front))
 part_cut digits values Hexadecimal front x parts all = rw (all.0) (rw (past_none Hexadecimal parts all.1) (ends_empty digits values front))
 part_cut digits values Blanks front x parts all = rw (all.0) (rw (past_none Blanks parts all.1) (ends_empty digits values front))
+part_cut digits values Padded front x parts all = rw (hex_not_blank x all.0) (rw (all.0) (rw (past_none Hexadecimal parts all.1) (ends_empty digits values front)))
+part_cut digits values Quote front x parts all = absurd (false≢true all.0)
 part_cut digits values Value front x parts all = elim (cases_Bool (has_value values (x ∷ taken_parts Value parts))) [
   | inl known ↦ rw (all.0) (rw known (rw (past_none Value parts all.1) (ends_empty digits values front)))
   | inr not_ ↦ rw (all.0) (rw not_ (rw (past_none Value parts all.1) refl))
@@ -84,6 +85,30 @@ one_not_two : (mark x y : ℕ) (a b : List ℕ) → mark ∷ [] ≡ (x ∷ a) ++
 one_not_two mark x y [] b h = cc
 one_not_two mark x y (z ∷ a) b h = cc
 
+all_past : (a b number : List ℕ) → a ++ b ≡ number → AllByRecursion (λ y. is_hex y ≡ true) number → AllByRecursion (λ y. is_hex y ≡ true) a
+all_past [] b number is all = tt
+all_past (y ∷ a) b [] is all = cc
+all_past (y ∷ a) b (d ∷ number) is all = (ap is_hex (same_head y d (a ++ b) number is) ∙ all.0, all_past a b number (same_rest y d (a ++ b) number is) all.1)
+
+past_hex : (a b blanks number : List ℕ) → a ++ b ≡ blanks ++ number → AllByRecursion (λ y. is_space_or_tab y ≡ true) blanks → AllByRecursion (λ y. is_hex y ≡ true) number
+    → AllByRecursion (λ y. is_hex y ≡ true) (past Blanks a)
+past_hex [] b blanks number is all digits = tt
+past_hex (y ∷ a) b [] number is all digits =
+    let are = all_past (y ∷ a) b number is digits in
+    rw (hex_not_blank y are.0) are
+past_hex (y ∷ a) b (z ∷ blanks) number is all digits =
+    let blank : is_space_or_tab y ≡ true = ap is_space_or_tab (same_head y z (a ++ b) (blanks ++ number) is) ∙ all.0 in
+    rw blank (past_hex a b blanks number (same_rest y z (a ++ b) (blanks ++ number) is) all.1 digits)
+
+digits_cut : (digits : Digits) (values : List ℕ) (front : List Piece) (left : List ℕ) → AllByRecursion (λ y. is_hex y ≡ true) left
+    → by_rest (is_empty (past Hexadecimal left)) (after_digits left) (λ rest. ends_in_front digits values front rest) ≡ true
+digits_cut digits values front [] all = refl
+digits_cut digits values front (y ∷ left) all = rw (all.0) (rw (past_none Hexadecimal left all.1) (ends_empty digits values front))
+
+empty_padded : (blanks number : List ℕ) → number ≢ [] → [] ≡ blanks ++ number → ⊥
+empty_padded [] number some is = some (sym is)
+empty_padded (blank ∷ blanks) number some is = cc
+
 piece_cut : (digits : Digits) (values : List ℕ) (piece : Piece) (front : List Piece) (text : List ℕ) (x : ℕ) (line : List ℕ) → IsPiece values piece text → EndsIn (x ∷ line) text
     → ends_in_front digits values (piece ∷ front) (x ∷ line) ≡ true
 piece_cut digits values (Character mark) front text x line is within = absurd (one_not_two mark x within.next line within.more (sym is ∙ within.is))
@@ -93,6 +118,11 @@ piece_cut digits values Hexadecimal front text x line is within = part_cut digit
     (all_first is_hex (x ∷ line) within.next within.more (subst (λ (t : List ℕ). AllByRecursion (λ y. is_hex y ≡ true) t) within.is is.1))
 piece_cut digits values Blanks front text x line is within = part_cut digits values Blanks front x line
     (all_first is_space_or_tab (x ∷ line) within.next within.more (subst (λ (t : List ℕ). AllByRecursion (λ y. is_space_or_tab y ≡ true) t) within.is is.1))
+piece_cut digits values Padded front text x line is within = digits_cut digits values front (past Blanks (x ∷ line))
+    (past_hex (x ∷ line) (within.next ∷ within.more) is.blanks is.number (sym within.is ∙ is.whole) is.all is.is.1)
+piece_cut digits values Quote front [] x line is within = absurd is
+piece_cut digits values Quote front (quote ∷ []) x line is within = absurd (one_not_two quote x within.next line within.more within.is)
+piece_cut digits values Quote front (quote ∷ (y ∷ text)) x line is within = absurd is
 piece_cut digits values Value front text x line is within = part_cut digits values Value front x line
     (all_first is_hex (x ∷ line) within.next within.more (subst (λ (t : List ℕ). AllByRecursion (λ y. is_hex y ≡ true) t) within.is is.0.1))
 
@@ -117,6 +147,8 @@ with_piece digits values piece front [] line more body left is whole apart rest 
     no_text values Decimal is = is.0 refl
     no_text values Hexadecimal is = is.0 refl
     no_text values Blanks is = is.0 refl
+    no_text values Padded is = empty_padded is.blanks is.number is.is.0 is.whole
+    no_text values Quote is = is
     no_text values Value is = is.0.0 refl
 with_piece digits values piece front (x ∷ text) line more body left is whole apart rest =
     let here = after_written values piece (x ∷ text) left is apart in
@@ -124,7 +156,7 @@ with_piece digits values piece front (x ∷ text) line more body left is whole a
       left = rest.left;
       is = ap (after_front values (piece ∷ front)) whole ∙ rw here (rest.is);
       ends = ap (ends_in_front digits values (piece ∷ front)) whole
-          ∙ (ap (λ found. by_rest (is_empty (past piece (x ∷ (text ++ left)))) found (λ rest. ends_in_front digits values front rest)) here ∙ rest.ends);
+          ∙ (ap (λ found. by_rest (is_empty (past_piece piece (x ∷ (text ++ left)))) found (λ rest. ends_in_front digits values front rest)) here ∙ rest.ends);
       rest = rest.rest;
     }
 
@@ -157,11 +189,13 @@ cut_front digits values (piece ∷ front) (text ∷ texts) (x ∷ line) more bod
         no_text Decimal is = is.0 refl
         no_text Hexadecimal is = is.0 refl
         no_text Blanks is = is.0 refl
+        no_text Padded is = empty_padded is.blanks is.number is.is.0 is.whole
+        no_text Quote is = is
         no_text Value is = is.0.0 refl
     cut_after piece front (y ∷ text) line left is whole apart cut =
         let here = after_written values piece (y ∷ text) left is apart in
         ap (ends_in_front digits values (piece ∷ front)) whole
-        ∙ (ap (λ found. by_rest (is_empty (past piece (y ∷ (text ++ left)))) found (λ rest. ends_in_front digits values front rest)) here ∙ cut)
+        ∙ (ap (λ found. by_rest (is_empty (past_piece piece (y ∷ (text ++ left)))) found (λ rest. ends_in_front digits values front rest)) here ∙ cut)
 
 -- ---- The first octet
 

@@ -1,22 +1,22 @@
 -- The front that is written is the one that is read.
 use Rattle.std.proofs.Common.{◌≡◌, ◌≢◌, ℕ, Some, None, true, false, Bool, List, [], ◌∷◌, ◌++◌, refl, sym, ap, ◌∙◌, append_assoc, eq-eqb, inl, inr, arith}
-use Rattle.std.specs.Prelude.{not, ◌==◌, ◌⊎◌}
+use Rattle.std.specs.Prelude.{not, ◌==◌, ◌&&◌, ◌⊎◌}
 use Rattle.std.specs.List.{AllByRecursion}
 use Rattle.std.proofs.lemmas.Bool.{and_parts, not-true, cases_Bool, false≢true, eqb-true}
 use Rattle.std.proofs.lemmas.Bool.Decides.{nat_tests}
-use Rattle.fio_form.specs.Forms.{is_space_or_tab, is_blanks, is_decimal, is_hex, is_last, is_numeric, is_part, is_shut, are_shut}
-use Rattle.fio_form.specs.Fronts.{after_front, after_piece, has_value, past, taken_parts}
-use Rattle.fio_form.specs.Writing.{AreSome, IsPiece, AreFrontTexts, joined}
+use Rattle.fio_form.specs.Forms.{is_space_or_tab, is_blanks, is_decimal, is_hex, is_last, is_numeric, is_part, is_quotation, is_shut, are_shut}
+use Rattle.fio_form.specs.Fronts.{after_digits, after_front, after_piece, has_value, past, taken_parts}
+use Rattle.fio_form.specs.Writing.{AreSome, IsPadded, IsPiece, IsQuote, AreFrontTexts, joined}
 use Rattle.fio_form.specs.declared.form.Digits.{Digits}
 use Rattle.fio_form.specs.declared.form.Piece.{Piece}
-use Rattle.fio_form.specs.declared.form.Piece.TheVariants.{Character, Decimal, Hexadecimal, Blanks, Value}
+use Rattle.fio_form.specs.declared.form.Piece.TheVariants.{Character, Decimal, Hexadecimal, Blanks, Padded, Quote, Value}
 
 -- ---- Characters
 
 pub decimal_hex : (x : ℕ) → is_decimal x ≡ true → is_hex x ≡ true
 decimal_hex x is = grind (arith, nat_tests)
 
-hex_not_blank : (x : ℕ) → is_hex x ≡ true → is_space_or_tab x ≡ false
+pub hex_not_blank : (x : ℕ) → is_hex x ≡ true → is_space_or_tab x ≡ false
 hex_not_blank x is = elim (cases_Bool (is_space_or_tab x)) [
   | inl blank ↦ absurd (false≢true (blank_not x blank ∙ is))
   | inr other ↦ other
@@ -34,6 +34,8 @@ digit_apart (Character mark) x none is = refl
 digit_apart Decimal x none is = absurd (false≢true none)
 digit_apart Hexadecimal x none is = absurd (false≢true none)
 digit_apart Blanks x none is = hex_not_blank x is
+digit_apart Padded x none is = absurd (false≢true none)
+digit_apart Quote x none is = refl
 digit_apart Value x none is = absurd (false≢true none)
 
 blank_apart : (piece : Piece) (x : ℕ) → not (is_blanks piece) ≡ true → is_space_or_tab x ≡ true → is_part piece x ≡ false
@@ -47,9 +49,38 @@ blank_apart Hexadecimal x none is = elim (cases_Bool (is_hex x)) [
   | inr other ↦ other
 ]
 blank_apart Blanks x none is = absurd (false≢true none)
+blank_apart Padded x none is = elim (cases_Bool (is_hex x)) [
+  | inl digit ↦ absurd (false≢true (sym (hex_not_blank x digit) ∙ is))
+  | inr other ↦ other
+]
+blank_apart Quote x none is = refl
 blank_apart Value x none is = elim (cases_Bool (is_hex x)) [
   | inl digit ↦ absurd (false≢true (sym (hex_not_blank x digit) ∙ is))
   | inr other ↦ other
+]
+
+double_apart : (piece : Piece) → is_part piece 34 ≡ false
+double_apart (Character mark) = refl
+double_apart Decimal = refl
+double_apart Hexadecimal = refl
+double_apart Blanks = refl
+double_apart Padded = refl
+double_apart Quote = refl
+double_apart Value = refl
+
+single_apart : (piece : Piece) → is_part piece 39 ≡ false
+single_apart (Character mark) = refl
+single_apart Decimal = refl
+single_apart Hexadecimal = refl
+single_apart Blanks = refl
+single_apart Padded = refl
+single_apart Quote = refl
+single_apart Value = refl
+
+quote_apart : (piece : Piece) (x : ℕ) → is_quotation x ≡ true → is_part piece x ≡ false
+quote_apart piece x is = elim (cases_Bool (x == 34)) [
+  | inl double ↦ rw (eqb-true x 34 double) (double_apart piece)
+  | inr other ↦ (let single : (x == 39) ≡ true = rw other at is in rw (eqb-true x 39 single) (single_apart piece))
 ]
 
 -- ---- What is written is read
@@ -71,6 +102,30 @@ taken_all piece [] [] all ends = refl
 taken_all piece [] (x ∷ rest) all ends = rw ends refl
 taken_all piece (d ∷ parts) rest all ends = rw (all.0) (ap (λ t. d ∷ t) (taken_all piece parts rest all.1 ends))
 
+padded_as : (values text : List ℕ) → after_piece values Padded text ≡ after_digits (past Blanks text)
+padded_as values [] = refl
+padded_as values (x ∷ text) = refl
+
+no_digit : (rest : List ℕ) → begins_part Padded rest ≡ false → begins_part Hexadecimal rest ≡ false
+no_digit [] ends = refl
+no_digit (x ∷ rest) ends = ends
+
+digits_written : (number rest : List ℕ) → AreSome is_hex number → begins_part Padded rest ≡ false → after_digits (number ++ rest) ≡ Some rest
+digits_written [] rest is ends = absurd (is.0 refl)
+digits_written (d ∷ number) rest is ends = rw (is.1.0) (ap Some (past_all Hexadecimal number rest is.1.1 (no_digit rest ends)))
+
+digits_not_blank : (number rest : List ℕ) → AreSome is_hex number → begins_part Blanks (number ++ rest) ≡ false
+digits_not_blank [] rest is = absurd (is.0 refl)
+digits_not_blank (d ∷ number) rest is = hex_not_blank d is.1.0
+
+padded_written : (values text rest : List ℕ) → IsPadded text → begins_part Padded rest ≡ false → after_piece values Padded (text ++ rest) ≡ Some rest
+padded_written values text rest is ends =
+    padded_as values (text ++ rest)
+    ∙ (ap (λ t. after_digits (past Blanks (t ++ rest))) is.whole
+    ∙ (ap (λ t. after_digits (past Blanks t)) (append_assoc is.blanks is.number rest)
+    ∙ (ap after_digits (past_all Blanks is.blanks (is.number ++ rest) is.all (digits_not_blank is.number rest is.is))
+    ∙ digits_written is.number rest is.is ends)))
+
 pub after_written : (values : List ℕ) (piece : Piece) (text rest : List ℕ) → IsPiece values piece text → begins_part piece rest ≡ false
     → after_piece values piece (text ++ rest) ≡ Some rest
 after_written values (Character mark) text rest is ends = rw is (rw (eq-eqb mark mark refl))
@@ -80,6 +135,10 @@ after_written values Hexadecimal [] rest is ends = absurd (is.0 refl)
 after_written values Hexadecimal (d ∷ parts) rest is ends = rw (is.1.0) (ap Some (past_all Hexadecimal parts rest is.1.1 ends))
 after_written values Blanks [] rest is ends = absurd (is.0 refl)
 after_written values Blanks (d ∷ parts) rest is ends = rw (is.1.0) (ap Some (past_all Blanks parts rest is.1.1 ends))
+after_written values Padded text rest is ends = padded_written values text rest is ends
+after_written values Quote [] rest is ends = absurd is
+after_written values Quote (quote ∷ []) rest is ends = rw is refl
+after_written values Quote (quote ∷ (x ∷ text)) rest is ends = absurd is
 after_written values Value [] rest is ends = absurd (is.0.0 refl)
 after_written values Value (d ∷ parts) rest is ends =
     let known : has_value values (d ∷ taken_parts Value (parts ++ rest)) ≡ true = ap (λ t. has_value values (d ∷ t)) (taken_all Value parts rest is.0.1.1 ends) ∙ is.1 in
@@ -93,6 +152,22 @@ some_apart test piece (x ∷ text) rest some apart = apart x some.1.0
 mark_apart : (piece : Piece) (mark : ℕ) (text rest : List ℕ) → text ≡ mark ∷ [] → not (is_part piece mark) ≡ true → begins_part piece (text ++ rest) ≡ false
 mark_apart piece mark text rest is shut = rw is (not-true (is_part piece mark) shut)
 
+padded_begins : (piece : Piece) (blanks number rest : List ℕ) → AllByRecursion (λ x. is_space_or_tab x ≡ true) blanks → AreSome is_hex number
+    → not (is_numeric piece) ≡ true → not (is_blanks piece) ≡ true → begins_part piece ((blanks ++ number) ++ rest) ≡ false
+padded_begins piece [] [] rest all is none not_ = absurd (is.0 refl)
+padded_begins piece [] (d ∷ number) rest all is none not_ = digit_apart piece d none is.1.0
+padded_begins piece (blank ∷ blanks) number rest all is none not_ = blank_apart piece blank not_ all.0
+
+padded_apart : (piece : Piece) (text rest : List ℕ) → IsPadded text → (not (is_numeric piece) && not (is_blanks piece)) ≡ true → begins_part piece (text ++ rest) ≡ false
+padded_apart piece text rest is shut =
+    let parts = and_parts (not (is_numeric piece)) (not (is_blanks piece)) shut in
+    ap (λ t. begins_part piece (t ++ rest)) is.whole ∙ padded_begins piece is.blanks is.number rest is.all is.is parts.0 parts.1
+
+quote_begins : (piece : Piece) (text rest : List ℕ) → IsQuote text → begins_part piece (text ++ rest) ≡ false
+quote_begins piece [] rest is = absurd is
+quote_begins piece (quote ∷ []) rest is = quote_apart piece quote is
+quote_begins piece (quote ∷ (x ∷ text)) rest is = absurd is
+
 pub ends : (digits : Digits) (values : List ℕ) (piece : Piece) (front : List Piece) (texts : List (List ℕ)) (rest : List ℕ) → AreFrontTexts values front texts → is_shut digits piece front ≡ true
     → ((piece : Piece) → is_last digits piece ≡ true → begins_part piece rest ≡ false) → begins_part piece (joined texts ++ rest) ≡ false
 ends digits values piece [] [] rest are shut octet = octet piece shut
@@ -103,6 +178,8 @@ ends digits values piece (Blanks ∷ front) (text ∷ texts) rest are shut octet
 ends digits values piece (Decimal ∷ front) (text ∷ texts) rest are shut octet =
     rw append_assoc (some_apart is_decimal piece text (joined texts ++ rest) are.0 (λ x is. digit_apart piece x shut (decimal_hex x is)))
 ends digits values piece (Hexadecimal ∷ front) (text ∷ texts) rest are shut octet = rw append_assoc (some_apart is_hex piece text (joined texts ++ rest) are.0 (λ x. digit_apart piece x shut))
+ends digits values piece (Padded ∷ front) (text ∷ texts) rest are shut octet = rw append_assoc (padded_apart piece text (joined texts ++ rest) are.0 shut)
+ends digits values piece (Quote ∷ front) (text ∷ texts) rest are shut octet = rw append_assoc (quote_begins piece text (joined texts ++ rest) are.0)
 ends digits values piece (Value ∷ front) (text ∷ texts) rest are shut octet = rw append_assoc (some_apart is_hex piece text (joined texts ++ rest) are.0.0 (λ x. digit_apart piece x shut))
 
 pub front_read : (digits : Digits) (values : List ℕ) (front : List Piece) (texts : List (List ℕ)) (rest : List ℕ) → AreFrontTexts values front texts → are_shut digits front ≡ true
@@ -149,11 +226,28 @@ record PieceOf (values : List ℕ) (piece : Piece) (line : List ℕ) : Type 0 wh
 pub not_empty : (x : ℕ) (xs : List ℕ) → x ∷ xs ≢ []
 not_empty x xs h = cc
 
+padded_of : (values line left : List ℕ) → past Blanks line ≡ left → (after_digits left ≡ None) ⊎ PieceOf values Padded line
+padded_of values line [] same = inl refl
+padded_of values line (y ∷ left) same = elim (cases_Bool (is_hex y)) [
+  | inr other ↦ inl (rw other refl)
+  | inl h ↦ inr (record {
+    text = taken_parts Blanks line ++ (y ∷ taken_parts Hexadecimal left);
+    rest = past Hexadecimal left;
+    is = record { blanks = taken_parts Blanks line; number = y ∷ taken_parts Hexadecimal left; all = taken_are Blanks line; is = (not_empty y (taken_parts Hexadecimal left), (h, taken_are Hexadecimal left)); whole = refl };
+    read = padded_as values line ∙ (ap after_digits same ∙ rw h refl);
+    whole = taken_past Blanks line
+        ∙ (ap (λ t. taken_parts Blanks line ++ t) (same ∙ ap (λ t. y ∷ t) (taken_past Hexadecimal left))
+        ∙ sym (append_assoc (taken_parts Blanks line) (y ∷ taken_parts Hexadecimal left) (past Hexadecimal left)));
+  })
+]
+
 piece_of : (values : List ℕ) (piece : Piece) (line : List ℕ) → (after_piece values piece line ≡ None) ⊎ PieceOf values piece line
 piece_of values (Character mark) [] = inl refl
 piece_of values Decimal [] = inl refl
 piece_of values Hexadecimal [] = inl refl
 piece_of values Blanks [] = inl refl
+piece_of values Padded [] = inl refl
+piece_of values Quote [] = inl refl
 piece_of values Value [] = inl refl
 piece_of values (Character mark) (x ∷ line) = elim (cases_Bool (x == mark)) [
   | inl h ↦ inr (record { text = x ∷ []; rest = line; is = ap (λ y. y ∷ []) (eqb-true x mark h); read = rw h refl; whole = refl })
@@ -169,6 +263,11 @@ piece_of values Hexadecimal (x ∷ line) = elim (cases_Bool (is_hex x)) [
 ]
 piece_of values Blanks (x ∷ line) = elim (cases_Bool (is_space_or_tab x)) [
   | inl h ↦ inr (record { text = x ∷ taken_parts Blanks line; rest = past Blanks line; is = (not_empty x (taken_parts Blanks line), (h, taken_are Blanks line)); read = rw h refl; whole = ap (λ t. x ∷ t) (taken_past Blanks line) })
+  | inr h ↦ inl (rw h refl)
+]
+piece_of values Padded (x ∷ line) = padded_of values (x ∷ line) (past Blanks (x ∷ line)) refl
+piece_of values Quote (x ∷ line) = elim (cases_Bool (is_quotation x)) [
+  | inl h ↦ inr (record { text = x ∷ []; rest = line; is = h; read = rw h refl; whole = refl })
   | inr h ↦ inl (rw h refl)
 ]
 piece_of values Value (x ∷ line) = elim (cases_Bool (is_hex x)) [

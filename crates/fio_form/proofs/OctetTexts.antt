@@ -12,7 +12,7 @@ use Rattle.fio_form.specs.declared.form.Digits.TheVariants as digits
 use Rattle.fio_form.specs.declared.form.Step.{Step}
 use Rattle.fio_form.specs.declared.form.Step.TheVariants.{Octet}
 use Rattle.fio_form.specs.declared.form.Piece.{Piece}
-use Rattle.fio_form.specs.declared.form.Piece.TheVariants.{Character, Decimal, Hexadecimal, Blanks, Value}
+use Rattle.fio_form.specs.declared.form.Piece.TheVariants.{Character, Decimal, Hexadecimal, Blanks, Padded, Quote, Value}
 use Rattle.fio_form.specs.declared.octets.Begun.{Begun}
 use Rattle.fio_form.specs.declared.octets.Begun.TheVariants.{Nothing, Fixed, Number, Negative}
 use Rattle.fio_form.proofs.Fronts.{begins_part, decimal_hex, digit_apart, not_empty}
@@ -111,6 +111,8 @@ sign_apart (Character mark) none = refl
 sign_apart Blanks none = refl
 sign_apart Decimal none = refl
 sign_apart Hexadecimal none = refl
+sign_apart Padded none = refl
+sign_apart Quote none = refl
 sign_apart Value none = refl
 
 decimal_begins : (octet : ℕ) (text rest : List ℕ) → IsDecimalText octet text → (piece : Piece) → not (is_numeric piece) ≡ true → begins_part piece (text ++ rest) ≡ false
@@ -125,6 +127,8 @@ space_apart (Character mark) none = refl
 space_apart Blanks none = absurd (false≢true none)
 space_apart Decimal none = refl
 space_apart Hexadecimal none = refl
+space_apart Padded none = refl
+space_apart Quote none = refl
 space_apart Value none = refl
 
 column_begins : (octet : ℕ) (blanks number rest : List ℕ) → AllByRecursion (λ blank. blank ≡ 32) blanks → IsNumberText octet number → (piece : Piece) → not (is_numeric piece) ≡ true → not (is_blanks piece) ≡ true

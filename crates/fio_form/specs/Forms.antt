@@ -1,7 +1,7 @@
 -- What is a form, and the digits of its numbers.
 use Rattle.std.specs.Prelude.{ℕ, ◌-◌, ◌&&◌, ◌||◌, ◌==◌, Bool, true, false, not, nat_le, if◌then◌else◌, List, [], ◌∷◌}
 use Rattle.fio_form.specs.declared.form.Piece.{Piece}
-use Rattle.fio_form.specs.declared.form.Piece.TheVariants.{Character, Decimal, Hexadecimal, Blanks, Value}
+use Rattle.fio_form.specs.declared.form.Piece.TheVariants.{Character, Decimal, Hexadecimal, Blanks, Padded, Quote, Value}
 use Rattle.fio_form.specs.declared.form.Digits.{Digits}
 use Rattle.fio_form.specs.declared.form.Digits.TheVariants as digits
 use Rattle.fio_form.specs.declared.form.Step.{Step}
@@ -27,12 +27,18 @@ is_hex character = not (hex_value character == 16)
 abbrev pub is_space_or_tab : ℕ → Bool
 is_space_or_tab character = character == 32 || character == 9
 
--- whether a character can be one of several of a piece
+-- whether a character is a quote
+abbrev pub is_quotation : ℕ → Bool
+is_quotation character = character == 34 || character == 39
+
+-- whether a character can be one of several of a piece; of a padded number: behind its blanks
 abbrev pub is_part : Piece → ℕ → Bool
 is_part (Character mark) character = false
 is_part Decimal character = is_decimal character
 is_part Hexadecimal character = is_hex character
 is_part Blanks character = is_space_or_tab character
+is_part Padded character = is_hex character
+is_part Quote character = false
 is_part Value character = is_hex character
 
 -- whether an octet has a fixed number of digits
@@ -63,13 +69,17 @@ is_blanks Blanks = true
 is_blanks (Character mark) = false
 is_blanks Decimal = false
 is_blanks Hexadecimal = false
+is_blanks Padded = false
+is_blanks Quote = false
 is_blanks Value = false
 
 -- whether a piece is a number
 abbrev pub is_numeric : Piece → Bool
 is_numeric Decimal = true
 is_numeric Hexadecimal = true
+is_numeric Padded = true
 is_numeric Value = true
+is_numeric Quote = false
 is_numeric (Character mark) = false
 is_numeric Blanks = false
 
@@ -85,6 +95,8 @@ is_shut digits piece (Character mark ∷ front) = not (is_part piece mark)
 is_shut digits piece (Blanks ∷ front) = not (is_blanks piece)
 is_shut digits piece (Decimal ∷ front) = not (is_numeric piece)
 is_shut digits piece (Hexadecimal ∷ front) = not (is_numeric piece)
+is_shut digits piece (Padded ∷ front) = not (is_numeric piece) && not (is_blanks piece)
+is_shut digits piece (Quote ∷ front) = true
 is_shut digits piece (Value ∷ front) = not (is_numeric piece)
 
 -- whether each piece of a front ends where the next one begins

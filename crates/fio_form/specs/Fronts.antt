@@ -1,9 +1,9 @@
 -- The front of a line, and what is after it.
 use Rattle.std.specs.Prelude.{ℕ, ◌+◌, ◌*◌, ◌%◌, ◌&&◌, ◌==◌, Bool, true, nat_le, if◌then◌else◌, List, [], ◌∷◌, length, Option, Some, None, option_and_then}
 use Rattle.std.specs.List.{list_any}
-use Rattle.fio_form.specs.Forms.{hex_value, is_part}
+use Rattle.fio_form.specs.Forms.{hex_value, is_hex, is_part, is_quotation}
 use Rattle.fio_form.specs.declared.form.Piece.{Piece}
-use Rattle.fio_form.specs.declared.form.Piece.TheVariants.{Character, Value}
+use Rattle.fio_form.specs.declared.form.Piece.TheVariants.{Blanks, Character, Hexadecimal, Padded, Quote, Value}
 use Rattle.fio_form.specs.declared.front.TheConstants.{VALUE_DIGITS}
 
 -- the characters of a piece that a text begins with
@@ -15,6 +15,11 @@ taken_parts piece (character ∷ text) = if is_part piece character then charact
 abbrev pub past : Piece → List ℕ → List ℕ
 past piece [] = []
 past piece (character ∷ text) = if is_part piece character then past piece text else character ∷ text
+
+-- the text after those of a piece, and after the blanks before a padded number
+abbrev pub past_piece : Piece → List ℕ → List ℕ
+past_piece Padded text = past Hexadecimal (past Blanks text)
+past_piece piece text = past piece text
 
 -- the number that hexadecimal digits are, after a value
 abbrev pub value_of : ℕ → List ℕ → ℕ
@@ -30,10 +35,17 @@ abbrev pub is_piece : List ℕ → Piece → List ℕ → Bool
 is_piece values Value digits = has_value values digits
 is_piece values other digits = true
 
+-- the text after hexadecimal digits that it begins with
+abbrev pub after_digits : List ℕ → Option (List ℕ)
+after_digits [] = None
+after_digits (character ∷ text) = if is_hex character then Some (past Hexadecimal text) else None
+
 -- the text after a piece that it begins with
 abbrev pub after_piece : List ℕ → Piece → List ℕ → Option (List ℕ)
 after_piece values piece [] = None
 after_piece values (Character mark) (character ∷ text) = if character == mark then Some text else None
+after_piece values Padded (character ∷ text) = after_digits (past Blanks (character ∷ text))
+after_piece values Quote (character ∷ text) = if is_quotation character then Some text else None
 after_piece values piece (character ∷ text) =
     if is_part piece character && is_piece values piece (taken_parts piece (character ∷ text)) then Some (past piece (character ∷ text)) else None
 

@@ -1,7 +1,7 @@
 -- What lines say by forms.
 use Rattle.std.specs.Prelude.{ℕ, ◌+◌, ◌-◌, ◌&&◌, ◌||◌, Bool, true, false, not, nat_lt, if◌then◌else◌, List, [], ◌∷◌, Option, Some, None, is_some, length, drop, take, slice_index}
 use Rattle.fio_message.specs.Decoding.{command_in, answer_in}
-use Rattle.fio_form.specs.Fronts.{after_piece, after_front, past}
+use Rattle.fio_form.specs.Fronts.{after_piece, after_front, past_piece}
 use Rattle.fio_form.specs.Octets.{ends_open, run_in}
 use Rattle.fio_form.specs.declared.form.LineForm.{LineForm}
 use Rattle.fio_form.specs.declared.form.Piece.{Piece}
@@ -58,7 +58,7 @@ abbrev pub ends_in_front : Digits → List ℕ → List Piece → List ℕ → B
 ends_in_front digits values [] text = ends_open digits Nothing text
 ends_in_front digits values (piece ∷ front) [] = true
 ends_in_front digits values (piece ∷ front) (character ∷ text) =
-    by_rest (is_empty (past piece (character ∷ text))) (after_piece values piece (character ∷ text)) (λ rest. ends_in_front digits values front rest)
+    by_rest (is_empty (past_piece piece (character ∷ text))) (after_piece values piece (character ∷ text)) (λ rest. ends_in_front digits values front rest)
 
 -- whether a line is a beginning of those of a form that ends before the first octet is whole
 abbrev pub ends_in_form : LineForm → List ℕ → Bool

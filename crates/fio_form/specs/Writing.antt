@@ -1,13 +1,13 @@
 -- What a logger of a form writes.
 use Rattle.std.specs.Prelude.{ℕ, ◌+◌, ◌-◌, ◌*◌, ◌<◌, ◌≡◌, ◌≢◌, ◌⊎◌, Bool, true, false, nat_lt, List, [], ◌∷◌, ◌++◌, Option, Some, None, length, map}
 use Rattle.std.specs.List.{AllByRecursion}
-use Rattle.fio_form.specs.Forms.{hex_value, is_space_or_tab, is_decimal, is_hex}
+use Rattle.fio_form.specs.Forms.{hex_value, is_space_or_tab, is_decimal, is_hex, is_quotation}
 use Rattle.fio_form.specs.Fronts.{has_value}
 use Rattle.fio_form.specs.Octets.{makes_longer}
 use Rattle.fio_form.specs.Reading.{LineSaid, Frame, Other, ends_in_form, is_message}
 use Rattle.fio_form.specs.declared.form.LineForm.{LineForm}
 use Rattle.fio_form.specs.declared.form.Piece.{Piece}
-use Rattle.fio_form.specs.declared.form.Piece.TheVariants.{Character, Decimal, Hexadecimal, Blanks, Value}
+use Rattle.fio_form.specs.declared.form.Piece.TheVariants.{Character, Decimal, Hexadecimal, Blanks, Padded, Quote, Value}
 use Rattle.fio_form.specs.declared.form.Digits.{Digits}
 use Rattle.fio_form.specs.declared.form.Digits.TheVariants as digits
 use Rattle.fio_form.specs.declared.form.Step.{Step}
@@ -19,12 +19,28 @@ AreSome test text = (text ≢ []) × AllByRecursion (λ character. test characte
 
 -- ---- The front
 
+-- a hexadecimal number after blanks or none
+pub record IsPadded (text : List ℕ) : Type 0 where
+  pub blanks : List ℕ
+  pub number : List ℕ
+  pub all : AllByRecursion (λ character. is_space_or_tab character ≡ true) blanks
+  pub is : AreSome is_hex number
+  pub whole : text ≡ blanks ++ number
+
+-- a quote
+abbrev pub IsQuote : List ℕ → Type 0
+IsQuote [] = ⊥
+IsQuote (quote ∷ []) = is_quotation quote ≡ true
+IsQuote (quote ∷ more ∷ text) = ⊥
+
 -- a text that a piece may have
 abbrev pub IsPiece : List ℕ → Piece → List ℕ → Type 0
 IsPiece values (Character mark) text = text ≡ mark ∷ []
 IsPiece values Decimal text = AreSome is_decimal text
 IsPiece values Hexadecimal text = AreSome is_hex text
 IsPiece values Blanks text = AreSome is_space_or_tab text
+IsPiece values Padded text = IsPadded text
+IsPiece values Quote text = IsQuote text
 IsPiece values Value text = AreSome is_hex text × (has_value values text ≡ true)
 
 -- a text for each piece of a front

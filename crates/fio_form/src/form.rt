@@ -28,6 +28,10 @@ pub enum Piece {
     Hexadecimal,
     /// Some blanks: spaces and tabs.
     Blanks,
+    /// A number of hexadecimal digits, with blanks before it or not: it stands at the right end of its column.
+    Padded,
+    /// A quote, single or double.
+    Quote,
     /// A number of one to eight hexadecimal digits that has one of the form's values, as a port or an identifier.
     Value,
 }

@@ -1,7 +1,8 @@
 //! The front of a line.
 ghost use Rattle.std.specs.Prelude.{◌≡◌, ◌<◌, ◌≤◌, Some, None, [], true, false, IfSome, IfNone, drop, take, length};
 ghost use Rattle.fio_form.specs.Forms.{hex_value, is_space_or_tab, is_decimal, is_part};
-ghost use Rattle.fio_form.specs.Fronts.{after_front, after_piece, has_value, is_piece, past, taken_parts, value_of};
+ghost use Rattle.fio_form.specs.Fronts.{after_digits, after_front, after_piece, has_value, is_piece, past, past_piece, taken_parts, value_of};
+ghost use Rattle.fio_form.specs.declared.form.Piece.TheVariants.{Blanks};
 ghost use Rattle.fio_form.specs.Reading.{is_empty};
 ghost use Rattle.fio_form.specs.declared.front.TheConstants.{VALUE_DIGITS};
 
@@ -50,15 +51,40 @@ fn has_value(values: &[u32], digits: &[u8]) -> bool
     digits.len() <= VALUE_DIGITS && values.contains(&value_of(digits))
 }
 
+/// Returns the length of the digits that a text begins with.
+fn digits_in(text: &[u8]) -> Option<usize>
+    ensures some { IfSome result (λ count. after_digits text.now ≡ Some (drop count text.now)) }
+    ensures within { IfSome result (λ count. count ≤ length text.now) }
+    ensures none { IfNone result (after_digits text.now ≡ None) }
+{
+    if text.is_empty() || hex_value(text[0]) == 16 {
+        return None;
+    }
+    Some(Piece::Hexadecimal.count_in(text))
+}
+
+/// Returns the length of the blanks, if any, and digits that a text begins with.
+fn padded_in(text: &[u8]) -> Option<usize>
+    ensures some { IfSome result (λ count. after_digits (past Blanks text.now) ≡ Some (drop count text.now)) }
+    ensures within { IfSome result (λ count. count ≤ length text.now) }
+    ensures none { IfNone result (after_digits (past Blanks text.now) ≡ None) }
+{
+    let blanks = Piece::Blanks.count_in(text);
+    match digits_in(&text[blanks..]) {
+        Some(count) => Some(blanks + count),
+        None => None,
+    }
+}
+
 impl Piece {
     /// Returns whether a character can be one of several of this piece.
     pub(crate) fn is_part(self, character: u8) -> bool
         ensures { result ≡ is_part self character }
     {
         match self {
-            Piece::Character(_) => false,
+            Piece::Character(_) | Piece::Quote => false,
             Piece::Decimal => is_decimal(character),
-            Piece::Hexadecimal | Piece::Value => hex_value(character) != 16,
+            Piece::Hexadecimal | Piece::Padded | Piece::Value => hex_value(character) != 16,
             Piece::Blanks => matches!(character, b' ' | b'\t'),
         }
     }
@@ -76,8 +102,18 @@ impl Piece {
         count
     }
 
-    /// Returns whether all characters of a text are of this piece.
+    /// Returns whether all characters of a text are of this piece, behind the blanks of a padded number.
     pub(crate) fn is_all(self, text: &[u8]) -> bool
+        ensures { result ≡ is_empty (past_piece self text.now) }
+    {
+        match self {
+            Piece::Padded => Piece::Hexadecimal.is_rest(&text[Piece::Blanks.count_in(text)..]),
+            piece => piece.is_rest(text),
+        }
+    }
+
+    /// Returns whether all characters of a text are of this piece, without blanks.
+    fn is_rest(self, text: &[u8]) -> bool
         ensures { result ≡ is_empty (past self text.now) }
     {
         self.count_in(text) == text.len()
@@ -94,6 +130,12 @@ impl Piece {
         }
         match self {
             Piece::Character(character) => if text[0] == character { Some(1) } else { None },
+            Piece::Quote => if matches!(text[0], b'"' | b'\'') {
+                Some(1)
+            } else {
+                None
+            },
+            Piece::Padded => padded_in(text),
             piece => {
                 let count = piece.count_in(text);
                 if piece.is_part(text[0])

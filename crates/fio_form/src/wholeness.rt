@@ -9,7 +9,10 @@ use crate::front::is_decimal;
 fn is_numeric(piece: Piece) -> bool
     ensures { result ≡ is_numeric piece }
 {
-    matches!(piece, Piece::Decimal | Piece::Hexadecimal | Piece::Value)
+    matches!(
+        piece,
+        Piece::Decimal | Piece::Hexadecimal | Piece::Padded | Piece::Value
+    )
 }
 
 /// Returns whether an octet has a fixed number of digits.
@@ -33,6 +36,8 @@ fn is_shut(digits: Digits, piece: Piece, front: &[Piece]) -> bool
     match front {
         [Piece::Character(mark), ..] => !piece.is_part(*mark),
         [Piece::Blanks, ..] => piece != Piece::Blanks,
+        [Piece::Padded, ..] => !is_numeric(piece) && piece != Piece::Blanks,
+        [Piece::Quote, ..] => true,
         [] => is_last(digits, piece),
         _ => !is_numeric(piece),
     }
