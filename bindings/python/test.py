@@ -222,6 +222,18 @@ class Ends(unittest.TestCase):
             with self.subTest(module):
                 self.answer_a_poller(module)
 
+    def test_answers_of_the_maker(self):
+        module = fio2070.Module(id=7)
+        self.assertEqual((module.receive(b'\x39\1\2'), module.makers_command(b'\x39\1\2')), (b'', (57, b'\1\2')))
+        for command, body, count in [(59, b'', fio2070.constants.OTHER_AWAITED), (57, bytes(773), fio2070.constants.BODY_TOO_LONG)]:
+            with self.assertRaises(fio2070.AnswerRefused) as refused:
+                module.answer_other(command, body)
+            self.assertEqual(refused.exception.count, count)
+        self.assertEqual(module.answer_other(57, b'\4'), b'\xb9\4')
+        self.assertRaisesRegex(fio2070.AnswerRefused, 'no answer is awaited', module.answer_other, 57, b'\4')
+        self.assertEqual((module.makers_command(encode.identify()), module.answer_other(60, b'four')), ((60, b''), b'\xbcfour'))
+        self.assertIsNone(module.makers_command(encode.poll(0)))
+
     def test_first_number(self):
         # The module's last poll was for block 5: who asks for it anew records its entry again, who goes on does not.
         module, first = fio2070.Module(), fio2070.Poller(5)

@@ -184,6 +184,17 @@ static void is_a_module() {
     CHECK(module.state().counter == 0 && module.state().flags == FIO2070_BIT_WAS_RESET && module.state().errors == fio2070::ErrorCounts());
 }
 
+// The answers of the module's maker, and why they are refused.
+static void has_a_maker() {
+    fio2070::Module<3> module(2);
+    CHECK(module.makers_command({57, 1}) == 57 && module.makers_command({54, 0}) == 0 && module.makers_command({57}) == 57);
+    CHECK(module.answer_other(59, {}).refusal() == fio2070::AnswerRefusal::other_awaited);
+    CHECK(module.answer_other(57, std::vector<std::uint8_t>(773)).refusal() == fio2070::AnswerRefusal::too_long);
+    auto answer = module.answer_other(57, {4});
+    CHECK(answer && hex(*answer) == "b904" && !answer.refusal());
+    CHECK(module.answer_other(57, {4}).refusal() == fio2070::AnswerRefusal::not_awaited);
+}
+
 // Checkers that are not started with numbers.
 static void has_checkers() {
     const std::uint8_t empty[] = {182, 255, 0, 0, 0, 0, 0, 5};
@@ -287,6 +298,6 @@ static void reads_a_line() {
 
 int main() {
     for (const auto test : {reads_and_writes, has_values, tells_values, has_the_longest_text, hears, moves, constructs_a_module, has_parts,
-                            has_texts, is_a_module, has_checkers, judges, judges_a_log, judges_frames, reads_a_line}) test();
+                            has_texts, is_a_module, has_a_maker, has_checkers, judges, judges_a_log, judges_frames, reads_a_line}) test();
     return end_of_checks();
 }

@@ -163,6 +163,24 @@ fn a_module_has_limits_and_is_called() {
     assert_eq!((module.state().counter, module.state().flags), (0, 0x80));
 }
 
+/// The answers of the module's maker, and why they are refused.
+#[test]
+fn a_maker_answers() {
+    let (mut module, mut out) = (Module::new(2, 255).unwrap(), [0; LONGEST_FRAME]);
+    assert_eq!(module.makers_command(&POLL), None);
+    assert_eq!(module.makers_command(&[57, 1]), Some((57, &[1][..])));
+    let refused = module.answer_other(59, &[], &mut out);
+    assert_eq!(refused, Err(AnswerRefusal::OtherAwaited));
+    let refused = module.answer_other(57, &[0; 773], &mut out);
+    assert_eq!(refused, Err(AnswerRefusal::TooLong));
+    assert_eq!(
+        module.answer_other(57, &[4], &mut out),
+        Ok(&[0xb9, 4][..])
+    );
+    let refused = module.answer_other(57, &[4], &mut out).unwrap_err();
+    assert_eq!(refused.to_string(), "no answer is awaited");
+}
+
 /// Of a copy of a module entries wait, whatever becomes of the module.
 #[test]
 fn a_poller_polls_a_copy() {
