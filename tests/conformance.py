@@ -395,8 +395,10 @@ def wires(check, room):
         check.equal('refused: ' + ' '.join(words), (2, 'a number is out of its range\n'), (done.returncode, done.stdout))
     over(check, 'wire: another identification', [tester, '--id', '3', '--command', adapter, '5000', '--first'], differs)
     for name, command, fault in [('ends', 'read line', 'it ended'), ('is late', 'sleep 9', 'it wrote no line in time'),
-                                 ('says something else', "sed -u 's/.*/what/'", 'not `done`: what')]:
+                                 ('says something else', "sed -u 's/.*/what/'", 'not `done`: what'),
+                                 ('says what is no text', r"LC_ALL=C sed -u 's/.*/\x1b[2J\xff/'", 'not `done`: ?[2J?')]:
         over(check, 'wire: a module that ' + name, [tester, '--deadline', '300', '--command', command, '1000'], (3, fault))
+    over(check, 'wire: a module that writes for ever', [tester, '--deadline', '300', '--command', 'yes done', '1000', '--first'], differs)
     over(check, 'wire: a socket', [tester, '--socket', '127.0.0.1:%d' % served(adapter), '5000'], same)
     cpus_end(check, tester, python, faulty)
     if check.has_terminal('wire: a pseudo-terminal'):

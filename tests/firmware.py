@@ -7,6 +7,7 @@ polled; and planted faults, each of which is found. Last line: `N passed, M fail
 
 import contextlib
 import csv
+import errno
 import fcntl
 import functools
 import glob
@@ -499,22 +500,20 @@ def power_loses(*changes):
     return next(filter(None, (cut_once(program, seed) for seed in range(1, CUTS + 1))), None)
 
 
-def second_goes_on():
-    """Of two controllers with one number, the second ends and says why. Returns what they do otherwise."""
-    master, slave = pty.openpty()
-    tty.setraw(slave)
-    keep = os.path.join(room, 'one.number')
-    words = [os.path.join(built(), 'controller'), '--keep', keep, os.ttyname(slave), os.path.join(room, 'one.csv')]
-    try:
+def second_goes_on(says, keep, is_same_line):
+    """Of two controllers the second ends and says why. Returns what they do otherwise."""
+    with contextlib.ExitStack() as stack:
+        (master, line), other = pty.openpty(), pty.openpty()
+        for file in (master, line, *other):
+            stack.callback(os.close, file)
+        tty.setraw(line)
+        words = [os.path.join(built(), 'controller'), '--keep', os.path.join(room, 'one.number'), os.ttyname(line), os.path.join(room, 'one.csv')]
         with subprocess.Popen(words, stderr=subprocess.DEVNULL) as first:
             os.read(master, 1)
-            second = run(*words[:-1], os.path.join(room, 'two.csv'), timeout=20)
+            second = run(*words[:2], os.path.join(room, keep), os.ttyname(line if is_same_line else other[1]), os.path.join(room, 'two.csv'), timeout=20)
             goes_on = first.poll() is None
             first.kill()
-    finally:
-        os.close(master)
-        os.close(slave)
-    said = 'controller: %s: another controller has it\n' % keep
+        said = 'controller: %s: %s\n' % (os.ttyname(line) if is_same_line else os.path.join(room, keep), says)
     return None if (second.returncode, second.stderr, goes_on) == (1, said, True) else (second, goes_on)
 
 
@@ -736,7 +735,8 @@ def main():
         check.fault('found: a loss that is not reported', finds_nothing, ring_is_wrong, NOT_REPORTED)
         check.fault('found: a place that is freed first', finds_nothing, frees_early, FREED_FIRST)
     held_rows()
-    check.fault('two controllers with one number', second_goes_on)
+    check.fault('two controllers with one number', second_goes_on, 'another controller has it', 'one.number', False)
+    check.fault('two controllers on one serial device', second_goes_on, os.strerror(errno.EBUSY), 'two.number', True)
     late_rows()
     if check.wants('the recipe for a module that is only polled') or check.wants('found: a state that is always 1'):
         recipe_rows()

@@ -1,12 +1,13 @@
 #!/usr/bin/env -S python3 -B
 """Compares the translator of the portable library (tools/portable) with an interpreter: each instruction that it takes is
 run on numbers at the edges of its range, by `wasm-interp` of the Debian package wabt and as translated C, and each other
-instruction is refused. With `--all` also with sanitizers; and translators with a wrong rule that no frame reveals are found.
-Last line: `N passed, M failed`."""
+instruction is refused; an access outside ends a program that does not say how. With `--all` also with sanitizers; and
+translators with a wrong rule that no frame reveals are found. Last line: `N passed, M failed`."""
 
 import os
 import re
 import shutil
+import signal
 import sys
 
 from support import instructions as cases
@@ -27,6 +28,8 @@ FLAGS = ['--enable-memory64']
 # Each of these compiles the C, the second without the operations that gcc has beyond C99.
 WAYS = [['-O0'], ['-O2', '-DFIO2070_FAST', '-DPLAIN', '-w'],
         ['-O1', '-fsanitize=address,undefined', '-fno-sanitize-recover=all']]
+# What ends a program that says nothing of FIO2070_TRAP.
+LOUD = [(['-O0'], ('SIGILL', 'SIGTRAP')), (['-O2', '-DFIO2070_FAST'], ('SIGILL', 'SIGTRAP')), (['-O0', '-DPLAIN', '-w'], ('SIGABRT',))]
 
 check = Check()
 
@@ -68,7 +71,7 @@ def translated(functions, options, translator=TRANSLATOR):
     done = run('gcc', '-std=c99', *options, '-I', room, C, '-o', path('cases'))
     if done.returncode:
         return {'compiler': done.stderr[-500:]}
-    done = run(path('cases'))
+    done = run('timeout', '60', path('cases'))
     found = dict(line.split(' ', 1) for line in done.stdout.splitlines())
     return {**found, 'status': str(done.returncode)} if done.returncode else found
 
@@ -84,6 +87,12 @@ def is_found(wrong):
     return None if found != due else 'all is the same'
 
 
+def is_loud(options, signals):
+    """Such a program ends by one of these signals."""
+    found = translated(cases.OUTSIDE[:1], ['-DOWN_TRAP', *options])
+    return None if found.get('status') in ['-%d' % getattr(signal, name) for name in signals] else found
+
+
 def is_refused(text):
     return None if translated_text(module_of([('case', text)])) is None else 'it is translated'
 
@@ -92,6 +101,8 @@ if not shutil.which('wasm-interp'):
     check.skip('instructions', 'no wasm-interp here (Debian package wabt)')
     check.end()
 wanted = interpreted(cases.TAKEN)
+for options, signals in LOUD:
+    check.fault('an access outside ends the program, by gcc ' + ' '.join(options), is_loud, options, signals)
 check.equal('each function is run', sorted(name for name, _ in cases.TAKEN), sorted(wanted))
 for options in WAYS if check.whole('with sanitizers') else WAYS[:2]:
     found = translated(cases.TAKEN, options)

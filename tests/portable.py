@@ -2,7 +2,8 @@
 """Builds the portable library of `make portable`, and compares what all its calls return for random octets and frames with what
 those of the library for x86-64 do: here by one compiler; with `--all` by each compiler and with sanitizers, on two other
 processors under qemu-user, in a smaller run on a Cortex-M4 under qemu-system-arm, and by wrong translators, each of which is
-found. With `--all --every` on all processors, and by all wrong translators. Last line: `N passed, M failed`."""
+found; and what analysers warn of is argued away. With `--all --every` on all processors, and by all wrong translators. Last line:
+`N passed, M failed`."""
 
 import functools
 import glob
@@ -12,7 +13,7 @@ import shutil
 import subprocess
 import sys
 
-from support import cortex
+from support import analysers, cortex
 from support.check import Check
 from support.room import fault_of, path, room, run, written
 from support.tables import TOP
@@ -248,6 +249,7 @@ for compiler in ('gcc', 'clang'):
     check.fault('alone by ' + compiler, is_alone, compiler)
     check.fault('all calls by ' + compiler, lambda by: build(by, ['-O1', *(FAULTS.get(by, []) if check.given.all else [])], by) or differs([path(by)]), compiler)
 check.fault('no line is too long for C99', long_lines)
+analysers.rows(check, PORTABLE)
 for compiler, standard in (('gcc', 'c89'), ('g++', 'c++98')):
     if shutil.which(compiler):
         check.fault('refused: ' + standard, is_taken, compiler, standard)

@@ -8,6 +8,7 @@
 #include <netinet/tcp.h>
 #include <stdio.h>
 #include <string.h>
+#include <sys/file.h>
 #include <sys/socket.h>
 #include <termios.h>
 #include <unistd.h>
@@ -40,10 +41,15 @@ static int opened_socket(const char *name, const char *colon) {
     return file;
 }
 
-/* Octets with a wrong parity or stop bit are marked. */
+/* Octets with a wrong parity or stop bit are marked. A second controller would take answers of the first. */
 static int opened_device(const char *name, int *is_marked) {
     struct termios settings;
-    int file = open(name, O_RDWR | O_NOCTTY | O_NONBLOCK);
+    int file = open(name, O_RDWR | O_NOCTTY | O_NONBLOCK | O_CLOEXEC);
+    if (file >= 0 && flock(file, LOCK_EX | LOCK_NB) != 0) {
+        close(file);
+        errno = EBUSY;
+        return -1;
+    }
     if (file >= 0 && tcgetattr(file, &settings) == 0) {
         cfmakeraw(&settings);
         settings.c_iflag = (settings.c_iflag & ~(tcflag_t)IGNPAR) | INPCK | PARMRK;

@@ -159,8 +159,13 @@ void conformance_wire_close(struct wire *wire) {
 
 /* ---- Lines ---- */
 
+/* What a device wrote is shown on a terminal: a `?` is each octet that is no character of ASCII. */
 int conformance_wire_fail(struct wire *wire, const char *fault, const char *line) {
+    char *octet;
     if (!wire->has_failed) snprintf(wire->fault, sizeof wire->fault, "%s%.40s", fault, line);
+    for (octet = wire->fault; *octet != '\0'; octet++) {
+        if (*octet < ' ' || *octet > '~') *octet = '?';
+    }
     wire->has_failed = 1;
     return 0;
 }
@@ -231,6 +236,7 @@ static int read_line(struct wire *wire, char line[WIRE_LONGEST_LINE]) {
 
 int conformance_wire_ask(struct wire *wire, const char *line, char said[WIRE_LONGEST_LINE]) {
     if (wire->has_failed) return 0;
+    if (take_line(wire, said)) return conformance_wire_fail(wire, "it wrote more than one line: ", said);
     snprintf(wire->asked, sizeof wire->asked, "%s", line);
     wire->asked[strcspn(wire->asked, "\n")] = '\0';
     return write_line(wire, line) && read_line(wire, said);

@@ -12,6 +12,8 @@ from module import Refused
 
 ADD_64, SUBTRACT_64 = 0x7C, 0x7D
 IS_ZERO_32, IS_ZERO_64, IS_OTHER_64 = 0x45, 0x50, 0x52
+# The most braces in each other: every C99 compiler takes 127, and some no more.
+MOST_BRACES = 100
 
 
 class Function:
@@ -66,7 +68,7 @@ class Function:
     def begin(self, kind, results):
         self.labels += 1
         self.blocks.append({'kind': kind, 'results': results, 'height': len(self.stack), 'label': self.labels,
-                            'assigned': set(), 'places': list(self.places)})
+                            'braces': 0, 'assigned': set(), 'places': list(self.places)})
 
     def settle(self):
         """Settles the accesses: what follows is not always done after what comes before."""
@@ -100,6 +102,11 @@ class Function:
             if source != target:
                 self.say('%s = %s;' % (target, source))
 
+    def can_nest(self):
+        """Returns whether what a branch to the end of this block passes over may be in braces."""
+        block = self.blocks[-1]
+        return block['kind'] == 'block' and not block['results'] and sum(it['braces'] for it in self.blocks) < MOST_BRACES
+
     def is_in_loop(self):
         return any(it['kind'] == 'loop' for it in self.blocks)
 
@@ -112,14 +119,15 @@ class Function:
         raise Refused('a block with parameters in function %d' % self.index)
 
     def end_block(self, reachable):
+        """Ends a block. Returns whether what follows it can be reached."""
         block = self.blocks[-1]
-        is_joined = block['kind'] in ('if', 'else') or block['kind'] != 'loop' and block['label'] in self.used
+        is_joined = block['kind'] in ('if', 'else') or block['kind'] != 'loop' and (block['label'] in self.used or block['braces'] > 0)
         if is_joined or block['kind'] == 'function':
             self.settle()
         if reachable:
             self.move(block)
-        if block['kind'] == 'function' and (reachable or not self.lines or not self.lines[-1].startswith('return')):
-            self.say('return%s;' % (' r' if self.gives else ''))
+        if block['kind'] == 'function' and self.gives and (reachable or not self.lines or not self.lines[-1].startswith('return')):
+            self.say('return r;')
         del self.stack[block['height']:]
         self.accesses.leave(len(self.blocks), is_joined)
         self.blocks.pop()
@@ -127,12 +135,14 @@ class Function:
             self.blocks[-1]['assigned'] |= block['assigned']
         if is_joined:
             self.forget(block['assigned'])
+        self.lines += ['}'] * block['braces']
         if block['kind'] == 'if':
             self.say('e%d:;' % block['label'])
         if block['kind'] in ('block', 'if', 'else') and block['label'] in self.used:
             self.say('l%d:;' % block['label'])
         for place, kind in enumerate(block['results']):
             self.stack.append((kind, '%s%d' % (LETTER[kind], block['height'] + place), self.accesses.fresh()))
+        return reachable or is_joined
 
     def begin_else(self, reachable):
         block = self.blocks[-1]
@@ -161,24 +171,25 @@ class Function:
         return range(known, len(self.locals))
 
     def read(self, it):
-        """Reads a function's locals, which are 0 at first, and its body, whose block has begun."""
+        """Reads a function's locals, which are 0 at first, and its body, whose block has begun. Returns whether its end can be
+        reached."""
         added, reachable = self.read_locals(it), True
         for index in added if self.outermost else ():
             self.say('v%d = 0;' % index)
         while len(self.blocks) > self.outermost:
             op = it.octet()
             if op == 0x0B:
-                self.end_block(reachable)
-                reachable = True
+                reachable = self.end_block(reachable)
             elif op == 0x05:
                 self.begin_else(reachable)
                 reachable = True
             else:
                 reachable = self.step(op, it)
-                if not reachable:
-                    skip(it)
+            if not reachable and len(self.blocks) > self.outermost:
+                skip(it)
         if it.place != it.end:
             raise Refused('octets after function %d' % self.index)
+        return reachable
 
     # ---- Instructions ----
 
@@ -261,15 +272,15 @@ class Function:
         self.forget(assigned)
         if is_straight(it):
             self.blocks[-1]['loop'] = Loop(len(self.lines), list(self.places), assigned)
-        self.say('l%d:;' % self.labels)
+        self.say('for (;;) {' if 'loop' in self.blocks[-1] else 'l%d:;' % self.labels)
 
-    def end_turn(self, condition):
-        """Ends a straight loop, which goes on as long as this holds. Returns what moves pointers on."""
-        loop = self.blocks[-1].get('loop')
-        if not loop:
-            return []
+    def end_turn(self, condition, place):
+        """Ends a straight loop, which goes on as long as this holds, and moves pointers on."""
+        loop = self.blocks[-1]['loop']
         loop.measure(self.places)
-        return self.accesses.settle_turns(loop, loop.turns(condition), self.lines)
+        moves = self.accesses.settle_turns(loop, loop.turns(place), self.lines)
+        self.settle()
+        self.lines += ['if (!%s) break;' % condition, *moves, '}']
 
     def condition(self, op, it):
         results = self.block_type(it)
@@ -284,11 +295,18 @@ class Function:
 
     def go_if(self, op, it):
         (condition, place), depth = self.pop_entry(I32), it.number()
-        moved, mark = self.end_turn(place), len(self.lines)
-        go = self.branch(depth)
-        moves = moved + self.lines[mark:]
-        del self.lines[mark:]
-        self.say('if (%s) { %s }' % (condition, ' '.join(moves + [go])))
+        if 'loop' in self.blocks[-1]:
+            self.end_turn(condition, place)
+        elif depth == 0 and self.can_nest():
+            self.settle()
+            self.blocks[-1]['braces'] += 1
+            self.say('if (!%s) {' % condition)
+        else:
+            mark = len(self.lines)
+            go = self.branch(depth)
+            moves = self.lines[mark:]
+            del self.lines[mark:]
+            self.say('if (%s) { %s }' % (condition, ' '.join(moves + [go])))
 
     def go_by_table(self, op, it):
         which = self.pop(I32)
@@ -326,8 +344,9 @@ class Function:
             self.put(first + place, *entry)
         self.first, self.outermost = first, len(self.blocks)
         self.begin('block', gives)
-        self.read(code.copy())
+        reachable = self.read(code.copy())
         self.first, self.outermost = outer
+        return reachable
 
     def drop(self, op, it):
         self.say('(void)%s;' % self.pop())
@@ -397,7 +416,7 @@ class Function:
         for name, kind in sorted(self.variables.items(), key=lambda it: (it[0][0], int(it[0][1:]))):
             lines.append('%s %s;' % (TYPES[kind], name))
         if self.gives:
-            lines.append('%s r;' % TYPES[self.gives[0]])
+            lines.append('%s r = 0;' % TYPES[self.gives[0]])
         words = ' '.join(self.lines)
         for pointer in self.accesses.names():
             if '(%s + ' % pointer in words:

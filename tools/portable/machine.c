@@ -30,9 +30,15 @@
 #endif
 #endif
 
-/* The module is proved not to come here. A watchdog finds a call that never returns. */
+/* The module is proved not to come here: the processor or its memory failed, or something else wrote to a struct. By default an
+ * instruction that is none ends the program: a signal where there is a system, the handler of faults where there is none. */
 #ifndef FIO2070_TRAP
-#define FIO2070_TRAP() ((void)0)
+#if defined(__GNUC__)
+#define FIO2070_TRAP() __builtin_trap()
+#else
+#include <stdlib.h>
+#define FIO2070_TRAP() abort()
+#endif
 #endif
 FIO2070_COLD static void fio2070_trap(void) {
     FIO2070_TRAP();

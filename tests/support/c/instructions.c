@@ -3,10 +3,13 @@
 #include <setjmp.h>
 #include <stdint.h>
 #include <stdio.h>
+#include <stdlib.h>
 #include <string.h>
 
 static jmp_buf trapped;
+#ifndef OWN_TRAP
 #define FIO2070_TRAP() longjmp(trapped, 1)
+#endif
 
 /* Where the memory that is written ends, and the numbers begin. */
 enum { DATA = 1024, ALL = 4096, WINDOWS = 2 };
