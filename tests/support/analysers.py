@@ -67,7 +67,7 @@ def misra(folder):
             shutil.copy(os.path.join(folder, name), room)
         source = os.path.join(room, 'fio2070.c')
         subprocess.run(['cppcheck', '--dump', '-q', '--std=c99', *PARTLY, '-I', room, source], stderr=subprocess.DEVNULL, check=True)
-        said = subprocess.run([sys.executable, MISRA, source + '.dump'], capture_output=True, text=True, check=False)
+        said = subprocess.run([sys.executable, MISRA, '--no-summary', source + '.dump'], capture_output=True, text=True, check=False)
     return collections.Counter(re.findall(r'misra-c2012-(\d+\.\d+)', said.stdout + said.stderr))
 
 
