@@ -8,9 +8,9 @@
  * access outside the arguments of a call, which the proof excludes, ends in FIO2070_TRAP(). FIO2070_UNCHECKED leaves
  * the tests of accesses out. FIO2070_FAST makes the code longer and faster.
  *
- * Sources: e7bcd800e015bae25524d4a8698315b8581dd3524b54fe4dddc1fd3708b027d8 (SHA-256; packaging/release-files --sources)
+ * Sources: 47c2bf2168810543ec86723077402a7804d166e4ffda3f9e686349ea01c41a2f (SHA-256; packaging/release-files --sources)
  * Kit: rattle-kit-13f logic dac8208d650f15bf
- * Proof: logic=proved functions=213 target=wasm64-unknown-unknown sum=dac8208d650f15bf native=nat,char,string
+ * Proof: logic=proved functions=219 target=wasm64-unknown-unknown sum=dac8208d650f15bf native=nat,char,string
  * Made by `make release-files`: do not edit.
  *
  * Proved is the module of which fio2070.c was made, for wasm64: each call does what fio2070.h says for all octets,
@@ -79,9 +79,15 @@ m->g1 = 0;
 #endif
 #endif
 
-/* The module is proved not to come here. A watchdog finds a call that never returns. */
+/* The module is proved not to come here: the processor or its memory failed, or something else wrote to a struct. By default an
+ * instruction that is none ends the program: a signal where there is a system, the handler of faults where there is none. */
 #ifndef FIO2070_TRAP
-#define FIO2070_TRAP() ((void)0)
+#if defined(__GNUC__)
+#define FIO2070_TRAP() __builtin_trap()
+#else
+#include <stdlib.h>
+#define FIO2070_TRAP() abort()
+#endif
 #endif
 FIO2070_COLD static void fio2070_trap(void) {
     FIO2070_TRAP();
@@ -327,6 +333,8 @@ static void enter_sized_module_count_transmit_error(struct machine *m, uint64_t 
 static void proved_sized_module_count_transmit_error(struct machine *m, uint64_t v0);
 static void enter_sized_module_line_sync(struct machine *m, uint64_t v0);
 static void proved_sized_module_line_sync(struct machine *m, uint64_t v0);
+static uint32_t enter_sized_module_makers_command(struct machine *m, uint64_t v0, uint64_t v1, uint64_t v2);
+static uint32_t proved_sized_module_makers_command(struct machine *m, uint64_t v0, uint64_t v1, uint64_t v2);
 static void enter_sized_module_raise(struct machine *m, uint64_t v0, uint32_t v1);
 static void proved_sized_module_raise(struct machine *m, uint64_t v0, uint32_t v1);
 static void enter_sized_module_restart(struct machine *m, uint64_t v0);
@@ -387,6 +395,8 @@ static uint32_t enter_checker_sent(struct machine *m, uint64_t v0, uint64_t v1, 
 static uint32_t proved_checker_sent(struct machine *m, uint64_t v0, uint64_t v1, uint64_t v2, uint64_t v3);
 static void enter_judge_lose(struct machine *m, uint64_t v0);
 static void proved_judge_lose(struct machine *m, uint64_t v0);
+static uint32_t enter_plan(struct machine *m, uint64_t v0, uint64_t v1);
+static uint32_t proved_plan(struct machine *m, uint64_t v0, uint64_t v1);
 static void enter_poller_hear(struct machine *m, uint64_t v0, uint64_t v1, uint64_t v2, uint64_t v3, uint64_t v4, uint64_t v5);
 static void proved_poller_hear(struct machine *m, uint64_t v0, uint64_t v1, uint64_t v2, uint64_t v3, uint64_t v4, uint64_t v5);
 static uint32_t enter_judge_heard(struct machine *m, uint64_t v0, uint64_t v1, uint64_t v2, uint64_t v3);
@@ -407,6 +417,8 @@ static uint64_t enter_heard_text(struct machine *m, uint64_t v0, uint64_t v1, ui
 static uint64_t proved_heard_text(struct machine *m, uint64_t v0, uint64_t v1, uint64_t v2);
 static uint64_t enter_rule_text(struct machine *m, uint32_t v0, uint64_t v1, uint64_t v2);
 static uint64_t proved_rule_text(struct machine *m, uint32_t v0, uint64_t v1, uint64_t v2);
+static uint64_t enter_sized_module_answer_other(struct machine *m, uint64_t v0, uint32_t v1, uint64_t v2, uint64_t v3, uint64_t v4, uint64_t v5);
+static uint64_t proved_sized_module_answer_other(struct machine *m, uint64_t v0, uint32_t v1, uint64_t v2, uint64_t v3, uint64_t v4, uint64_t v5);
 static uint64_t enter_encode_answer(struct machine *m, uint64_t v0, uint64_t v1, uint64_t v2, uint64_t v3, uint64_t v4, uint64_t v5, uint64_t v6);
 static uint64_t proved_encode_answer(struct machine *m, uint64_t v0, uint64_t v1, uint64_t v2, uint64_t v3, uint64_t v4, uint64_t v5, uint64_t v6);
 static uint64_t enter_encode_command(struct machine *m, uint64_t v0, uint64_t v1, uint64_t v2, uint64_t v3, uint64_t v4, uint64_t v5, uint64_t v6);
@@ -416,7 +428,7 @@ static uint32_t rattle_enter(struct machine *m)
 uint32_t v0 = 0;
 uint32_t i0;
 uint32_t i1;
-uint32_t r;
+uint32_t r = 0;
 i0 = m->g1;
 v0 = i0;
 i0 = UINT32_C(1);
@@ -432,7 +444,6 @@ static void rattle_leave(struct machine *m)
 uint32_t i0;
 i0 = UINT32_C(0);
 m->g1 = i0;
-return;
 }
 static void fio_check_content_ContentChecker_heard(struct machine *m, uint64_t v0, uint64_t v1, uint64_t v2, uint64_t v3)
 {
@@ -602,7 +613,7 @@ j0 = v4;
 v4 = j0;
 j1 = UINT64_C(16);
 i0 = (SIGNED64(j0) < SIGNED64(j1));
-if (i0) { goto l9; }
+if (!i0) {
 j0 = v4;
 j1 = UINT64_C(0);
 store64(p1 + 32, j1);
@@ -667,7 +678,7 @@ if (i0) { goto l10; }
 i0 = v6;
 i1 = UINT32_C(180);
 i0 = (i0 < i1);
-if (i0) { goto l12; }
+if (!i0) {
 j0 = UINT64_C(13);
 v5 = j0;
 i0 = v6;
@@ -681,6 +692,7 @@ i1 = UINT32_C(189);
 i0 = (i0 < i1);
 if (i0) { goto l11; }
 goto l10;
+}
 l12:;
 j0 = UINT64_C(2);
 v5 = j0;
@@ -1023,6 +1035,7 @@ v10 = i0;
 i0 = UINT32_C(0);
 v9 = i0;
 goto l4;
+}
 l9:;
 fio2070_trap();
 l8:;
@@ -1089,7 +1102,7 @@ j0 = j0 + j1;
 p13 = read_at(j0, m, 1u);
 i0 = load8(p13 + 0);
 i0 = (i0 == 0);
-if (i0) { goto l3; }
+if (!i0) {
 j0 = v4;
 j1 = UINT64_C(0);
 p14 = write_at(j0 + UINT64_C(40), m, 16u);
@@ -1099,7 +1112,7 @@ j1 = UINT64_C(0);
 store64(p14 + 0, j1);
 i0 = v8;
 i0 = (i0 == 0);
-if (i0) { goto l35; }
+if (!i0) {
 j0 = v1;
 j1 = UINT64_C(688);
 j0 = j0 + j1;
@@ -1148,7 +1161,7 @@ i0 = v15;
 i1 = UINT32_C(4);
 i0 = i0 & i1;
 i0 = (i0 == 0);
-if (i0) { goto l36; }
+if (!i0) {
 j0 = v1;
 j1 = UINT64_C(104);
 j0 = j0 + j1;
@@ -1167,7 +1180,7 @@ j1 = UINT64_C(0);
 store64(p18 + 0, j1);
 i0 = UINT32_C(1);
 v18 = i0;
-l36:;
+}
 j0 = v4;
 i0 = load8(p14 + 14);
 v12 = i0;
@@ -1186,7 +1199,7 @@ v19 = i0;
 i0 = v14;
 i1 = UINT32_C(2);
 i0 = (i0 > i1);
-if (i0) { goto l38; }
+if (!i0) {
 j0 = v1;
 j1 = UINT64_C(681);
 j0 = j0 + j1;
@@ -1199,7 +1212,7 @@ j0 = j0 + j1;
 i0 = load8(p19 + 0);
 v7 = i0;
 goto l37;
-l38:;
+}
 j0 = v1;
 j1 = UINT64_C(128);
 j0 = j0 + j1;
@@ -1250,11 +1263,11 @@ v25 = i0;
 i0 = v24;
 i1 = UINT32_C(1);
 i0 = (i0 == i1);
-if (i0) { goto l44; }
+if (!i0) {
 i0 = v7;
 i1 = UINT32_C(255);
 i0 = i0 & i1;
-if (i0) { goto l45; }
+if (!i0) {
 j0 = v1;
 j1 = UINT64_C(681);
 j0 = j0 + j1;
@@ -1262,7 +1275,7 @@ p22 = read_at(j0, m, 1u);
 i0 = load8(p22 + 0);
 v24 = i0;
 i0 = (i0 == 0);
-if (i0) { goto l45; }
+if (!i0) {
 i0 = v6;
 j1 = v1;
 j2 = UINT64_C(668);
@@ -1271,14 +1284,14 @@ p23 = read_at(j1, m, 4u);
 i1 = load32(p23 + 0);
 v12 = i1;
 i0 = (i0 == i1);
-if (i0) { goto l45; }
+if (!i0) {
 i0 = v6;
 i1 = v12;
 i0 = i0 - i1;
 v26 = i0;
 i1 = UINT32_C(0);
 i0 = (SIGNED32(i0) < SIGNED32(i1));
-if (i0) { goto l45; }
+if (!i0) {
 j0 = v1;
 j1 = UINT64_C(112);
 j0 = j0 + j1;
@@ -1294,7 +1307,7 @@ j0 = j0 >> (j1 & 63);
 i0 = (uint32_t)j0;
 i1 = UINT32_C(1);
 i0 = i0 & i1;
-if (i0) { goto l47; }
+if (!i0) {
 j0 = v1;
 j1 = UINT64_C(104);
 j0 = j0 + j1;
@@ -1306,7 +1319,7 @@ i0 = (uint32_t)j0;
 i1 = UINT32_C(1);
 i0 = i0 & i1;
 i0 = (i0 == 0);
-if (i0) { goto l47; }
+if (!i0) {
 j0 = v1;
 j1 = UINT64_C(640);
 j0 = j0 + j1;
@@ -1323,7 +1336,8 @@ i0 = (uint32_t)j0;
 i1 = UINT32_C(1);
 i0 = i0 & i1;
 if (i0) { goto l42; }
-l47:;
+}
+}
 j0 = v2;
 j1 = v3;
 j2 = UINT64_C(1);
@@ -1333,7 +1347,7 @@ j0 = j0 >> (j1 & 63);
 i0 = (uint32_t)j0;
 i1 = UINT32_C(1);
 i0 = i0 & i1;
-if (i0) { goto l48; }
+if (!i0) {
 j0 = v1;
 j1 = UINT64_C(104);
 j0 = j0 + j1;
@@ -1345,7 +1359,7 @@ i0 = (uint32_t)j0;
 i1 = UINT32_C(1);
 i0 = i0 & i1;
 i0 = (i0 == 0);
-if (i0) { goto l48; }
+if (!i0) {
 j0 = v1;
 j1 = UINT64_C(640);
 j0 = j0 + j1;
@@ -1362,7 +1376,8 @@ i0 = (uint32_t)j0;
 i1 = UINT32_C(1);
 i0 = i0 & i1;
 if (i0) { goto l43; }
-l48:;
+}
+}
 j0 = v3;
 j1 = UINT64_C(2);
 j0 = j0 + j1;
@@ -1370,7 +1385,10 @@ v3 = j0;
 j1 = UINT64_C(64);
 i0 = (j0 != j1);
 if (i0) { goto l46; }
-l45:;
+}
+}
+}
+}
 j0 = v4;
 i1 = UINT32_C(1284);
 p29 = write_at(j0 + UINT64_C(58), m, 6u);
@@ -1468,7 +1486,7 @@ i1 = load32(p34 + 0);
 v10 = i1;
 i0 = (i0 != i1);
 v11 = i0;
-if (i0) { goto l58; }
+if (!i0) {
 j0 = v1;
 j1 = UINT64_C(680);
 j0 = j0 + j1;
@@ -1477,7 +1495,7 @@ i0 = load8(p35 + 0);
 i1 = v8;
 i0 = (i0 < i1);
 v9 = i0;
-l58:;
+}
 i0 = v11;
 i1 = v6;
 i2 = v10;
@@ -1655,14 +1673,14 @@ l52:;
 i0 = v7;
 i1 = UINT32_C(255);
 i0 = i0 & i1;
-if (i0) { goto l51; }
+if (!i0) {
 j0 = v1;
 j1 = UINT64_C(681);
 j0 = j0 + j1;
 p49 = read_at(j0, m, 1u);
 i0 = load8(p49 + 0);
 i0 = (i0 == 0);
-if (i0) { goto l59; }
+if (!i0) {
 i0 = v6;
 j1 = v1;
 j2 = UINT64_C(668);
@@ -1671,13 +1689,13 @@ p50 = read_at(j1, m, 4u);
 i1 = load32(p50 + 0);
 v9 = i1;
 i0 = (i0 == i1);
-if (i0) { goto l59; }
+if (!i0) {
 i0 = v6;
 i1 = v9;
 i0 = i0 - i1;
 i1 = UINT32_C(0);
 i0 = (SIGNED32(i0) < SIGNED32(i1));
-if (i0) { goto l59; }
+if (!i0) {
 i0 = v8;
 i1 = UINT32_C(63);
 i0 = (i0 > i1);
@@ -1747,12 +1765,14 @@ i0 = i0 & i1;
 i0 = (i0 == 0);
 if (i0) { goto l51; }
 goto l49;
-l59:;
+}
+}
+}
 i0 = v8;
 i1 = UINT32_C(63);
 i0 = (i0 > i1);
 v9 = i0;
-if (i0) { goto l60; }
+if (!i0) {
 j0 = v1;
 j1 = UINT64_C(64);
 j0 = j0 + j1;
@@ -1764,7 +1784,7 @@ i0 = (uint32_t)j0;
 i1 = UINT32_C(1);
 i0 = i0 & i1;
 i0 = (i0 == 0);
-if (i0) { goto l60; }
+if (!i0) {
 i0 = v25;
 i1 = UINT32_C(0);
 i0 = (SIGNED32(i0) < SIGNED32(i1));
@@ -1780,9 +1800,10 @@ i2 = UINT32_C(1);
 i1 = i1 & i2;
 i0 = (i0 == i1);
 if (i0) { goto l49; }
-l60:;
+}
+}
 i0 = v9;
-if (i0) { goto l51; }
+if (!i0) {
 j0 = v1;
 j1 = UINT64_C(80);
 j0 = j0 + j1;
@@ -1794,6 +1815,8 @@ i0 = (uint32_t)j0;
 i1 = UINT32_C(1);
 i0 = i0 & i1;
 if (i0) { goto l49; }
+}
+}
 l51:;
 j0 = v3;
 j1 = UINT64_C(1);
@@ -1822,6 +1845,7 @@ i0 = UINT32_C(1);
 v10 = i0;
 i0 = v8;
 v11 = i0;
+}
 l44:;
 j0 = v1;
 j1 = UINT64_C(681);
@@ -1837,12 +1861,12 @@ i0 = v7;
 i1 = UINT32_C(255);
 i0 = i0 & i1;
 i0 = (i0 == 0);
-if (i0) { goto l63; }
+if (!i0) {
 i0 = v24;
 i1 = UINT32_C(255);
 i0 = i0 & i1;
 i0 = (i0 == 0);
-if (i0) { goto l64; }
+if (!i0) {
 i0 = v6;
 j1 = v1;
 j2 = UINT64_C(668);
@@ -1851,14 +1875,14 @@ p60 = read_at(j1, m, 4u);
 i1 = load32(p60 + 0);
 v23 = i1;
 i0 = (i0 == i1);
-if (i0) { goto l64; }
+if (!i0) {
 i0 = v6;
 i1 = v23;
 i0 = i0 - i1;
 v26 = i0;
 i1 = UINT32_C(0);
 i0 = (SIGNED32(i0) < SIGNED32(i1));
-if (i0) { goto l64; }
+if (!i0) {
 j0 = v1;
 j1 = UINT64_C(112);
 j0 = j0 + j1;
@@ -1874,7 +1898,7 @@ j0 = j0 >> (j1 & 63);
 i0 = (uint32_t)j0;
 i1 = UINT32_C(1);
 i0 = i0 & i1;
-if (i0) { goto l66; }
+if (!i0) {
 j0 = v1;
 j1 = UINT64_C(104);
 j0 = j0 + j1;
@@ -1886,7 +1910,7 @@ i0 = (uint32_t)j0;
 i1 = UINT32_C(1);
 i0 = i0 & i1;
 i0 = (i0 == 0);
-if (i0) { goto l66; }
+if (!i0) {
 i0 = UINT32_C(1);
 v23 = i0;
 j0 = v1;
@@ -1905,7 +1929,8 @@ i0 = (uint32_t)j0;
 i1 = UINT32_C(1);
 i0 = i0 & i1;
 if (i0) { goto l61; }
-l66:;
+}
+}
 j0 = v2;
 j1 = v3;
 j2 = UINT64_C(1);
@@ -1915,7 +1940,7 @@ j0 = j0 >> (j1 & 63);
 i0 = (uint32_t)j0;
 i1 = UINT32_C(1);
 i0 = i0 & i1;
-if (i0) { goto l67; }
+if (!i0) {
 i0 = UINT32_C(1);
 v23 = i0;
 j0 = v1;
@@ -1929,7 +1954,7 @@ i0 = (uint32_t)j0;
 i1 = UINT32_C(1);
 i0 = i0 & i1;
 i0 = (i0 == 0);
-if (i0) { goto l67; }
+if (!i0) {
 j0 = v1;
 j1 = UINT64_C(640);
 j0 = j0 + j1;
@@ -1946,7 +1971,8 @@ i0 = (uint32_t)j0;
 i1 = UINT32_C(1);
 i0 = i0 & i1;
 if (i0) { goto l61; }
-l67:;
+}
+}
 j0 = v3;
 j1 = UINT64_C(2);
 j0 = j0 + j1;
@@ -1954,7 +1980,9 @@ v3 = j0;
 j1 = UINT64_C(64);
 i0 = (j0 != j1);
 if (i0) { goto l65; }
-l64:;
+}
+}
+}
 j0 = v1;
 j1 = UINT64_C(684);
 j0 = j0 + j1;
@@ -1962,13 +1990,13 @@ p66 = read_at(j0, m, 1u);
 i0 = load8(p66 + 0);
 v23 = i0;
 i0 = (i0 == 0);
-if (i0) { goto l68; }
+if (!i0) {
 j0 = v1;
 j1 = UINT64_C(678);
 j0 = j0 + j1;
 p67 = read_at(j0, m, 1u);
 i0 = load8(p67 + 0);
-if (i0) { goto l68; }
+if (!i0) {
 j0 = v1;
 j1 = UINT64_C(679);
 j0 = j0 + j1;
@@ -1977,7 +2005,7 @@ j0 = load8(p68 + 0);
 v3 = j0;
 j1 = UINT64_C(1);
 i0 = (j0 > j1);
-if (i0) { goto l69; }
+if (!i0) {
 j0 = v3;
 i0 = (uint32_t)j0;
 switch (i0) {
@@ -2000,7 +2028,7 @@ i1 = load32(p69 + 0);
 v29 = i1;
 i0 = (i0 != i1);
 v30 = i0;
-if (i0) { goto l71; }
+if (!i0) {
 j0 = v1;
 j1 = UINT64_C(680);
 j0 = j0 + j1;
@@ -2009,7 +2037,7 @@ i0 = load8(p70 + 0);
 i1 = v8;
 i0 = (i0 < i1);
 v26 = i0;
-l71:;
+}
 i0 = v30;
 i1 = v6;
 i2 = v29;
@@ -2023,7 +2051,7 @@ v29 = i0;
 i0 = v26;
 if (i0) { goto l68; }
 goto l63;
-l69:;
+}
 i0 = UINT32_C(1);
 v29 = i0;
 i0 = v6;
@@ -2041,6 +2069,8 @@ i0 = i0 - i1;
 i1 = UINT32_C(0);
 i0 = (SIGNED32(i0) < SIGNED32(i1));
 if (i0) { goto l63; }
+}
+}
 l68:;
 i0 = v8;
 j0 = (uint64_t)i0;
@@ -2048,7 +2078,7 @@ v3 = j0;
 i0 = v8;
 i1 = UINT32_C(63);
 i0 = (i0 > i1);
-if (i0) { goto l72; }
+if (!i0) {
 j0 = v1;
 j1 = UINT64_C(120);
 j0 = j0 + j1;
@@ -2060,16 +2090,16 @@ i0 = (uint32_t)j0;
 i1 = UINT32_C(1);
 i0 = i0 & i1;
 i0 = (i0 == 0);
-if (i0) { goto l72; }
+if (!i0) {
 i0 = v23;
 i0 = (i0 == 0);
-if (i0) { goto l72; }
+if (!i0) {
 j0 = v1;
 j1 = UINT64_C(678);
 j0 = j0 + j1;
 p73 = read_at(j0, m, 1u);
 i0 = load8(p73 + 0);
-if (i0) { goto l72; }
+if (!i0) {
 i0 = UINT32_C(1);
 v29 = i0;
 i0 = v6;
@@ -2111,12 +2141,15 @@ p76 = read_at(j1, m, 1u);
 i1 = load8(p76 + 0);
 i0 = (i0 < i1);
 if (i0) { goto l63; }
-l72:;
+}
+}
+}
+}
 i0 = v24;
 i1 = UINT32_C(255);
 i0 = i0 & i1;
 i0 = (i0 == 0);
-if (i0) { goto l73; }
+if (!i0) {
 i0 = v6;
 j1 = v1;
 j2 = UINT64_C(668);
@@ -2125,7 +2158,7 @@ p77 = read_at(j1, m, 4u);
 i1 = load32(p77 + 0);
 v23 = i1;
 i0 = (i0 == i1);
-if (i0) { goto l73; }
+if (!i0) {
 i0 = UINT32_C(0);
 v29 = i0;
 i0 = v6;
@@ -2134,7 +2167,7 @@ i0 = i0 - i1;
 v26 = i0;
 i1 = UINT32_C(0);
 i0 = (SIGNED32(i0) < SIGNED32(i1));
-if (i0) { goto l73; }
+if (!i0) {
 i0 = UINT32_C(1);
 v23 = i0;
 i0 = v8;
@@ -2184,13 +2217,13 @@ i1 = (uint32_t)j1;
 i2 = UINT32_C(1);
 i1 = i1 & i2;
 i0 = (i0 != i1);
-if (i0) { goto l74; }
+if (!i0) {
 i0 = v7;
 v30 = i0;
 i0 = UINT32_C(1);
 v23 = i0;
 goto l41;
-l74:;
+}
 i0 = UINT32_C(1);
 v23 = i0;
 j0 = v1;
@@ -2203,13 +2236,13 @@ j0 = j0 >> (j1 & 63);
 i0 = (uint32_t)j0;
 i1 = UINT32_C(1);
 i0 = i0 & i1;
-if (i0) { goto l75; }
+if (!i0) {
 i0 = v7;
 v30 = i0;
 i0 = UINT32_C(0);
 v29 = i0;
 goto l41;
-l75:;
+}
 j0 = v1;
 j1 = UINT64_C(72);
 j0 = j0 + j1;
@@ -2222,11 +2255,13 @@ j0 = j0 >> (j1 & 63);
 i0 = (uint32_t)j0;
 v29 = i0;
 goto l62;
-l73:;
+}
+}
+}
 i0 = v8;
 i1 = UINT32_C(63);
 i0 = (i0 > i1);
-if (i0) { goto l76; }
+if (!i0) {
 i0 = UINT32_C(1);
 v29 = i0;
 j0 = v1;
@@ -2240,7 +2275,7 @@ i0 = (uint32_t)j0;
 i1 = UINT32_C(1);
 i0 = i0 & i1;
 i0 = (i0 == 0);
-if (i0) { goto l76; }
+if (!i0) {
 i0 = v25;
 i1 = UINT32_C(0);
 i0 = (SIGNED32(i0) < SIGNED32(i1));
@@ -2256,7 +2291,8 @@ i2 = UINT32_C(1);
 i1 = i1 & i2;
 i0 = (i0 == i1);
 if (i0) { goto l63; }
-l76:;
+}
+}
 i0 = v8;
 i1 = UINT32_C(64);
 i0 = (i0 < i1);
@@ -2270,15 +2306,16 @@ j1 = j1 >> (j2 & 63);
 i1 = (uint32_t)j1;
 i0 = i0 & i1;
 v29 = i0;
+}
 l63:;
 i0 = v24;
 i1 = UINT32_C(255);
 i0 = i0 & i1;
-if (i0) { goto l77; }
+if (!i0) {
 i0 = v7;
 v30 = i0;
 goto l40;
-l77:;
+}
 i0 = v6;
 j1 = v1;
 j2 = UINT64_C(668);
@@ -2327,21 +2364,21 @@ i0 = UINT32_C(0);
 v29 = i0;
 l41:;
 i0 = v23;
-if (i0) { goto l78; }
+if (!i0) {
 i0 = v24;
 v20 = i0;
 goto l40;
-l78:;
+}
 i0 = UINT32_C(0);
 v20 = i0;
 i0 = v26;
 i1 = UINT32_C(0);
 i0 = (SIGNED32(i0) >= SIGNED32(i1));
-if (i0) { goto l79; }
+if (!i0) {
 i0 = v24;
 v20 = i0;
 goto l40;
-l79:;
+}
 j0 = v1;
 j1 = UINT64_C(681);
 j0 = j0 + j1;
@@ -2416,7 +2453,7 @@ store8(p88 + 15, i1);
 i0 = v8;
 i1 = UINT32_C(63);
 i0 = (i0 > i1);
-if (i0) { goto l80; }
+if (!i0) {
 i0 = v8;
 j0 = (uint64_t)i0;
 v3 = j0;
@@ -2437,7 +2474,7 @@ j1 = UINT64_C(677);
 j0 = j0 + j1;
 i0 = load8(p88 + 13);
 i0 = (i0 == 0);
-if (i0) { goto l81; }
+if (!i0) {
 j0 = v1;
 j1 = UINT64_C(48);
 j0 = j0 + j1;
@@ -2449,7 +2486,7 @@ i0 = (uint32_t)j0;
 i1 = UINT32_C(1);
 i0 = i0 ^ i1;
 v8 = i0;
-l81:;
+}
 j0 = v21;
 j1 = v3;
 j2 = UINT64_C(2);
@@ -2546,7 +2583,7 @@ i4 = UINT32_C(1);
 i3 = i3 & i4;
 j1 = i3 ? j1 : j2;
 store64(p92 + 72, j1);
-l80:;
+}
 j0 = v16;
 j1 = UINT64_C(18446744073709551613);
 j0 = j0 + j1;
@@ -2555,14 +2592,14 @@ i0 = v29;
 i1 = UINT32_C(1);
 i0 = i0 & i1;
 i0 = (i0 == 0);
-if (i0) { goto l82; }
+if (!i0) {
 i0 = v30;
 i1 = UINT32_C(255);
 i0 = i0 & i1;
 v8 = i0;
 i1 = UINT32_C(255);
 i0 = (i0 == i1);
-if (i0) { goto l83; }
+if (!i0) {
 j0 = v1;
 j1 = UINT64_C(672);
 j0 = j0 + j1;
@@ -2573,7 +2610,7 @@ i2 = (i2 != i3);
 i1 = i1 - i2;
 v7 = i1;
 store8(p88 + 8, i1);
-l83:;
+}
 i0 = UINT32_C(0);
 v20 = i0;
 j0 = v1;
@@ -2612,7 +2649,7 @@ j1 = UINT64_C(64);
 j0 = j0 + j1;
 j1 = UINT64_C(0);
 store64(p93 + 0, j1);
-l82:;
+}
 j0 = v13;
 j1 = UINT64_C(3);
 j0 = j0 + j1;
@@ -2647,7 +2684,7 @@ v25 = i0;
 i0 = v7;
 i1 = UINT32_C(255);
 i0 = i0 & i1;
-if (i0) { goto l84; }
+if (!i0) {
 i0 = UINT32_C(0);
 v23 = i0;
 i0 = UINT32_C(0);
@@ -2682,7 +2719,7 @@ j0 = j0 >> (j1 & 63);
 i0 = (uint32_t)j0;
 i1 = UINT32_C(1);
 i0 = i0 & i1;
-if (i0) { goto l88; }
+if (!i0) {
 j0 = v1;
 j1 = UINT64_C(104);
 j0 = j0 + j1;
@@ -2694,7 +2731,7 @@ i0 = (uint32_t)j0;
 i1 = UINT32_C(1);
 i0 = i0 & i1;
 i0 = (i0 == 0);
-if (i0) { goto l88; }
+if (!i0) {
 j0 = v1;
 j1 = UINT64_C(640);
 j0 = j0 + j1;
@@ -2711,7 +2748,8 @@ i0 = (uint32_t)j0;
 i1 = UINT32_C(1);
 i0 = i0 & i1;
 if (i0) { goto l87; }
-l88:;
+}
+}
 j0 = v2;
 j1 = v3;
 j2 = UINT64_C(1);
@@ -2779,7 +2817,7 @@ v23 = i0;
 i0 = UINT32_C(0);
 v24 = i0;
 goto l33;
-l84:;
+}
 i0 = UINT32_C(0);
 v23 = i0;
 i0 = UINT32_C(0);
@@ -2814,7 +2852,7 @@ j0 = j0 >> (j1 & 63);
 i0 = (uint32_t)j0;
 i1 = UINT32_C(1);
 i0 = i0 & i1;
-if (i0) { goto l90; }
+if (!i0) {
 j0 = v1;
 j1 = UINT64_C(104);
 j0 = j0 + j1;
@@ -2826,7 +2864,7 @@ i0 = (uint32_t)j0;
 i1 = UINT32_C(1);
 i0 = i0 & i1;
 i0 = (i0 == 0);
-if (i0) { goto l90; }
+if (!i0) {
 i0 = UINT32_C(1);
 v8 = i0;
 j0 = v1;
@@ -2845,7 +2883,8 @@ i0 = (uint32_t)j0;
 i1 = UINT32_C(1);
 i0 = i0 & i1;
 if (i0) { goto l34; }
-l90:;
+}
+}
 j0 = v2;
 j1 = v3;
 j2 = UINT64_C(1);
@@ -2855,7 +2894,7 @@ j0 = j0 >> (j1 & 63);
 i0 = (uint32_t)j0;
 i1 = UINT32_C(1);
 i0 = i0 & i1;
-if (i0) { goto l91; }
+if (!i0) {
 i0 = UINT32_C(1);
 v8 = i0;
 j0 = v1;
@@ -2869,7 +2908,7 @@ i0 = (uint32_t)j0;
 i1 = UINT32_C(1);
 i0 = i0 & i1;
 i0 = (i0 == 0);
-if (i0) { goto l91; }
+if (!i0) {
 j0 = v1;
 j1 = UINT64_C(640);
 j0 = j0 + j1;
@@ -2886,7 +2925,8 @@ i0 = (uint32_t)j0;
 i1 = UINT32_C(1);
 i0 = i0 & i1;
 if (i0) { goto l34; }
-l91:;
+}
+}
 j0 = v3;
 j1 = UINT64_C(2);
 j0 = j0 + j1;
@@ -2903,7 +2943,7 @@ v24 = i0;
 i0 = UINT32_C(0);
 v8 = i0;
 goto l32;
-l35:;
+}
 j0 = v4;
 j1 = UINT64_C(40);
 j0 = j0 + j1;
@@ -2939,7 +2979,7 @@ goto l32;
 l33:;
 i0 = v29;
 i0 = (i0 == 0);
-if (i0) { goto l92; }
+if (!i0) {
 j0 = v1;
 j1 = UINT64_C(648);
 j0 = j0 + j1;
@@ -2952,15 +2992,15 @@ j0 = j0 + j1;
 i1 = UINT32_C(0);
 store8(p106 + 34, i1);
 goto l29;
-l92:;
+}
 i0 = v20;
 i1 = UINT32_C(255);
 i0 = i0 & i1;
-if (i0) { goto l93; }
+if (!i0) {
 i0 = UINT32_C(0);
 v8 = i0;
 goto l30;
-l93:;
+}
 i0 = UINT32_C(0);
 v8 = i0;
 i0 = v17;
@@ -3036,14 +3076,14 @@ i0 = v15;
 i1 = UINT32_C(2);
 i0 = i0 & i1;
 i0 = (i0 == 0);
-if (i0) { goto l95; }
+if (!i0) {
 j0 = v1;
 j1 = UINT64_C(677);
 j0 = j0 + j1;
 p109 = read_at(j0, m, 1u);
 i0 = load8(p109 + 0);
 i0 = (i0 == 0);
-if (i0) { goto l96; }
+if (!i0) {
 j0 = v1;
 j1 = UINT64_C(40);
 j0 = j0 + j1;
@@ -3115,7 +3155,7 @@ j1 = j1 & j2;
 j2 = v2;
 j1 = j1 ^ j2;
 store64(p110 + 80, j1);
-l96:;
+}
 j0 = v1;
 j1 = UINT64_C(664);
 j0 = j0 + j1;
@@ -3145,7 +3185,7 @@ store64(p111 + 0, j1);
 i0 = v8;
 if (i0) { goto l94; }
 goto l29;
-l95:;
+}
 j0 = v1;
 j1 = UINT64_C(40);
 j0 = j0 + j1;
@@ -3223,7 +3263,7 @@ j0 = v1;
 j1 = UINT64_C(683);
 j0 = j0 + j1;
 i0 = load8(p112 + 675);
-if (i0) { goto l97; }
+if (!i0) {
 j0 = v1;
 j1 = UINT64_C(684);
 j0 = j0 + j1;
@@ -3232,7 +3272,7 @@ i0 = load8(p113 + 0);
 i1 = UINT32_C(0);
 i0 = (i0 != i1);
 v29 = i0;
-l97:;
+}
 j0 = v1;
 j1 = UINT64_C(682);
 j0 = j0 + j1;
@@ -3259,7 +3299,7 @@ i0 = i0 & i1;
 v8 = i0;
 i1 = UINT32_C(255);
 i0 = (i0 == i1);
-if (i0) { goto l98; }
+if (!i0) {
 j0 = v1;
 j1 = UINT64_C(672);
 j0 = j0 + j1;
@@ -3270,7 +3310,7 @@ i2 = (i2 != i3);
 i1 = i1 - i2;
 p115 = write_at(j0, m, 1u);
 store8(p115 + 0, i1);
-l98:;
+}
 j0 = v1;
 j1 = UINT64_C(683);
 j0 = j0 + j1;
@@ -3318,7 +3358,7 @@ i0 = (i0 == i1);
 if (i0) { goto l2; }
 i0 = v6;
 i0 = (i0 == 0);
-if (i0) { goto l28; }
+if (!i0) {
 i0 = v18;
 i1 = v25;
 i0 = i0 + i1;
@@ -3332,6 +3372,7 @@ v11 = i0;
 i0 = UINT32_C(1);
 v10 = i0;
 goto l2;
+}
 l28:;
 i0 = UINT32_C(0);
 v8 = i0;
@@ -3344,6 +3385,7 @@ v10 = i0;
 i0 = UINT32_C(0);
 v9 = i0;
 goto l2;
+}
 l3:;
 i0 = UINT32_C(0);
 v8 = i0;
@@ -3386,7 +3428,6 @@ j0 = v4;
 j1 = UINT64_C(64);
 j0 = j0 + j1;
 m->g0 = j0;
-return;
 }
 static void fio_check_content_take_answer(struct machine *m, uint64_t v0, uint64_t v1, uint64_t v2)
 {
@@ -3449,7 +3490,7 @@ uint8_t *p36;
 j0 = m->g0;
 j1 = UINT64_C(16);
 i0 = (SIGNED64(j0) < SIGNED64(j1));
-if (i0) { goto l2; }
+if (!i0) {
 j0 = v2;
 j1 = UINT64_C(4);
 j0 = j0 + j1;
@@ -3477,7 +3518,7 @@ v8 = i0;
 i1 = UINT32_C(255);
 i0 = i0 & i1;
 v9 = i0;
-if (i0) { goto l5; }
+if (!i0) {
 i0 = v6;
 j1 = v1;
 j2 = UINT64_C(674);
@@ -3486,13 +3527,13 @@ p2 = read_at(j1, m, 1u);
 i1 = load8(p2 + 0);
 i0 = i0 & i1;
 i0 = (i0 == 0);
-if (i0) { goto l6; }
+if (!i0) {
 i0 = UINT32_C(0);
 v9 = i0;
 i0 = UINT32_C(9);
 v10 = i0;
 goto l3;
-l6:;
+}
 j0 = v1;
 j1 = UINT64_C(672);
 j0 = j0 + j1;
@@ -3523,13 +3564,13 @@ if (i0) { goto l4; }
 i0 = UINT32_C(6);
 v10 = i0;
 goto l3;
-l5:;
+}
 i0 = v9;
 i1 = UINT32_C(6);
 i0 = (i0 != i1);
-if (i0) { goto l7; }
+if (!i0) {
 i0 = v7;
-if (i0) { goto l7; }
+if (!i0) {
 j0 = v1;
 j1 = UINT64_C(673);
 j0 = j0 + j1;
@@ -3542,14 +3583,15 @@ v9 = i0;
 i0 = UINT32_C(10);
 v10 = i0;
 goto l3;
-l7:;
+}
+}
 i0 = v9;
 i1 = UINT32_C(2);
 i0 = (i0 == i1);
 i1 = v6;
 i0 = i0 & i1;
 i0 = (i0 == 0);
-if (i0) { goto l8; }
+if (!i0) {
 j0 = v1;
 j1 = UINT64_C(675);
 j0 = j0 + j1;
@@ -3561,26 +3603,26 @@ v9 = i0;
 i0 = UINT32_C(8);
 v10 = i0;
 goto l3;
-l8:;
+}
 i0 = v9;
 i1 = UINT32_C(1);
 i0 = (i0 == i1);
 i1 = v6;
 i0 = i0 & i1;
 i0 = (i0 == 0);
-if (i0) { goto l9; }
+if (!i0) {
 i0 = UINT32_C(0);
 v9 = i0;
 i0 = UINT32_C(7);
 v10 = i0;
 goto l3;
-l9:;
+}
 j0 = v1;
 j1 = UINT64_C(672);
 j0 = j0 + j1;
 p9 = read_at(j0, m, 1u);
 i0 = load8(p9 + 0);
-if (i0) { goto l4; }
+if (!i0) {
 i0 = UINT32_C(1);
 i1 = v8;
 i2 = UINT32_C(255);
@@ -3589,13 +3631,13 @@ i0 = i0 << (i1 & 31);
 v9 = i0;
 i1 = UINT32_C(198);
 i0 = i0 & i1;
-if (i0) { goto l4; }
+if (!i0) {
 j0 = v4;
 v11 = j0;
 i0 = v9;
 i1 = UINT32_C(24);
 i0 = i0 & i1;
-if (i0) { goto l10; }
+if (!i0) {
 j0 = v5;
 v11 = j0;
 j0 = v2;
@@ -3606,14 +3648,14 @@ i0 = load8(p10 + 0);
 i1 = UINT32_C(2);
 i0 = i0 & i1;
 if (i0) { goto l4; }
-l10:;
+}
 j0 = v1;
 j1 = UINT64_C(676);
 j0 = j0 + j1;
 p11 = read_at(j0, m, 1u);
 i0 = load8(p11 + 0);
 i0 = (i0 == 0);
-if (i0) { goto l4; }
+if (!i0) {
 i0 = UINT32_C(0);
 v9 = i0;
 j0 = v11;
@@ -3627,10 +3669,14 @@ i1 = load32(p13 + 0);
 i0 = i0 - i1;
 i1 = UINT32_C(0);
 i0 = (SIGNED32(i0) >= SIGNED32(i1));
-if (i0) { goto l4; }
+if (!i0) {
 i0 = UINT32_C(6);
 v10 = i0;
 goto l3;
+}
+}
+}
+}
 l4:;
 i0 = UINT32_C(1);
 v9 = i0;
@@ -3646,7 +3692,7 @@ p14 = read_at(j0, m, 1u);
 i0 = load8(p14 + 0);
 v12 = i0;
 i0 = (i0 == 0);
-if (i0) { goto l14; }
+if (!i0) {
 j0 = v3;
 v11 = j0;
 i0 = v8;
@@ -3698,7 +3744,7 @@ j0 = j0 + j1;
 p16 = read_at(j0, m, 1u);
 i0 = load8(p16 + 0);
 i0 = (i0 == 0);
-if (i0) { goto l14; }
+if (!i0) {
 j0 = v11;
 p17 = read_at(j0, m, 4u);
 i0 = load32(p17 + 0);
@@ -3711,6 +3757,8 @@ i0 = i0 - i1;
 i1 = UINT32_C(31);
 i0 = i0 >> (i1 & 31);
 v6 = i0;
+}
+}
 l14:;
 i0 = v8;
 i1 = UINT32_C(255);
@@ -3735,7 +3783,7 @@ j0 = v1;
 j1 = UINT64_C(0);
 store64(p20 + 0, j1);
 i0 = v7;
-if (i0) { goto l18; }
+if (!i0) {
 j0 = v1;
 j1 = UINT64_C(24);
 j0 = j0 + j1;
@@ -3746,7 +3794,7 @@ j1 = load64(p21 + 0);
 j2 = v11;
 j1 = j1 | j2;
 store64(p21 + 0, j1);
-l18:;
+}
 i0 = v6;
 v13 = i0;
 l11:;
@@ -3896,7 +3944,7 @@ j0 = v1;
 j1 = UINT64_C(684);
 j0 = j0 + j1;
 i0 = load8(p30 + 1);
-if (i0) { goto l27; }
+if (!i0) {
 j0 = v1;
 j1 = UINT64_C(678);
 j0 = j0 + j1;
@@ -3904,7 +3952,7 @@ i1 = UINT32_C(0);
 p31 = write_at(j0, m, 1u);
 store8(p31 + 0, i1);
 goto l19;
-l27:;
+}
 j0 = v1;
 j1 = UINT64_C(678);
 j0 = j0 + j1;
@@ -3922,21 +3970,22 @@ store8(p32 + 18, i1);
 i0 = v8;
 i1 = UINT32_C(65536);
 i0 = (i0 < i1);
-if (i0) { goto l19; }
+if (!i0) {
 j0 = v1;
 j1 = UINT64_C(681);
 j0 = j0 + j1;
 i1 = UINT32_C(0);
 p33 = write_at(j0, m, 1u);
 store8(p33 + 0, i1);
+}
 l19:;
 i0 = v13;
 i0 = (i0 == 0);
-if (i0) { goto l28; }
+if (!i0) {
 i0 = v12;
 i1 = UINT32_C(255);
 i0 = (i0 == i1);
-if (i0) { goto l29; }
+if (!i0) {
 j0 = v1;
 j1 = UINT64_C(672);
 j0 = j0 + j1;
@@ -3947,7 +3996,7 @@ i2 = (i2 != i3);
 i1 = i1 - i2;
 p34 = write_at(j0, m, 1u);
 store8(p34 + 0, i1);
-l29:;
+}
 j0 = v1;
 j1 = UINT64_C(683);
 j0 = j0 + j1;
@@ -3984,7 +4033,7 @@ j1 = UINT64_C(64);
 j0 = j0 + j1;
 j1 = UINT64_C(0);
 store64(p35 + 0, j1);
-l28:;
+}
 j0 = v0;
 j1 = UINT64_C(6);
 j0 = j0 + j1;
@@ -4005,9 +4054,8 @@ i2 = UINT32_C(1);
 i1 = i1 ^ i2;
 store16(p36 + 0, i1);
 return;
-l2:;
+}
 fio2070_trap();
-return;
 }
 static void fio_check_content_ContentChecker_sent(struct machine *m, uint64_t v0, uint64_t v1, uint64_t v2)
 {
@@ -4062,10 +4110,10 @@ uint8_t *p22;
 j0 = m->g0;
 j1 = UINT64_C(16);
 i0 = (SIGNED64(j0) < SIGNED64(j1));
-if (i0) { goto l2; }
+if (!i0) {
 j0 = v2;
 i0 = (j0 == 0);
-if (i0) { goto l4; }
+if (!i0) {
 j0 = UINT64_C(2);
 v3 = j0;
 i0 = UINT32_C(1);
@@ -4112,13 +4160,13 @@ l12:;
 j0 = v2;
 j1 = UINT64_C(1);
 i0 = (j0 != j1);
-if (i0) { goto l14; }
+if (!i0) {
 j0 = UINT64_C(0);
 v6 = j0;
 j0 = UINT64_C(2);
 v3 = j0;
 goto l5;
-l14:;
+}
 j0 = v1;
 j1 = UINT64_C(1);
 j0 = j0 + j1;
@@ -4177,7 +4225,7 @@ l5:;
 j0 = v3;
 j1 = v2;
 i0 = (j0 != j1);
-if (i0) { goto l4; }
+if (!i0) {
 i0 = v5;
 i1 = UINT32_C(4294967247);
 i0 = i0 + i1;
@@ -4254,7 +4302,7 @@ j1 = UINT64_C(688);
 j0 = j0 + j1;
 v2 = j0;
 i0 = load8(p5 + 0);
-if (i0) { goto l22; }
+if (!i0) {
 j0 = v0;
 j1 = UINT64_C(689);
 j0 = j0 + j1;
@@ -4263,7 +4311,7 @@ store8(p5 + 1, i1);
 j0 = v2;
 i1 = UINT32_C(1);
 store8(p5 + 0, i1);
-l22:;
+}
 j0 = UINT64_C(0);
 v3 = j0;
 j0 = v0;
@@ -4403,7 +4451,7 @@ v3 = j0;
 j0 = v7;
 j1 = UINT64_C(3);
 i0 = (j0 < j1);
-if (i0) { goto l15; }
+if (!i0) {
 j0 = v0;
 j1 = UINT64_C(448);
 j0 = j0 + j1;
@@ -4443,7 +4491,7 @@ i0 = i0 & i1;
 v4 = i0;
 i1 = UINT32_C(63);
 i0 = (i0 > i1);
-if (i0) { goto l26; }
+if (!i0) {
 j0 = v3;
 i1 = v4;
 j1 = (uint64_t)i1;
@@ -4452,7 +4500,7 @@ j0 = j0 >> (j1 & 63);
 i0 = (uint32_t)j0;
 i1 = UINT32_C(1);
 i0 = i0 & i1;
-if (i0) { goto l26; }
+if (!i0) {
 j0 = v1;
 j1 = UINT64_C(2);
 j0 = j0 + j1;
@@ -4626,7 +4674,7 @@ store8(p19 + 0, i1);
 i0 = v16;
 i1 = UINT32_C(4294967295);
 i0 = (SIGNED32(i0) > SIGNED32(i1));
-if (i0) { goto l27; }
+if (!i0) {
 j0 = v0;
 j1 = UINT64_C(40);
 j0 = j0 + j1;
@@ -4646,7 +4694,7 @@ j2 = v7;
 j1 = j1 | j2;
 store64(p10 + 112, j1);
 goto l26;
-l27:;
+}
 j0 = v0;
 j1 = UINT64_C(88);
 j0 = j0 + j1;
@@ -4666,7 +4714,7 @@ i0 = (uint32_t)j0;
 i1 = UINT32_C(1);
 i0 = i0 & i1;
 i0 = (i0 == 0);
-if (i0) { goto l28; }
+if (!i0) {
 j0 = v0;
 j1 = UINT64_C(48);
 j0 = j0 + j1;
@@ -4676,7 +4724,7 @@ j1 = load64(p10 + 48);
 j2 = v7;
 j1 = j1 | j2;
 store64(p10 + 48, j1);
-l28:;
+}
 j0 = v0;
 j1 = UINT64_C(112);
 j0 = j0 + j1;
@@ -4687,7 +4735,7 @@ i0 = (uint32_t)j0;
 i1 = UINT32_C(1);
 i0 = i0 & i1;
 i0 = (i0 == 0);
-if (i0) { goto l26; }
+if (!i0) {
 j0 = v0;
 j1 = UINT64_C(104);
 j0 = j0 + j1;
@@ -4697,6 +4745,9 @@ j1 = load64(p10 + 104);
 j2 = v6;
 j1 = j1 & j2;
 store64(p10 + 104, j1);
+}
+}
+}
 l26:;
 j0 = v1;
 j1 = UINT64_C(18446744073709551613);
@@ -4709,6 +4760,7 @@ v12 = j0;
 j1 = UINT64_C(0);
 i0 = (j0 != j1);
 if (i0) { goto l25; }
+}
 l15:;
 j0 = v0;
 j1 = UINT64_C(682);
@@ -4728,6 +4780,8 @@ j2 = v3;
 j1 = j1 | j2;
 store64(p21 + 0, j1);
 return;
+}
+}
 l4:;
 j0 = v0;
 j1 = UINT64_C(690);
@@ -4737,9 +4791,9 @@ p22 = write_at(j0, m, 1u);
 store8(p22 + 0, i1);
 l3:;
 return;
+}
 l2:;
 fio2070_trap();
-return;
 }
 static uint64_t fio_input_lanes_step_runs(struct machine *m, uint64_t v0, uint64_t v1, uint64_t v2, uint64_t v3, uint64_t v4, uint64_t v5)
 {
@@ -4811,7 +4865,7 @@ uint64_t j2;
 uint64_t j3;
 uint64_t j4;
 uint64_t j5;
-uint64_t r;
+uint64_t r = 0;
 uint8_t *p1;
 uint8_t *p2;
 uint8_t *p3;
@@ -4835,7 +4889,7 @@ uint8_t *p20;
 j0 = m->g0;
 j1 = UINT64_C(16);
 i0 = (SIGNED64(j0) < SIGNED64(j1));
-if (i0) { goto l3; }
+if (!i0) {
 j0 = v5;
 j1 = v4;
 j0 = j0 ^ j1;
@@ -4843,13 +4897,13 @@ v6 = j0;
 j0 = ones64(j0);
 j1 = UINT64_C(4);
 i0 = (j0 < j1);
-if (i0) { goto l5; }
+if (!i0) {
 j0 = UINT64_C(0);
 v7 = j0;
 j0 = UINT64_C(0);
 v8 = j0;
 goto l4;
-l5:;
+}
 j0 = UINT64_C(0);
 v7 = j0;
 j0 = v4;
@@ -4878,7 +4932,7 @@ v8 = j1;
 j2 = UINT64_C(0);
 i1 = (j1 != j2);
 i0 = i0 ^ i1;
-if (i0) { goto l7; }
+if (!i0) {
 j0 = v0;
 j1 = v10;
 j0 = j0 + j1;
@@ -4893,7 +4947,7 @@ i3 = UINT32_C(255);
 i2 = (i2 < i3);
 i0 = i2 ? i0 : i1;
 v9 = i0;
-l7:;
+}
 j0 = v0;
 j1 = v10;
 j0 = j0 + j1;
@@ -5808,7 +5862,7 @@ j1 = UINT64_C(2);
 i0 = (j0 > j1);
 if (i0) { goto l2; }
 goto l8;
-l3:;
+}
 fio2070_trap();
 l2:;
 j0 = v7;
@@ -5843,10 +5897,10 @@ uint8_t *p11;
 j0 = m->g0;
 j1 = UINT64_C(16);
 i0 = (SIGNED64(j0) < SIGNED64(j1));
-if (i0) { goto l4; }
+if (!i0) {
 i0 = v1;
 i0 = (i0 == 0);
-if (i0) { goto l11; }
+if (!i0) {
 j0 = UINT64_C(0);
 v4 = j0;
 i0 = UINT32_C(0);
@@ -5900,13 +5954,13 @@ l19:;
 j0 = v3;
 j1 = UINT64_C(1);
 i0 = (j0 != j1);
-if (i0) { goto l21; }
+if (!i0) {
 j0 = UINT64_C(0);
 v8 = j0;
 j0 = UINT64_C(2);
 v6 = j0;
 goto l12;
-l21:;
+}
 j0 = v2;
 j1 = UINT64_C(1);
 j0 = j0 + j1;
@@ -6103,7 +6157,7 @@ v1 = i0;
 i0 = UINT32_C(0);
 v10 = i0;
 goto l2;
-l11:;
+}
 j0 = UINT64_C(0);
 v4 = j0;
 i0 = UINT32_C(0);
@@ -6169,7 +6223,7 @@ if (i0) { goto l33; }
 i0 = v1;
 i1 = UINT32_C(180);
 i0 = (i0 < i1);
-if (i0) { goto l35; }
+if (!i0) {
 j0 = UINT64_C(13);
 v6 = j0;
 i0 = v1;
@@ -6183,6 +6237,7 @@ i1 = UINT32_C(189);
 i0 = (i0 < i1);
 if (i0) { goto l34; }
 goto l33;
+}
 l35:;
 j0 = UINT64_C(2);
 v6 = j0;
@@ -6333,6 +6388,7 @@ l5:;
 i0 = UINT32_C(179);
 v1 = i0;
 goto l2;
+}
 l4:;
 fio2070_trap();
 l3:;
@@ -6367,7 +6423,6 @@ j1 = UINT64_C(1);
 j0 = j0 + j1;
 i1 = v1;
 store8(p11 + 1, i1);
-return;
 }
 static void fio_check_checker_Checker_take(struct machine *m, uint64_t v0, uint64_t v1, uint32_t v2, uint64_t v3)
 {
@@ -6431,7 +6486,7 @@ p1 = write_at(j0, m, 16u);
 v4 = j0;
 j1 = UINT64_C(16);
 i0 = (SIGNED64(j0) < SIGNED64(j1));
-if (i0) { goto l7; }
+if (!i0) {
 j0 = v3;
 j1 = UINT64_C(16);
 j0 = j0 + j1;
@@ -6458,7 +6513,7 @@ i0 = load8(p2 + 0);
 v9 = i0;
 i1 = UINT32_C(1);
 i0 = (i0 == i1);
-if (i0) { goto l8; }
+if (!i0) {
 j0 = v1;
 j1 = UINT64_C(13);
 j0 = j0 + j1;
@@ -6479,6 +6534,7 @@ l9:;
 i0 = v2;
 i0 = (i0 == 0);
 if (i0) { goto l2; }
+}
 l8:;
 j0 = v1;
 p4 = read_at(j0, m, 4u);
@@ -6636,7 +6692,7 @@ i0 = load8(p8 + 0);
 v18 = i0;
 i1 = UINT32_C(1);
 i0 = (i0 != i1);
-if (i0) { goto l24; }
+if (!i0) {
 j0 = v1;
 j1 = UINT64_C(5);
 j0 = j0 + j1;
@@ -6645,7 +6701,7 @@ i0 = load8(p9 + 0);
 i1 = UINT32_C(182);
 i0 = (i0 == i1);
 if (i0) { goto l11; }
-l24:;
+}
 i0 = UINT32_C(182);
 v8 = i0;
 l21:;
@@ -6781,13 +6837,14 @@ goto l11;
 l12:;
 i0 = v10;
 i0 = (i0 == 0);
-if (i0) { goto l11; }
+if (!i0) {
 j0 = v1;
 j1 = UINT64_C(6);
 j0 = j0 + j1;
 p19 = read_at(j0, m, 1u);
 i0 = load8(p19 + 0);
 if (i0) { goto l5; }
+}
 l11:;
 j0 = v3;
 j1 = UINT64_C(1);
@@ -6821,7 +6878,7 @@ p20 = read_at(j0, m, 1u);
 i0 = load8(p20 + 0);
 i1 = UINT32_C(1);
 i0 = (i0 != i1);
-if (i0) { goto l31; }
+if (!i0) {
 j0 = v1;
 j1 = UINT64_C(8);
 j0 = j0 + j1;
@@ -6832,7 +6889,7 @@ i2 = UINT32_C(255);
 i1 = i1 & i2;
 i0 = (i0 != i1);
 if (i0) { goto l30; }
-l31:;
+}
 i0 = UINT32_C(0);
 v2 = i0;
 l30:;
@@ -6936,7 +6993,7 @@ v2 = i0;
 i0 = UINT32_C(0);
 v8 = i0;
 goto l3;
-l7:;
+}
 fio2070_trap();
 l6:;
 i0 = v8;
@@ -7001,7 +7058,6 @@ store8(p30 + 4, i1);
 j0 = v0;
 i1 = UINT32_C(0);
 store32(p30 + 0, i1);
-return;
 }
 static void fio_check_link_judge_LinkJudge_frame(struct machine *m, uint64_t v0, uint64_t v1, uint32_t v2, uint32_t v3, uint64_t v4, uint64_t v5)
 {
@@ -7061,7 +7117,7 @@ j0 = v6;
 v6 = j0;
 j1 = UINT64_C(16);
 i0 = (SIGNED64(j0) < SIGNED64(j1));
-if (i0) { goto l4; }
+if (!i0) {
 j0 = v6;
 j1 = UINT64_C(0);
 store64(p1 + 24, j1);
@@ -7086,7 +7142,7 @@ i0 = load8(p1 + 24);
 v7 = i0;
 i1 = UINT32_C(1);
 i0 = (i0 == i1);
-if (i0) { goto l5; }
+if (!i0) {
 j0 = v1;
 j1 = UINT64_C(13);
 j0 = j0 + j1;
@@ -7111,11 +7167,11 @@ v3 = i0;
 goto l6;
 l7:;
 i0 = v3;
-if (i0) { goto l9; }
+if (!i0) {
 i0 = UINT32_C(1);
 v3 = i0;
 goto l6;
-l9:;
+}
 j0 = v1;
 j1 = UINT64_C(16);
 j0 = j0 + j1;
@@ -7151,12 +7207,13 @@ j0 = j0 + j1;
 i1 = UINT32_C(0);
 store8(p4 + 6, i1);
 goto l2;
+}
 l5:;
 i0 = v3;
-if (i0) { goto l10; }
+if (!i0) {
 j0 = v5;
 i0 = (j0 == 0);
-if (i0) { goto l10; }
+if (!i0) {
 j0 = UINT64_C(8);
 v8 = j0;
 j0 = v4;
@@ -7213,7 +7270,7 @@ if (i0) { goto l10; }
 i0 = v9;
 i1 = UINT32_C(180);
 i0 = (i0 < i1);
-if (i0) { goto l12; }
+if (!i0) {
 j0 = UINT64_C(13);
 v8 = j0;
 i0 = v9;
@@ -7227,6 +7284,7 @@ i1 = UINT32_C(189);
 i0 = (i0 < i1);
 if (i0) { goto l11; }
 goto l10;
+}
 l12:;
 j0 = UINT64_C(2);
 v8 = j0;
@@ -7234,11 +7292,11 @@ l11:;
 j0 = v5;
 j1 = UINT64_C(773);
 i0 = (j0 > j1);
-if (i0) { goto l10; }
+if (!i0) {
 j0 = v8;
 j1 = v5;
 i0 = (j0 != j1);
-if (i0) { goto l10; }
+if (!i0) {
 j0 = v5;
 j1 = UINT64_C(18446744073709551615);
 j0 = j0 + j1;
@@ -7405,7 +7463,7 @@ v8 = j0;
 l15:;
 i0 = v10;
 i0 = (i0 == 0);
-if (i0) { goto l10; }
+if (!i0) {
 j0 = v8;
 p12 = read_at(j0, m, 1u);
 i0 = load8(p12 + 0);
@@ -7413,7 +7471,7 @@ i1 = UINT32_C(255);
 i0 = i0 & i1;
 i1 = UINT32_C(1);
 i0 = (i0 != i1);
-if (i0) { goto l10; }
+if (!i0) {
 i0 = v11;
 j1 = v12;
 p13 = read_at(j1, m, 4u);
@@ -7421,7 +7479,7 @@ i1 = load32(p13 + 0);
 i0 = i0 - i1;
 i1 = UINT32_C(4294967295);
 i0 = (SIGNED32(i0) > SIGNED32(i1));
-if (i0) { goto l10; }
+if (!i0) {
 j0 = v1;
 j1 = UINT64_C(688);
 j0 = j0 + j1;
@@ -7543,6 +7601,13 @@ j0 = j0 + j1;
 i1 = UINT32_C(0);
 store16(p15 + 5, i1);
 goto l2;
+}
+}
+}
+}
+}
+}
+}
 l10:;
 i0 = v3;
 if (i0) { goto l3; }
@@ -7615,7 +7680,7 @@ if (i0) { goto l3; }
 i0 = v9;
 i1 = UINT32_C(180);
 i0 = (i0 < i1);
-if (i0) { goto l23; }
+if (!i0) {
 j0 = UINT64_C(13);
 v8 = j0;
 i0 = v9;
@@ -7629,6 +7694,7 @@ i1 = UINT32_C(189);
 i0 = (i0 < i1);
 if (i0) { goto l22; }
 goto l3;
+}
 l23:;
 j0 = UINT64_C(2);
 v8 = j0;
@@ -7985,6 +8051,7 @@ j0 = j0 + j1;
 i1 = v9;
 store8(p25 + 5, i1);
 goto l2;
+}
 l4:;
 fio2070_trap();
 l3:;
@@ -8023,7 +8090,6 @@ j0 = v6;
 j1 = UINT64_C(832);
 j0 = j0 + j1;
 m->g0 = j0;
-return;
 }
 static void fio_check_frame_stamps_any_stamp_in(struct machine *m, uint64_t v0, uint32_t v1, uint64_t v2, uint64_t v3)
 {
@@ -8048,21 +8114,21 @@ uint8_t *p8;
 j0 = m->g0;
 j1 = UINT64_C(16);
 i0 = (SIGNED64(j0) < SIGNED64(j1));
-if (i0) { goto l2; }
+if (!i0) {
 i0 = UINT32_C(0);
 v4 = i0;
 i0 = v1;
 i0 = (i0 == 0);
-if (i0) { goto l4; }
+if (!i0) {
 i0 = UINT32_C(0);
 v1 = i0;
 goto l3;
-l4:;
+}
 i0 = UINT32_C(0);
 v1 = i0;
 j0 = v3;
 i0 = (j0 == 0);
-if (i0) { goto l3; }
+if (!i0) {
 j0 = UINT64_C(8);
 v5 = j0;
 j0 = v2;
@@ -8121,7 +8187,7 @@ if (i0) { goto l5; }
 i0 = v6;
 i1 = UINT32_C(180);
 i0 = (i0 < i1);
-if (i0) { goto l7; }
+if (!i0) {
 j0 = UINT64_C(13);
 v5 = j0;
 i0 = v6;
@@ -8135,6 +8201,7 @@ i1 = UINT32_C(189);
 i0 = (i0 < i1);
 if (i0) { goto l6; }
 goto l5;
+}
 l7:;
 j0 = UINT64_C(2);
 v5 = j0;
@@ -8149,15 +8216,15 @@ v4 = i0;
 j0 = v3;
 j1 = UINT64_C(773);
 i0 = (j0 <= j1);
-if (i0) { goto l10; }
+if (!i0) {
 i0 = UINT32_C(0);
 v1 = i0;
 goto l3;
-l10:;
+}
 i0 = UINT32_C(0);
 v1 = i0;
 i0 = v7;
-if (i0) { goto l3; }
+if (!i0) {
 j0 = v3;
 j1 = UINT64_C(18446744073709551615);
 j0 = j0 + j1;
@@ -8291,6 +8358,8 @@ v4 = i0;
 l11:;
 i0 = UINT32_C(1);
 v1 = i0;
+}
+}
 l3:;
 j0 = v0;
 i1 = v4;
@@ -8300,9 +8369,9 @@ j0 = v0;
 i1 = v1;
 store8(p8 + 0, i1);
 return;
+}
 l2:;
 fio2070_trap();
-return;
 }
 static void fio_check_link_judge_LinkJudge_judge(struct machine *m, uint64_t v0, uint64_t v1, uint32_t v2, uint32_t v3, uint64_t v4, uint64_t v5, uint64_t v6)
 {
@@ -8386,7 +8455,7 @@ store8(p1 + 80, i1);
 j0 = v7;
 j1 = UINT64_C(16);
 i0 = (SIGNED64(j0) < SIGNED64(j1));
-if (i0) { goto l6; }
+if (!i0) {
 j0 = v7;
 i1 = UINT32_C(0);
 store8(p1 + 28, i1);
@@ -8415,13 +8484,13 @@ j3 = j3 + j4;
 fio_check_checker_Checker_take(m, j0, j1, i2, j3);
 j0 = v7;
 i0 = load8(p1 + 24);
-if (i0) { goto l7; }
+if (!i0) {
 i0 = v8;
 i1 = UINT32_C(255);
 i0 = i0 & i1;
 i1 = UINT32_C(1);
 i0 = (i0 != i1);
-if (i0) { goto l10; }
+if (!i0) {
 i0 = UINT32_C(0);
 v2 = i0;
 i0 = UINT32_C(0);
@@ -8456,7 +8525,7 @@ j1 = i3 ? j1 : j2;
 j0 = j0 + j1;
 v11 = j0;
 goto l9;
-l10:;
+}
 j0 = v1;
 j1 = UINT64_C(724);
 j0 = j0 + j1;
@@ -8511,7 +8580,7 @@ j0 = j0 + j1;
 i0 = load8(p3 + 13);
 i1 = UINT32_C(2);
 i0 = (i0 != i1);
-if (i0) { goto l11; }
+if (!i0) {
 j0 = v1;
 j1 = UINT64_C(16);
 j0 = j0 + j1;
@@ -8560,7 +8629,7 @@ j1 = UINT64_C(704);
 j0 = j0 + j1;
 j1 = UINT64_C(0);
 store64(p7 + 48, j1);
-l11:;
+}
 j0 = v1;
 j1 = v7;
 j1 = load64(p1 + 54);
@@ -8579,13 +8648,13 @@ j0 = j0 + j1;
 v6 = j0;
 i0 = v3;
 i0 = (i0 == 0);
-if (i0) { goto l12; }
+if (!i0) {
 j0 = v6;
 j1 = v4;
 j2 = v5;
 fio_check_content_ContentChecker_sent(m, j0, j1, j2);
 goto l5;
-l12:;
+}
 j0 = v7;
 j1 = UINT64_C(88);
 j0 = j0 + j1;
@@ -8605,7 +8674,7 @@ i1 = UINT32_C(255);
 i0 = i0 & i1;
 i1 = UINT32_C(10);
 i0 = (i0 != i1);
-if (i0) { goto l13; }
+if (!i0) {
 i0 = UINT32_C(0);
 v3 = i0;
 j0 = v7;
@@ -8697,7 +8766,7 @@ v2 = i0;
 i0 = UINT32_C(0);
 v10 = i0;
 goto l4;
-l13:;
+}
 j0 = v7;
 i0 = load8(p1 + 93);
 v9 = i0;
@@ -8740,25 +8809,25 @@ j0 = j0 + j1;
 i1 = UINT32_C(1);
 store32(p10 + 0, i1);
 goto l3;
-l7:;
+}
 i0 = v2;
 i1 = UINT32_C(255);
 i0 = i0 & i1;
 i0 = (i0 == 0);
-if (i0) { goto l15; }
+if (!i0) {
 i0 = v8;
 i1 = UINT32_C(255);
 i0 = i0 & i1;
 i1 = UINT32_C(1);
 i0 = (i0 != i1);
-if (i0) { goto l15; }
+if (!i0) {
 j0 = v1;
 j1 = UINT64_C(7);
 j0 = j0 + j1;
 i0 = load8(p3 + 7);
 i1 = UINT32_C(1);
 i0 = (i0 != i1);
-if (i0) { goto l15; }
+if (!i0) {
 i0 = v9;
 i1 = UINT32_C(255);
 i0 = i0 & i1;
@@ -8769,7 +8838,7 @@ i1 = load8(p3 + 8);
 i2 = UINT32_C(255);
 i1 = i1 & i2;
 i0 = (i0 != i1);
-if (i0) { goto l15; }
+if (!i0) {
 j0 = v7;
 j1 = UINT64_C(0);
 store64(p1 + 38, j1);
@@ -8835,7 +8904,7 @@ j0 = j0 + j1;
 i0 = load8(p3 + 13);
 i1 = UINT32_C(2);
 i0 = (i0 != i1);
-if (i0) { goto l16; }
+if (!i0) {
 j0 = v1;
 j1 = UINT64_C(16);
 j0 = j0 + j1;
@@ -8884,7 +8953,7 @@ j1 = UINT64_C(704);
 j0 = j0 + j1;
 j1 = UINT64_C(0);
 store64(p12 + 48, j1);
-l16:;
+}
 j0 = v1;
 i1 = v8;
 p13 = write_at(j0, m, 14u);
@@ -8909,13 +8978,13 @@ j0 = j0 + j1;
 v1 = j0;
 i0 = v3;
 i0 = (i0 == 0);
-if (i0) { goto l18; }
+if (!i0) {
 j0 = v1;
 j1 = v4;
 j2 = v5;
 fio_check_content_ContentChecker_sent(m, j0, j1, j2);
 goto l17;
-l18:;
+}
 j0 = v7;
 j1 = UINT64_C(88);
 j0 = j0 + j1;
@@ -8933,7 +9002,10 @@ v3 = i0;
 i0 = UINT32_C(0);
 v8 = i0;
 goto l14;
-l15:;
+}
+}
+}
+}
 j0 = v1;
 j1 = v7;
 j1 = load64(p1 + 48);
@@ -8962,7 +9034,7 @@ l14:;
 i0 = UINT32_C(0);
 v9 = i0;
 goto l2;
-l6:;
+}
 fio2070_trap();
 l5:;
 j0 = v7;
@@ -8972,13 +9044,13 @@ j3 = v5;
 fio_check_frame_stamps_stamp_in(m, j0, i1, j2, j3);
 j0 = v7;
 i0 = load8(p1 + 0);
-if (i0) { goto l20; }
+if (!i0) {
 i0 = UINT32_C(0);
 v3 = i0;
 i0 = UINT32_C(0);
 v10 = i0;
 goto l19;
-l20:;
+}
 j0 = v7;
 i0 = load32(p1 + 4);
 v3 = i0;
@@ -9057,7 +9129,6 @@ j0 = v7;
 j1 = UINT64_C(96);
 j0 = j0 + j1;
 m->g0 = j0;
-return;
 }
 static void fio_check_frame_stamps_stamp_in(struct machine *m, uint64_t v0, uint32_t v1, uint64_t v2, uint64_t v3)
 {
@@ -9083,11 +9154,11 @@ uint8_t *p9;
 j0 = m->g0;
 j1 = UINT64_C(16);
 i0 = (SIGNED64(j0) < SIGNED64(j1));
-if (i0) { goto l2; }
+if (!i0) {
 i0 = UINT32_C(0);
 v4 = i0;
 i0 = v1;
-if (i0) { goto l4; }
+if (!i0) {
 i0 = UINT32_C(0);
 v1 = i0;
 j0 = v3;
@@ -9151,7 +9222,7 @@ if (i0) { goto l5; }
 i0 = v6;
 i1 = UINT32_C(180);
 i0 = (i0 < i1);
-if (i0) { goto l7; }
+if (!i0) {
 j0 = UINT64_C(13);
 v5 = j0;
 i0 = v6;
@@ -9165,6 +9236,7 @@ i1 = UINT32_C(189);
 i0 = (i0 < i1);
 if (i0) { goto l6; }
 goto l5;
+}
 l7:;
 j0 = UINT64_C(2);
 v5 = j0;
@@ -9179,7 +9251,7 @@ v4 = i0;
 j0 = v3;
 j1 = UINT64_C(773);
 i0 = (j0 > j1);
-if (i0) { goto l4; }
+if (!i0) {
 i0 = UINT32_C(0);
 v1 = i0;
 i0 = v7;
@@ -9307,7 +9379,7 @@ p7 = read_at(j0, m, 1u);
 i0 = load8(p7 + 0);
 i1 = UINT32_C(2);
 i0 = i0 & i1;
-if (i0) { goto l10; }
+if (!i0) {
 j0 = v3;
 j1 = UINT64_C(4);
 j0 = j0 + j1;
@@ -9328,10 +9400,12 @@ v4 = i0;
 i0 = UINT32_C(1);
 v1 = i0;
 goto l3;
+}
 l10:;
 i0 = UINT32_C(0);
 v4 = i0;
-l4:;
+}
+}
 i0 = UINT32_C(0);
 v1 = i0;
 l3:;
@@ -9343,9 +9417,9 @@ j0 = v0;
 i1 = v1;
 store8(p9 + 0, i1);
 return;
+}
 l2:;
 fio2070_trap();
-return;
 }
 static void fio_c_judge_take(struct machine *m, uint64_t v0, uint64_t v1, uint32_t v2, uint32_t v3, uint64_t v4, uint64_t v5)
 {
@@ -9406,7 +9480,7 @@ j0 = v6;
 v6 = j0;
 j1 = UINT64_C(16);
 i0 = (SIGNED64(j0) < SIGNED64(j1));
-if (i0) { goto l2; }
+if (!i0) {
 j0 = v6;
 j1 = UINT64_C(0);
 store64(p1 + 0, j1);
@@ -9931,9 +10005,8 @@ j1 = UINT64_C(752);
 j0 = j0 + j1;
 m->g0 = j0;
 return;
-l2:;
+}
 fio2070_trap();
-return;
 }
 static void fio_module_state_ModuleState_poll(struct machine *m, uint64_t v0, uint64_t v1, uint32_t v2)
 {
@@ -9995,7 +10068,7 @@ uint8_t *p20;
 j0 = m->g0;
 j1 = UINT64_C(16);
 i0 = (SIGNED64(j0) < SIGNED64(j1));
-if (i0) { goto l2; }
+if (!i0) {
 j0 = v0;
 j1 = UINT64_C(256);
 j0 = j0 + j1;
@@ -10011,7 +10084,7 @@ i0 = load16(p1 + 0);
 v6 = i0;
 i1 = UINT32_C(2);
 i0 = (i0 < i1);
-if (i0) { goto l4; }
+if (!i0) {
 j0 = v0;
 j1 = UINT64_C(257);
 j0 = j0 + j1;
@@ -10028,7 +10101,7 @@ i0 = load8(p2 + 0);
 i1 = UINT32_C(1);
 i0 = i0 + i1;
 v4 = i0;
-l4:;
+}
 j0 = v1;
 j1 = UINT64_C(16);
 j0 = j0 + j1;
@@ -10147,7 +10220,7 @@ j2 = UINT64_C(3);
 j1 = j1 * j2;
 v18 = j1;
 i0 = (j0 >= j1);
-if (i0) { goto l6; }
+if (!i0) {
 j0 = v18;
 j1 = UINT64_C(3);
 j0 = j0 & j1;
@@ -10157,14 +10230,14 @@ v5 = j0;
 j0 = v7;
 j1 = UINT64_C(2);
 i0 = (j0 < j1);
-if (i0) { goto l7; }
+if (!i0) {
 j0 = v18;
 j1 = UINT64_C(1020);
 j0 = j0 & j1;
 v20 = j0;
 j0 = UINT64_C(0);
 v5 = j0;
-l8:;
+for (;;) {
 j0 = v0;
 j1 = v5;
 j0 = j0 + j1;
@@ -10209,11 +10282,12 @@ j2 = UINT64_C(4);
 j1 = j1 + j2;
 v5 = j1;
 i0 = (j0 != j1);
-if (i0) { goto l8; }
+if (!i0) break;
+}
 j0 = v19;
 i0 = (j0 == 0);
 if (i0) { goto l5; }
-l7:;
+}
 j0 = UINT64_C(0);
 j1 = v19;
 j0 = j0 - j1;
@@ -10253,14 +10327,15 @@ j1 = UINT64_C(0);
 i0 = (j0 != j1);
 if (i0) { goto l9; }
 goto l5;
-l6:;
+}
 j0 = v18;
 i0 = (j0 == 0);
-if (i0) { goto l5; }
+if (!i0) {
 j0 = v5;
 j1 = v15;
 j2 = v18;
 copy(m, j0, j1, j2);
+}
 l5:;
 j0 = v0;
 j1 = UINT64_C(1030);
@@ -10286,7 +10361,7 @@ j2 = UINT64_C(3);
 j1 = j1 * j2;
 v16 = j1;
 i0 = (j0 >= j1);
-if (i0) { goto l11; }
+if (!i0) {
 j0 = v16;
 j1 = UINT64_C(3);
 j0 = j0 & j1;
@@ -10296,7 +10371,7 @@ v5 = j0;
 j0 = v16;
 j1 = UINT64_C(4);
 i0 = (j0 < j1);
-if (i0) { goto l12; }
+if (!i0) {
 j0 = v0;
 j1 = v18;
 j0 = j0 + j1;
@@ -10307,7 +10382,7 @@ j0 = j0 & j1;
 v20 = j0;
 j0 = UINT64_C(0);
 v5 = j0;
-l13:;
+for (;;) {
 j0 = v15;
 j1 = v5;
 j0 = j0 + j1;
@@ -10352,11 +10427,12 @@ j2 = UINT64_C(4);
 j1 = j1 + j2;
 v5 = j1;
 i0 = (j0 != j1);
-if (i0) { goto l13; }
+if (!i0) break;
+}
 j0 = v17;
 i0 = (j0 == 0);
 if (i0) { goto l10; }
-l12:;
+}
 j0 = UINT64_C(0);
 j1 = v17;
 j0 = j0 - j1;
@@ -10396,14 +10472,15 @@ j1 = UINT64_C(0);
 i0 = (j0 != j1);
 if (i0) { goto l14; }
 goto l10;
-l11:;
+}
 j0 = v16;
 i0 = (j0 == 0);
-if (i0) { goto l10; }
+if (!i0) {
 j0 = v7;
 j1 = v10;
 j2 = v16;
 copy(m, j0, j1, j2);
+}
 l10:;
 j0 = v3;
 i1 = v9;
@@ -10553,7 +10630,7 @@ v7 = j0;
 i0 = v6;
 i1 = UINT32_C(2);
 i0 = (i0 == i1);
-if (i0) { goto l15; }
+if (!i0) {
 j0 = v0;
 j1 = UINT64_C(258);
 j0 = j0 + j1;
@@ -10564,11 +10641,11 @@ j0 = j0 * j1;
 j1 = UINT64_C(3);
 j0 = j0 + j1;
 v7 = j0;
-l15:;
+}
 j0 = v7;
 j1 = v5;
 i0 = (j0 >= j1);
-if (i0) { goto l16; }
+if (!i0) {
 j0 = v3;
 j1 = v7;
 j0 = j0 + j1;
@@ -10581,11 +10658,10 @@ i1 = i1 & i2;
 i2 = UINT32_C(2);
 i1 = i1 | i2;
 store8(p20 + 0, i1);
-l16:;
+}
 return;
-l2:;
+}
 fio2070_trap();
-return;
 }
 static uint64_t fio_c_answering_obey(struct machine *m, uint64_t v0, uint64_t v1, uint64_t v2, uint64_t v3, uint64_t v4, uint64_t v5)
 {
@@ -10612,7 +10688,7 @@ uint64_t j0;
 uint64_t j1;
 uint64_t j2;
 uint64_t j3;
-uint64_t r;
+uint64_t r = 0;
 uint8_t *p1;
 uint8_t *p2;
 uint8_t *p3;
@@ -10652,7 +10728,7 @@ j0 = v6;
 v6 = j0;
 j1 = UINT64_C(16);
 i0 = (SIGNED64(j0) < SIGNED64(j1));
-if (i0) { goto l8; }
+if (!i0) {
 j0 = v3;
 j1 = UINT64_C(16);
 j0 = j0 + j1;
@@ -10686,7 +10762,7 @@ j0 = v6;
 i1 = UINT32_C(0);
 store16(p1 + 4, i1);
 i0 = v11;
-if (i0) { goto l9; }
+if (!i0) {
 j0 = v2;
 j1 = UINT64_C(1);
 j0 = j0 + j1;
@@ -10757,7 +10833,7 @@ j1 = j1 | j2;
 p6 = write_at(j0, m, 8u);
 store64(p6 + 0, j1);
 goto l2;
-l9:;
+}
 j0 = v6;
 i1 = UINT32_C(0);
 store8(p1 + 46, i1);
@@ -10850,11 +10926,11 @@ i0 = load8(p8 + 0);
 i1 = UINT32_C(64);
 i0 = i0 & i1;
 i0 = (i0 == 0);
-if (i0) { goto l19; }
+if (!i0) {
 i0 = UINT32_C(1);
 v14 = i0;
 goto l5;
-l19:;
+}
 j0 = v3;
 j1 = UINT64_C(3);
 j0 = j0 + j1;
@@ -11137,7 +11213,7 @@ v13 = j0;
 i0 = UINT32_C(188);
 v17 = i0;
 goto l4;
-l8:;
+}
 fio2070_trap();
 l7:;
 j0 = v0;
@@ -11258,13 +11334,13 @@ l21:;
 j0 = v13;
 j1 = v5;
 i0 = (j0 > j1);
-if (i0) { goto l23; }
+if (!i0) {
 j0 = v4;
 j1 = v15;
 j0 = j0 - j1;
 j1 = v13;
 i0 = (j0 >= j1);
-if (i0) { goto l24; }
+if (!i0) {
 j0 = v13;
 j1 = UINT64_C(3);
 j0 = j0 & j1;
@@ -11274,14 +11350,14 @@ v8 = j0;
 j0 = v13;
 j1 = UINT64_C(4);
 i0 = (j0 < j1);
-if (i0) { goto l25; }
+if (!i0) {
 j0 = v13;
 j1 = UINT64_C(65532);
 j0 = j0 & j1;
 v5 = j0;
 j0 = UINT64_C(0);
 v8 = j0;
-l26:;
+for (;;) {
 j0 = v4;
 j1 = v8;
 j0 = j0 + j1;
@@ -11324,11 +11400,12 @@ j2 = UINT64_C(4);
 j1 = j1 + j2;
 v8 = j1;
 i0 = (j0 != j1);
-if (i0) { goto l26; }
+if (!i0) break;
+}
 j0 = v2;
 i0 = (j0 == 0);
 if (i0) { goto l23; }
-l25:;
+}
 j0 = v4;
 j1 = v8;
 j0 = j0 + j1;
@@ -11360,14 +11437,16 @@ j1 = UINT64_C(0);
 i0 = (j0 != j1);
 if (i0) { goto l27; }
 goto l23;
-l24:;
+}
 j0 = v13;
 i0 = (j0 == 0);
-if (i0) { goto l23; }
+if (!i0) {
 j0 = v4;
 j1 = v15;
 j2 = v13;
 copy(m, j0, j1, j2);
+}
+}
 l23:;
 j0 = v13;
 v2 = j0;
@@ -11411,7 +11490,7 @@ uint64_t j1;
 uint64_t j2;
 uint64_t j3;
 uint64_t j4;
-uint64_t r;
+uint64_t r = 0;
 uint8_t *p1;
 uint8_t *p2;
 uint8_t *p3;
@@ -11628,7 +11707,7 @@ j0 = v4;
 v5 = j0;
 j1 = UINT64_C(16);
 i0 = (SIGNED64(j0) < SIGNED64(j1));
-if (i0) { goto l2; }
+if (!i0) {
 j0 = UINT64_C(0);
 v6 = j0;
 j0 = v5;
@@ -11661,11 +11740,11 @@ fill(m, j0, i1, j2);
 j0 = v1;
 i0 = (j0 == 0);
 i0 = (i0 == 0);
-if (i0) { goto l16; }
+if (!i0) {
 j0 = UINT64_C(0);
 v0 = j0;
 goto l15;
-l16:;
+}
 j0 = v0;
 p2 = read_at(j0, m, 1u);
 i0 = (uint32_t)extend(load8(p2 + 0), 7);
@@ -11681,7 +11760,7 @@ v9 = j0;
 i0 = v7;
 i1 = UINT32_C(4294967295);
 i0 = (SIGNED32(i0) > SIGNED32(i1));
-if (i0) { goto l17; }
+if (!i0) {
 j0 = UINT64_C(8);
 v4 = j0;
 i0 = v8;
@@ -11737,7 +11816,7 @@ if (i0) { goto l18; }
 i0 = v7;
 i1 = UINT32_C(4294967220);
 i0 = (i0 < i1);
-if (i0) { goto l20; }
+if (!i0) {
 i0 = v7;
 i1 = UINT32_C(4294967222);
 i0 = (i0 >= i1);
@@ -11745,6 +11824,7 @@ if (i0) { goto l19; }
 j0 = UINT64_C(13);
 v4 = j0;
 goto l14;
+}
 l20:;
 j0 = UINT64_C(2);
 v4 = j0;
@@ -11768,7 +11848,7 @@ j1 = UINT64_C(2);
 j0 = j0 | j1;
 v0 = j0;
 goto l15;
-l17:;
+}
 j0 = UINT64_C(2);
 v4 = j0;
 i0 = UINT32_C(1);
@@ -11812,13 +11892,13 @@ l31:;
 j0 = v1;
 j1 = UINT64_C(1);
 i0 = (j0 != j1);
-if (i0) { goto l33; }
+if (!i0) {
 j0 = UINT64_C(0);
 v6 = j0;
 j0 = UINT64_C(2);
 v4 = j0;
 goto l24;
-l33:;
+}
 j0 = v0;
 j1 = UINT64_C(1);
 j0 = j0 + j1;
@@ -12548,10 +12628,10 @@ v1 = j0;
 i0 = v7;
 i1 = UINT32_C(10000);
 i0 = (i0 < i1);
-if (i0) { goto l66; }
+if (!i0) {
 j0 = UINT64_C(127);
 v1 = j0;
-l67:;
+for (;;) {
 j0 = v5;
 j1 = UINT64_C(192);
 j0 = j0 + j1;
@@ -12606,8 +12686,9 @@ v1 = j0;
 j0 = v4;
 j1 = UINT64_C(99999999);
 i0 = (j0 > j1);
-if (i0) { goto l67; }
-l66:;
+if (!i0) break;
+}
+}
 j0 = v6;
 j1 = UINT64_C(99);
 i0 = (j0 > j1);
@@ -12674,10 +12755,10 @@ v1 = j0;
 i0 = v7;
 i1 = UINT32_C(10000);
 i0 = (i0 < i1);
-if (i0) { goto l68; }
+if (!i0) {
 j0 = UINT64_C(127);
 v1 = j0;
-l69:;
+for (;;) {
 j0 = v5;
 j1 = UINT64_C(192);
 j0 = j0 + j1;
@@ -12732,16 +12813,17 @@ v1 = j0;
 j0 = v4;
 j1 = UINT64_C(99999999);
 i0 = (j0 > j1);
-if (i0) { goto l69; }
-l68:;
+if (!i0) break;
+}
+}
 j0 = v6;
 j1 = UINT64_C(99);
 i0 = (j0 > j1);
-if (i0) { goto l71; }
+if (!i0) {
 j0 = v6;
 j1 = UINT64_C(9);
 i0 = (j0 > j1);
-if (i0) { goto l72; }
+if (!i0) {
 j0 = v5;
 j1 = UINT64_C(192);
 j0 = j0 + j1;
@@ -12757,7 +12839,7 @@ i1 = i1 | i2;
 p31 = write_at(j0, m, 1u);
 store8(p31 + 0, i1);
 goto l70;
-l72:;
+}
 j0 = v5;
 j1 = UINT64_C(192);
 j0 = j0 + j1;
@@ -12774,7 +12856,7 @@ i1 = load16(p32 + 0);
 p33 = write_at(j0, m, 2u);
 store16(p33 + 0, i1);
 goto l70;
-l71:;
+}
 j0 = v5;
 j1 = UINT64_C(192);
 j0 = j0 + j1;
@@ -12806,7 +12888,7 @@ store16(p35 + 0, i1);
 j0 = v6;
 j1 = UINT64_C(999);
 i0 = (j0 > j1);
-if (i0) { goto l73; }
+if (!i0) {
 j0 = v5;
 j1 = UINT64_C(192);
 j0 = j0 + j1;
@@ -12821,7 +12903,7 @@ i1 = i1 | i2;
 p36 = write_at(j0, m, 1u);
 store8(p36 + 0, i1);
 goto l70;
-l73:;
+}
 j0 = v5;
 j1 = UINT64_C(192);
 j0 = j0 + j1;
@@ -12850,7 +12932,7 @@ j1 = UINT64_C(18446744073709551480);
 j0 = j0 + j1;
 j1 = UINT64_C(18446744073709551608);
 i0 = (j0 > j1);
-if (i0) { goto l74; }
+if (!i0) {
 j0 = v4;
 j1 = UINT64_C(18446744073709551609);
 j0 = j0 + j1;
@@ -12864,18 +12946,18 @@ j0 = v0;
 j1 = UINT64_C(0);
 i1 = load32(p39 + 0);
 store32(p40 + 0, i1);
-l74:;
+}
 i0 = v10;
 i1 = UINT32_C(255);
 i0 = i0 & i1;
 v7 = i0;
 i1 = UINT32_C(99);
 i0 = (i0 > i1);
-if (i0) { goto l76; }
+if (!i0) {
 i0 = v7;
 i1 = UINT32_C(9);
 i0 = (i0 > i1);
-if (i0) { goto l77; }
+if (!i0) {
 j0 = v5;
 j1 = UINT64_C(192);
 j0 = j0 + j1;
@@ -12890,7 +12972,7 @@ i1 = i1 | i2;
 p41 = write_at(j0, m, 1u);
 store8(p41 + 0, i1);
 goto l75;
-l77:;
+}
 j0 = v5;
 j1 = UINT64_C(192);
 j0 = j0 + j1;
@@ -12910,7 +12992,7 @@ i1 = load16(p42 + 0);
 p43 = write_at(j0, m, 2u);
 store16(p43 + 0, i1);
 goto l75;
-l76:;
+}
 j0 = v5;
 j1 = UINT64_C(192);
 j0 = j0 + j1;
@@ -12956,7 +13038,7 @@ j1 = UINT64_C(18446744073709551477);
 j0 = j0 + j1;
 j1 = UINT64_C(18446744073709551605);
 i0 = (j0 > j1);
-if (i0) { goto l78; }
+if (!i0) {
 j0 = v4;
 j1 = UINT64_C(18446744073709551606);
 j0 = j0 + j1;
@@ -12970,18 +13052,18 @@ j0 = v0;
 j1 = UINT64_C(0);
 j1 = load64(p47 + 0);
 store64(p48 + 0, j1);
-l78:;
+}
 i0 = v13;
 i1 = UINT32_C(255);
 i0 = i0 & i1;
 v7 = i0;
 i1 = UINT32_C(99);
 i0 = (i0 > i1);
-if (i0) { goto l80; }
+if (!i0) {
 i0 = v7;
 i1 = UINT32_C(9);
 i0 = (i0 > i1);
-if (i0) { goto l81; }
+if (!i0) {
 j0 = v5;
 j1 = UINT64_C(192);
 j0 = j0 + j1;
@@ -12996,7 +13078,7 @@ i1 = i1 | i2;
 p49 = write_at(j0, m, 1u);
 store8(p49 + 0, i1);
 goto l79;
-l81:;
+}
 j0 = v5;
 j1 = UINT64_C(192);
 j0 = j0 + j1;
@@ -13016,7 +13098,7 @@ i1 = load16(p50 + 0);
 p51 = write_at(j0, m, 2u);
 store16(p51 + 0, i1);
 goto l79;
-l80:;
+}
 j0 = v5;
 j1 = UINT64_C(192);
 j0 = j0 + j1;
@@ -13056,7 +13138,7 @@ j1 = UINT64_C(18446744073709551478);
 j0 = j0 + j1;
 j1 = UINT64_C(18446744073709551606);
 i0 = (j0 > j1);
-if (i0) { goto l82; }
+if (!i0) {
 j0 = v5;
 j1 = UINT64_C(192);
 j0 = j0 + j1;
@@ -13074,19 +13156,19 @@ j0 = v4;
 j1 = UINT64_C(0);
 j1 = load64(p55 + 0);
 store64(p56 + 0, j1);
-l82:;
+}
 j0 = v1;
 j1 = UINT64_C(18446744073709551614);
 j0 = j0 & j1;
 j1 = UINT64_C(138);
 i0 = (j0 != j1);
-if (i0) { goto l83; }
+if (!i0) {
 j0 = v1;
 j1 = UINT64_C(18446744073709551592);
 j0 = j0 + j1;
 v4 = j0;
 goto l6;
-l83:;
+}
 j0 = v5;
 j1 = UINT64_C(192);
 j0 = j0 + j1;
@@ -13239,10 +13321,10 @@ v1 = j0;
 i0 = v7;
 i1 = UINT32_C(10000);
 i0 = (i0 < i1);
-if (i0) { goto l84; }
+if (!i0) {
 j0 = UINT64_C(127);
 v1 = j0;
-l85:;
+for (;;) {
 j0 = v5;
 j1 = UINT64_C(192);
 j0 = j0 + j1;
@@ -13297,16 +13379,17 @@ v1 = j0;
 j0 = v4;
 j1 = UINT64_C(99999999);
 i0 = (j0 > j1);
-if (i0) { goto l85; }
-l84:;
+if (!i0) break;
+}
+}
 j0 = v6;
 j1 = UINT64_C(99);
 i0 = (j0 > j1);
-if (i0) { goto l87; }
+if (!i0) {
 j0 = v6;
 j1 = UINT64_C(9);
 i0 = (j0 > j1);
-if (i0) { goto l88; }
+if (!i0) {
 j0 = v5;
 j1 = UINT64_C(192);
 j0 = j0 + j1;
@@ -13322,7 +13405,7 @@ i1 = i1 | i2;
 p72 = write_at(j0, m, 1u);
 store8(p72 + 0, i1);
 goto l86;
-l88:;
+}
 j0 = v5;
 j1 = UINT64_C(192);
 j0 = j0 + j1;
@@ -13339,7 +13422,7 @@ i1 = load16(p73 + 0);
 p74 = write_at(j0, m, 2u);
 store16(p74 + 0, i1);
 goto l86;
-l87:;
+}
 j0 = v5;
 j1 = UINT64_C(192);
 j0 = j0 + j1;
@@ -13371,7 +13454,7 @@ store16(p76 + 0, i1);
 j0 = v6;
 j1 = UINT64_C(999);
 i0 = (j0 > j1);
-if (i0) { goto l89; }
+if (!i0) {
 j0 = v5;
 j1 = UINT64_C(192);
 j0 = j0 + j1;
@@ -13386,7 +13469,7 @@ i1 = i1 | i2;
 p77 = write_at(j0, m, 1u);
 store8(p77 + 0, i1);
 goto l86;
-l89:;
+}
 j0 = v5;
 j1 = UINT64_C(192);
 j0 = j0 + j1;
@@ -13437,7 +13520,7 @@ j1 = UINT64_C(18446744073709551480);
 j0 = j0 + j1;
 j1 = UINT64_C(18446744073709551608);
 i0 = (j0 > j1);
-if (i0) { goto l90; }
+if (!i0) {
 j0 = v5;
 j1 = UINT64_C(192);
 j0 = j0 + j1;
@@ -13455,7 +13538,7 @@ j0 = v1;
 j1 = UINT64_C(0);
 i1 = load32(p80 + 0);
 store32(p81 + 0, i1);
-l90:;
+}
 j0 = v5;
 j1 = UINT64_C(192);
 j0 = j0 + j1;
@@ -13625,13 +13708,13 @@ j1 = UINT64_C(18446744073709551608);
 j0 = j0 & j1;
 j1 = UINT64_C(152);
 i0 = (j0 != j1);
-if (i0) { goto l92; }
+if (!i0) {
 j0 = v0;
 j1 = UINT64_C(18446744073709551582);
 j0 = j0 + j1;
 v4 = j0;
 goto l91;
-l92:;
+}
 j0 = v1;
 j1 = UINT64_C(18446744073709551585);
 j0 = j0 + j1;
@@ -13720,7 +13803,7 @@ store16(p105 + 0, i1);
 j0 = v6;
 j1 = UINT64_C(999);
 i0 = (j0 > j1);
-if (i0) { goto l93; }
+if (!i0) {
 j0 = v5;
 j1 = UINT64_C(192);
 j0 = j0 + j1;
@@ -13735,7 +13818,7 @@ i1 = i1 | i2;
 p106 = write_at(j0, m, 1u);
 store8(p106 + 0, i1);
 goto l57;
-l93:;
+}
 j0 = v5;
 j1 = UINT64_C(192);
 j0 = j0 + j1;
@@ -13786,7 +13869,7 @@ j1 = UINT64_C(18446744073709551480);
 j0 = j0 + j1;
 j1 = UINT64_C(18446744073709551608);
 i0 = (j0 > j1);
-if (i0) { goto l94; }
+if (!i0) {
 j0 = v5;
 j1 = UINT64_C(192);
 j0 = j0 + j1;
@@ -13804,7 +13887,7 @@ j0 = v1;
 j1 = UINT64_C(0);
 i1 = load32(p109 + 0);
 store32(p110 + 0, i1);
-l94:;
+}
 j0 = v5;
 j1 = UINT64_C(192);
 j0 = j0 + j1;
@@ -13975,13 +14058,13 @@ j0 = j0 & j1;
 v0 = j0;
 j1 = UINT64_C(152);
 i0 = (j0 != j1);
-if (i0) { goto l96; }
+if (!i0) {
 j0 = v4;
 j1 = UINT64_C(18446744073709551577);
 j0 = j0 + j1;
 v4 = j0;
 goto l95;
-l96:;
+}
 j0 = v1;
 j1 = UINT64_C(18446744073709551585);
 j0 = j0 + j1;
@@ -14064,10 +14147,10 @@ v1 = j0;
 i0 = v11;
 i1 = UINT32_C(10000);
 i0 = (i0 < i1);
-if (i0) { goto l97; }
+if (!i0) {
 j0 = UINT64_C(127);
 v1 = j0;
-l98:;
+for (;;) {
 j0 = v5;
 j1 = UINT64_C(192);
 j0 = j0 + j1;
@@ -14122,16 +14205,17 @@ v1 = j0;
 j0 = v4;
 j1 = UINT64_C(99999999);
 i0 = (j0 > j1);
-if (i0) { goto l98; }
-l97:;
+if (!i0) break;
+}
+}
 j0 = v6;
 j1 = UINT64_C(99);
 i0 = (j0 > j1);
-if (i0) { goto l100; }
+if (!i0) {
 j0 = v6;
 j1 = UINT64_C(9);
 i0 = (j0 > j1);
-if (i0) { goto l101; }
+if (!i0) {
 j0 = v5;
 j1 = UINT64_C(192);
 j0 = j0 + j1;
@@ -14147,7 +14231,7 @@ i1 = i1 | i2;
 p135 = write_at(j0, m, 1u);
 store8(p135 + 0, i1);
 goto l99;
-l101:;
+}
 j0 = v5;
 j1 = UINT64_C(192);
 j0 = j0 + j1;
@@ -14164,7 +14248,7 @@ i1 = load16(p136 + 0);
 p137 = write_at(j0, m, 2u);
 store16(p137 + 0, i1);
 goto l99;
-l100:;
+}
 j0 = v5;
 j1 = UINT64_C(192);
 j0 = j0 + j1;
@@ -14196,7 +14280,7 @@ store16(p139 + 0, i1);
 j0 = v6;
 j1 = UINT64_C(999);
 i0 = (j0 > j1);
-if (i0) { goto l102; }
+if (!i0) {
 j0 = v5;
 j1 = UINT64_C(192);
 j0 = j0 + j1;
@@ -14211,7 +14295,7 @@ i1 = i1 | i2;
 p140 = write_at(j0, m, 1u);
 store8(p140 + 0, i1);
 goto l99;
-l102:;
+}
 j0 = v5;
 j1 = UINT64_C(192);
 j0 = j0 + j1;
@@ -14234,7 +14318,7 @@ j1 = UINT64_C(18446744073709551480);
 j0 = j0 + j1;
 j1 = UINT64_C(18446744073709551608);
 i0 = (j0 > j1);
-if (i0) { goto l103; }
+if (!i0) {
 j0 = v5;
 j1 = UINT64_C(192);
 j0 = j0 + j1;
@@ -14252,19 +14336,19 @@ j0 = v4;
 j1 = UINT64_C(0);
 i1 = load32(p143 + 0);
 store32(p144 + 0, i1);
-l103:;
+}
 j0 = v1;
 j1 = UINT64_C(18446744073709551614);
 j0 = j0 & j1;
 j1 = UINT64_C(136);
 i0 = (j0 != j1);
-if (i0) { goto l106; }
+if (!i0) {
 j0 = v1;
 j1 = UINT64_C(18446744073709551599);
 j0 = j0 + j1;
 v4 = j0;
 goto l105;
-l106:;
+}
 j0 = v5;
 j1 = UINT64_C(192);
 j0 = j0 + j1;
@@ -14313,11 +14397,11 @@ i0 = i0 & i1;
 v7 = i0;
 i1 = UINT32_C(99);
 i0 = (i0 > i1);
-if (i0) { goto l108; }
+if (!i0) {
 i0 = v7;
 i1 = UINT32_C(9);
 i0 = (i0 > i1);
-if (i0) { goto l109; }
+if (!i0) {
 j0 = v5;
 j1 = UINT64_C(192);
 j0 = j0 + j1;
@@ -14332,7 +14416,7 @@ i1 = i1 | i2;
 p149 = write_at(j0, m, 1u);
 store8(p149 + 0, i1);
 goto l107;
-l109:;
+}
 j0 = v5;
 j1 = UINT64_C(192);
 j0 = j0 + j1;
@@ -14350,7 +14434,7 @@ i1 = load16(p150 + 0);
 p151 = write_at(j0, m, 2u);
 store16(p151 + 0, i1);
 goto l107;
-l108:;
+}
 j0 = v5;
 j1 = UINT64_C(192);
 j0 = j0 + j1;
@@ -14402,7 +14486,7 @@ j1 = UINT64_C(18446744073709551478);
 j0 = j0 + j1;
 j1 = UINT64_C(18446744073709551606);
 i0 = (j0 > j1);
-if (i0) { goto l110; }
+if (!i0) {
 j0 = v4;
 j1 = UINT64_C(18446744073709551607);
 j0 = j0 + j1;
@@ -14416,18 +14500,18 @@ j0 = v0;
 j1 = UINT64_C(0);
 j1 = load64(p155 + 0);
 store64(p156 + 0, j1);
-l110:;
+}
 i0 = v10;
 i1 = UINT32_C(255);
 i0 = i0 & i1;
 v7 = i0;
 i1 = UINT32_C(99);
 i0 = (i0 > i1);
-if (i0) { goto l112; }
+if (!i0) {
 i0 = v7;
 i1 = UINT32_C(9);
 i0 = (i0 > i1);
-if (i0) { goto l113; }
+if (!i0) {
 j0 = v5;
 j1 = UINT64_C(192);
 j0 = j0 + j1;
@@ -14442,7 +14526,7 @@ i1 = i1 | i2;
 p157 = write_at(j0, m, 1u);
 store8(p157 + 0, i1);
 goto l111;
-l113:;
+}
 j0 = v5;
 j1 = UINT64_C(192);
 j0 = j0 + j1;
@@ -14462,7 +14546,7 @@ i1 = load16(p158 + 0);
 p159 = write_at(j0, m, 2u);
 store16(p159 + 0, i1);
 goto l111;
-l112:;
+}
 j0 = v5;
 j1 = UINT64_C(192);
 j0 = j0 + j1;
@@ -14647,17 +14731,18 @@ j0 = load64(p1 + 80);
 v4 = j0;
 j1 = v3;
 i0 = (j0 > j1);
-if (i0) { goto l114; }
+if (!i0) {
 j0 = v4;
 i0 = (j0 == 0);
-if (i0) { goto l114; }
+if (!i0) {
 j0 = v2;
 j1 = v5;
 j2 = UINT64_C(8);
 j1 = j1 + j2;
 j2 = v4;
 copy(m, j0, j1, j2);
-l114:;
+}
+}
 j0 = v4;
 j1 = UINT64_C(1);
 j0 = j0 + j1;
@@ -14713,10 +14798,10 @@ j0 = j0 - j1;
 v1 = j0;
 j1 = v3;
 i0 = (j0 > j1);
-if (i0) { goto l115; }
+if (!i0) {
 j0 = v1;
 i0 = (j0 == 0);
-if (i0) { goto l115; }
+if (!i0) {
 j0 = v2;
 j1 = v5;
 j2 = UINT64_C(192);
@@ -14725,7 +14810,8 @@ j2 = v4;
 j1 = j1 + j2;
 j2 = v1;
 copy(m, j0, j1, j2);
-l115:;
+}
+}
 i0 = v7;
 j0 = (uint64_t)i0;
 j1 = UINT64_C(255);
@@ -14783,11 +14869,11 @@ store8(p1 + 319, i1);
 i0 = v7;
 i1 = UINT32_C(99);
 i0 = (i0 > i1);
-if (i0) { goto l121; }
+if (!i0) {
 i0 = v7;
 i1 = UINT32_C(9);
 i0 = (i0 > i1);
-if (i0) { goto l122; }
+if (!i0) {
 j0 = v5;
 i1 = v7;
 i2 = UINT32_C(48);
@@ -14798,7 +14884,7 @@ v4 = j0;
 j0 = v15;
 v1 = j0;
 goto l120;
-l122:;
+}
 j0 = v5;
 i1 = v7;
 j1 = (uint64_t)i1;
@@ -14812,7 +14898,7 @@ v4 = j0;
 j0 = v16;
 v1 = j0;
 goto l120;
-l121:;
+}
 j0 = v5;
 i1 = v7;
 i2 = UINT32_C(100);
@@ -14860,11 +14946,11 @@ i0 = i0 & i1;
 v13 = i0;
 i1 = UINT32_C(99);
 i0 = (i0 > i1);
-if (i0) { goto l124; }
+if (!i0) {
 i0 = v13;
 i1 = UINT32_C(9);
 i0 = (i0 > i1);
-if (i0) { goto l125; }
+if (!i0) {
 j0 = v5;
 j1 = UINT64_C(192);
 j0 = j0 + j1;
@@ -14879,7 +14965,7 @@ i1 = i1 | i2;
 p178 = write_at(j0, m, 1u);
 store8(p178 + 0, i1);
 goto l123;
-l125:;
+}
 j0 = v5;
 j1 = UINT64_C(192);
 j0 = j0 + j1;
@@ -14899,7 +14985,7 @@ i1 = load16(p179 + 0);
 p180 = write_at(j0, m, 2u);
 store16(p180 + 0, i1);
 goto l123;
-l124:;
+}
 j0 = v1;
 j1 = UINT64_C(18446744073709551614);
 j0 = j0 + j1;
@@ -14969,11 +15055,11 @@ store64(p185 + 0, j1);
 i0 = v7;
 i1 = UINT32_C(99);
 i0 = (i0 > i1);
-if (i0) { goto l127; }
+if (!i0) {
 i0 = v7;
 i1 = UINT32_C(9);
 i0 = (i0 > i1);
-if (i0) { goto l128; }
+if (!i0) {
 j0 = v5;
 j1 = UINT64_C(192);
 j0 = j0 + j1;
@@ -14988,7 +15074,7 @@ i1 = i1 | i2;
 p186 = write_at(j0, m, 1u);
 store8(p186 + 0, i1);
 goto l126;
-l128:;
+}
 j0 = v5;
 j1 = UINT64_C(192);
 j0 = j0 + j1;
@@ -15008,7 +15094,7 @@ i1 = load16(p187 + 0);
 p188 = write_at(j0, m, 2u);
 store16(p188 + 0, i1);
 goto l126;
-l127:;
+}
 j0 = v5;
 j1 = UINT64_C(192);
 j0 = j0 + j1;
@@ -15060,17 +15146,18 @@ j0 = j0 + j1;
 v1 = j0;
 j1 = v3;
 i0 = (j0 > j1);
-if (i0) { goto l129; }
+if (!i0) {
 j0 = v4;
 i0 = (j0 == 0);
-if (i0) { goto l129; }
+if (!i0) {
 j0 = v2;
 j1 = v0;
 j0 = j0 + j1;
 j1 = v6;
 j2 = v4;
 copy(m, j0, j1, j2);
-l129:;
+}
+}
 j0 = v9;
 j1 = UINT64_C(3);
 j0 = j0 + j1;
@@ -15178,12 +15265,12 @@ i1 = v18;
 i2 = UINT32_C(65535);
 i1 = i1 & i2;
 i0 = (i0 != i1);
-if (i0) { goto l132; }
+if (!i0) {
 i0 = v8;
 i1 = v19;
 i0 = (i0 == i1);
 if (i0) { goto l131; }
-l132:;
+}
 j0 = v5;
 j1 = UINT64_C(336);
 j0 = j0 + j1;
@@ -15220,11 +15307,11 @@ store8(p1 + 399, i1);
 i0 = v13;
 i1 = UINT32_C(99);
 i0 = (i0 > i1);
-if (i0) { goto l134; }
+if (!i0) {
 i0 = v13;
 i1 = UINT32_C(9);
 i0 = (i0 > i1);
-if (i0) { goto l135; }
+if (!i0) {
 j0 = v5;
 i1 = v13;
 i2 = UINT32_C(48);
@@ -15237,7 +15324,7 @@ v1 = j0;
 j0 = v16;
 v0 = j0;
 goto l133;
-l135:;
+}
 j0 = v5;
 i1 = v10;
 i2 = UINT32_C(1);
@@ -15255,7 +15342,7 @@ v1 = j0;
 j0 = v20;
 v0 = j0;
 goto l133;
-l134:;
+}
 j0 = v5;
 i1 = UINT32_C(49);
 store8(p1 + 389, i1);
@@ -15307,17 +15394,18 @@ j0 = j0 + j1;
 v1 = j0;
 j1 = v3;
 i0 = (j0 > j1);
-if (i0) { goto l136; }
+if (!i0) {
 j0 = v15;
 i0 = (j0 == 0);
-if (i0) { goto l136; }
+if (!i0) {
 j0 = v2;
 j1 = v4;
 j0 = j0 + j1;
 j1 = v0;
 j2 = v15;
 copy(m, j0, j1, j2);
-l136:;
+}
+}
 j0 = v9;
 j1 = UINT64_C(3);
 j0 = j0 + j1;
@@ -15336,7 +15424,7 @@ goto l3;
 l116:;
 j0 = v12;
 i0 = (j0 == 0);
-if (i0) { goto l138; }
+if (!i0) {
 j0 = v5;
 j1 = UINT64_C(321);
 j0 = j0 + j1;
@@ -15371,7 +15459,7 @@ j0 = v14;
 v0 = j0;
 p201 = write_at(v1 + UINT64_C(18446744073709551615), m, run(2u, 2u, turns(v0, UINT64_C(0), 1u)));
 p200 = read_at(v4 + UINT64_C(0), m, run(1u, 1u, turns(v0, UINT64_C(0), 1u)));
-l140:;
+for (;;) {
 j0 = v1;
 j1 = v4;
 j1 = load8(p200 + 0);
@@ -15404,7 +15492,10 @@ j0 = j0 + j1;
 v0 = j0;
 j1 = UINT64_C(0);
 i0 = (j0 != j1);
-if (i0) { p200 += 1; p201 += 2; goto l140; }
+if (!i0) break;
+p200 += 1;
+p201 += 2;
+}
 j0 = v12;
 j1 = v14;
 j0 = j0 - j1;
@@ -15415,17 +15506,18 @@ j0 = j0 + j1;
 v1 = j0;
 j1 = v3;
 i0 = (j0 > j1);
-if (i0) { goto l141; }
+if (!i0) {
 j0 = v15;
 i0 = (j0 == 0);
-if (i0) { goto l141; }
+if (!i0) {
 j0 = v2;
 j1 = v16;
 j0 = j0 + j1;
 j1 = v17;
 j2 = v15;
 copy(m, j0, j1, j2);
-l141:;
+}
+}
 j0 = v9;
 j1 = v14;
 j0 = j0 + j1;
@@ -15444,18 +15536,18 @@ if (i0) { goto l137; }
 j0 = v4;
 v1 = j0;
 goto l3;
-l138:;
+}
 j0 = UINT64_C(130);
 j1 = v4;
 j0 = j0 - j1;
 v4 = j0;
 j1 = v3;
 i0 = (j0 <= j1);
-if (i0) { goto l142; }
+if (!i0) {
 j0 = v4;
 v1 = j0;
 goto l3;
-l142:;
+}
 j0 = v2;
 j1 = v1;
 j0 = j0 + j1;
@@ -15464,7 +15556,7 @@ j1 = UINT64_C(68265);
 j0 = j0 - j1;
 j1 = UINT64_C(1);
 i0 = (j0 > j1);
-if (i0) { goto l143; }
+if (!i0) {
 j0 = v1;
 i1 = UINT32_C(2605);
 p204 = write_at(j0, m, 2u);
@@ -15472,7 +15564,7 @@ store16(p204 + 0, i1);
 j0 = v4;
 v1 = j0;
 goto l3;
-l143:;
+}
 j0 = v1;
 i1 = UINT32_C(2605);
 p205 = write_at(j0, m, 2u);
@@ -15497,6 +15589,7 @@ m->g0 = j0;
 j0 = v1;
 r = j0;
 return r;
+}
 l2:;
 fio2070_trap();
 return r;
@@ -15517,19 +15610,19 @@ uint8_t *p6;
 j0 = m->g0;
 j1 = UINT64_C(16);
 i0 = (SIGNED64(j0) < SIGNED64(j1));
-if (i0) { goto l2; }
+if (!i0) {
 j0 = v4;
 i0 = (uint32_t)j0;
 i1 = UINT32_C(1);
 i0 = i0 & i1;
-if (i0) { goto l4; }
+if (!i0) {
 j0 = v4;
 j1 = UINT64_C(1);
 j0 = j0 >> (j1 & 63);
 j1 = v2;
 i0 = (j0 == j1);
 if (i0) { goto l3; }
-l4:;
+}
 j0 = v0;
 i1 = UINT32_C(1);
 p1 = write_at(j0, m, 24u);
@@ -15548,10 +15641,10 @@ return;
 l3:;
 j0 = v2;
 i0 = (j0 == 0);
-if (i0) { goto l5; }
+if (!i0) {
 p3 = write_at(v3 + UINT64_C(0), m, run(2u, 2u, turns(v2, UINT64_C(0), 1u)));
 p2 = read_at(v1 + UINT64_C(0), m, run(1u, 1u, turns(v2, UINT64_C(0), 1u)));
-l6:;
+for (;;) {
 j0 = v3;
 j1 = UINT64_C(1);
 j0 = j0 + j1;
@@ -15584,8 +15677,11 @@ j0 = j0 + j1;
 v2 = j0;
 j1 = UINT64_C(0);
 i0 = (j0 != j1);
-if (i0) { p2 += 1; p3 += 2; goto l6; }
-l5:;
+if (!i0) break;
+p2 += 1;
+p3 += 2;
+}
+}
 j0 = v0;
 i1 = UINT32_C(0);
 p6 = write_at(j0, m, 24u);
@@ -15601,9 +15697,8 @@ j0 = j0 + j1;
 j1 = UINT64_C(0);
 store64(p6 + 16, j1);
 return;
-l2:;
+}
 fio2070_trap();
-return;
 }
 static uint64_t itoa_digits_write_digits(struct machine *m, uint64_t v0, uint64_t v1, uint64_t v2)
 {
@@ -15620,7 +15715,7 @@ uint64_t j0;
 uint64_t j1;
 uint64_t j2;
 uint64_t j3;
-uint64_t r;
+uint64_t r = 0;
 uint8_t *p1;
 uint8_t *p2;
 uint8_t *p3;
@@ -15635,16 +15730,16 @@ uint8_t *p11;
 j0 = m->g0;
 j1 = UINT64_C(16);
 i0 = (SIGNED64(j0) < SIGNED64(j1));
-if (i0) { goto l2; }
+if (!i0) {
 j0 = v0;
 j1 = UINT64_C(10000);
 i0 = (j0 < j1);
-if (i0) { goto l3; }
+if (!i0) {
 j0 = v1;
 j1 = UINT64_C(18446744073709551612);
 j0 = j0 + j1;
 v3 = j0;
-l4:;
+for (;;) {
 j0 = v3;
 j1 = v2;
 j0 = j0 + j1;
@@ -15695,16 +15790,17 @@ v2 = j0;
 j0 = v5;
 j1 = UINT64_C(99999999);
 i0 = (j0 > j1);
-if (i0) { goto l4; }
-l3:;
+if (!i0) break;
+}
+}
 j0 = v0;
 j1 = UINT64_C(99);
 i0 = (j0 > j1);
-if (i0) { goto l5; }
+if (!i0) {
 j0 = v0;
 j1 = UINT64_C(9);
 i0 = (j0 > j1);
-if (i0) { goto l6; }
+if (!i0) {
 j0 = v1;
 j1 = v2;
 j2 = UINT64_C(18446744073709551615);
@@ -15720,7 +15816,7 @@ store8(p4 + 0, i1);
 j0 = v2;
 r = j0;
 return r;
-l6:;
+}
 j0 = v1;
 j1 = v2;
 j2 = UINT64_C(18446744073709551614);
@@ -15737,7 +15833,7 @@ store16(p6 + 0, i1);
 j0 = v2;
 r = j0;
 return r;
-l5:;
+}
 j0 = v1;
 j1 = v2;
 j0 = j0 + j1;
@@ -15767,7 +15863,7 @@ store16(p8 + 0, i1);
 j0 = v0;
 j1 = UINT64_C(999);
 i0 = (j0 > j1);
-if (i0) { goto l7; }
+if (!i0) {
 j0 = v1;
 j1 = v2;
 j2 = UINT64_C(18446744073709551613);
@@ -15782,7 +15878,7 @@ store8(p9 + 0, i1);
 j0 = v2;
 r = j0;
 return r;
-l7:;
+}
 j0 = v1;
 j1 = v2;
 j2 = UINT64_C(18446744073709551612);
@@ -15800,7 +15896,7 @@ store16(p11 + 0, i1);
 j0 = v2;
 r = j0;
 return r;
-l2:;
+}
 fio2070_trap();
 return r;
 }
@@ -15838,7 +15934,7 @@ uint8_t *p15;
 j0 = m->g0;
 j1 = UINT64_C(16);
 i0 = (SIGNED64(j0) < SIGNED64(j1));
-if (i0) { goto l2; }
+if (!i0) {
 j0 = UINT64_C(127);
 v4 = j0;
 j0 = v1;
@@ -15854,10 +15950,10 @@ v5 = j0;
 j0 = v3;
 j1 = UINT64_C(30000);
 i0 = (j0 < j1);
-if (i0) { goto l3; }
+if (!i0) {
 j0 = UINT64_C(127);
 v4 = j0;
-l4:;
+for (;;) {
 j0 = v1;
 j1 = v4;
 j0 = j0 + j1;
@@ -15910,16 +16006,17 @@ v4 = j0;
 j0 = v7;
 j1 = UINT64_C(99999999);
 i0 = (j0 > j1);
-if (i0) { goto l4; }
-l3:;
+if (!i0) break;
+}
+}
 j0 = v5;
 j1 = UINT64_C(99);
 i0 = (j0 > j1);
-if (i0) { goto l6; }
+if (!i0) {
 j0 = v5;
 j1 = UINT64_C(9);
 i0 = (j0 > j1);
-if (i0) { goto l7; }
+if (!i0) {
 j0 = v1;
 j1 = v4;
 j2 = UINT64_C(18446744073709551615);
@@ -15933,7 +16030,7 @@ i1 = i1 | i2;
 p5 = write_at(j0, m, 1u);
 store8(p5 + 0, i1);
 goto l5;
-l7:;
+}
 j0 = v1;
 j1 = v4;
 j2 = UINT64_C(18446744073709551614);
@@ -15948,7 +16045,7 @@ i1 = load16(p6 + 0);
 p7 = write_at(j0, m, 2u);
 store16(p7 + 0, i1);
 goto l5;
-l6:;
+}
 j0 = v1;
 j1 = v4;
 j0 = j0 + j1;
@@ -15978,7 +16075,7 @@ store16(p9 + 0, i1);
 j0 = v5;
 j1 = UINT64_C(999);
 i0 = (j0 > j1);
-if (i0) { goto l8; }
+if (!i0) {
 j0 = v1;
 j1 = v4;
 j2 = UINT64_C(18446744073709551613);
@@ -15991,7 +16088,7 @@ i1 = i1 | i2;
 p10 = write_at(j0, m, 1u);
 store8(p10 + 0, i1);
 goto l5;
-l8:;
+}
 j0 = v1;
 j1 = v4;
 j2 = UINT64_C(18446744073709551612);
@@ -16016,7 +16113,7 @@ j1 = UINT64_C(18446744073709551470);
 j0 = j0 + j1;
 j1 = UINT64_C(18446744073709551598);
 i0 = (j0 > j1);
-if (i0) { goto l9; }
+if (!i0) {
 j0 = v1;
 j1 = v7;
 j0 = j0 + j1;
@@ -16034,7 +16131,7 @@ j0 = v4;
 j1 = UINT64_C(0);
 j1 = load64(p13 + 0);
 store64(p14 + 0, j1);
-l9:;
+}
 j0 = v0;
 j1 = v7;
 p15 = write_at(j0, m, 36u);
@@ -16060,9 +16157,8 @@ j0 = j0 + j1;
 j1 = UINT64_C(1);
 store64(p15 + 8, j1);
 return;
-l2:;
+}
 fio2070_trap();
-return;
 }
 static void fio_show_commands_put_other(struct machine *m, uint64_t v0, uint64_t v1, uint32_t v2, uint64_t v3, uint64_t v4)
 {
@@ -16088,7 +16184,7 @@ uint8_t *p10;
 j0 = m->g0;
 j1 = UINT64_C(16);
 i0 = (SIGNED64(j0) < SIGNED64(j1));
-if (i0) { goto l2; }
+if (!i0) {
 j0 = v1;
 j1 = UINT64_C(126);
 j0 = j0 + j1;
@@ -16109,11 +16205,11 @@ i0 = i0 & i1;
 v5 = i0;
 i1 = UINT32_C(99);
 i0 = (i0 > i1);
-if (i0) { goto l4; }
+if (!i0) {
 i0 = v5;
 i1 = UINT32_C(9);
 i0 = (i0 > i1);
-if (i0) { goto l5; }
+if (!i0) {
 j0 = v1;
 i1 = v2;
 i2 = UINT32_C(48);
@@ -16123,7 +16219,7 @@ store8(p3 + 0, i1);
 j0 = UINT64_C(115);
 v6 = j0;
 goto l3;
-l5:;
+}
 j0 = v1;
 i1 = v2;
 j1 = (uint64_t)i1;
@@ -16138,7 +16234,7 @@ store16(p5 + 0, i1);
 j0 = UINT64_C(114);
 v6 = j0;
 goto l3;
-l4:;
+}
 j0 = v1;
 i1 = v5;
 i2 = UINT32_C(100);
@@ -16205,9 +16301,8 @@ j0 = v0;
 j1 = v6;
 store64(p10 + 0, j1);
 return;
-l2:;
+}
 fio2070_trap();
-return;
 }
 static void fio_message_faults_DecodeError_words(struct machine *m, uint64_t v0, uint64_t v1)
 {
@@ -16235,7 +16330,7 @@ j0 = v2;
 v2 = j0;
 j1 = UINT64_C(16);
 i0 = (SIGNED64(j0) < SIGNED64(j1));
-if (i0) { goto l2; }
+if (!i0) {
 j0 = v1;
 j1 = UINT64_C(16);
 j0 = j0 + j1;
@@ -16330,9 +16425,8 @@ j1 = UINT64_C(80);
 j0 = j0 + j1;
 m->g0 = j0;
 return;
-l2:;
+}
 fio2070_trap();
-return;
 }
 static uint64_t fio_show_entry_lines_put_ending(struct machine *m, uint64_t v0, uint32_t v1, uint32_t v2)
 {
@@ -16351,7 +16445,7 @@ uint64_t j0;
 uint64_t j1;
 uint64_t j2;
 uint64_t j3;
-uint64_t r;
+uint64_t r = 0;
 uint8_t *p1;
 uint8_t *p2;
 uint8_t *p3;
@@ -16390,7 +16484,7 @@ p1 = write_at(j0, m, 32u);
 v3 = j0;
 j1 = UINT64_C(16);
 i0 = (SIGNED64(j0) < SIGNED64(j1));
-if (i0) { goto l2; }
+if (!i0) {
 j0 = UINT64_C(95);
 v4 = j0;
 j0 = v0;
@@ -16417,10 +16511,10 @@ v5 = j0;
 i0 = v2;
 i1 = UINT32_C(10000);
 i0 = (i0 < i1);
-if (i0) { goto l3; }
+if (!i0) {
 j0 = UINT64_C(95);
 v4 = j0;
-l4:;
+for (;;) {
 j0 = v0;
 j1 = v4;
 j0 = j0 + j1;
@@ -16473,16 +16567,17 @@ v4 = j0;
 j0 = v7;
 j1 = UINT64_C(99999999);
 i0 = (j0 > j1);
-if (i0) { goto l4; }
-l3:;
+if (!i0) break;
+}
+}
 j0 = v5;
 j1 = UINT64_C(99);
 i0 = (j0 > j1);
-if (i0) { goto l6; }
+if (!i0) {
 j0 = v5;
 j1 = UINT64_C(9);
 i0 = (j0 > j1);
-if (i0) { goto l7; }
+if (!i0) {
 j0 = v0;
 j1 = v4;
 j2 = UINT64_C(18446744073709551615);
@@ -16496,7 +16591,7 @@ i1 = i1 | i2;
 p6 = write_at(j0, m, 1u);
 store8(p6 + 0, i1);
 goto l5;
-l7:;
+}
 j0 = v0;
 j1 = v4;
 j2 = UINT64_C(18446744073709551614);
@@ -16511,7 +16606,7 @@ i1 = load16(p7 + 0);
 p8 = write_at(j0, m, 2u);
 store16(p8 + 0, i1);
 goto l5;
-l6:;
+}
 j0 = v0;
 j1 = v4;
 j0 = j0 + j1;
@@ -16541,7 +16636,7 @@ store16(p10 + 0, i1);
 j0 = v5;
 j1 = UINT64_C(999);
 i0 = (j0 > j1);
-if (i0) { goto l8; }
+if (!i0) {
 j0 = v0;
 j1 = v4;
 j2 = UINT64_C(18446744073709551613);
@@ -16554,7 +16649,7 @@ i1 = i1 | i2;
 p11 = write_at(j0, m, 1u);
 store8(p11 + 0, i1);
 goto l5;
-l8:;
+}
 j0 = v0;
 j1 = v4;
 j2 = UINT64_C(18446744073709551612);
@@ -16579,7 +16674,7 @@ j1 = UINT64_C(18446744073709551481);
 j0 = j0 + j1;
 j1 = UINT64_C(18446744073709551609);
 i0 = (j0 > j1);
-if (i0) { goto l9; }
+if (!i0) {
 j0 = v0;
 j1 = v7;
 j0 = j0 + j1;
@@ -16593,14 +16688,14 @@ j0 = v5;
 j1 = UINT64_C(0);
 i1 = load32(p14 + 0);
 store32(p15 + 0, i1);
-l9:;
+}
 i0 = v1;
 i1 = UINT32_C(65535);
 i0 = i0 & i1;
 v2 = i0;
 i1 = UINT32_C(10000);
 i0 = (i0 < i1);
-if (i0) { goto l14; }
+if (!i0) {
 j0 = v0;
 j1 = v4;
 j2 = UINT64_C(18446744073709551606);
@@ -16652,7 +16747,7 @@ v7 = j0;
 i0 = v2;
 v1 = i0;
 goto l13;
-l14:;
+}
 i0 = v2;
 i1 = UINT32_C(99);
 i0 = (i0 > i1);
@@ -16723,7 +16818,7 @@ store16(p24 + 0, i1);
 i0 = v2;
 i1 = UINT32_C(999);
 i0 = (i0 > i1);
-if (i0) { goto l15; }
+if (!i0) {
 j0 = v0;
 j1 = v4;
 j2 = UINT64_C(18446744073709551607);
@@ -16736,7 +16831,7 @@ i1 = i1 | i2;
 p25 = write_at(j0, m, 1u);
 store8(p25 + 0, i1);
 goto l10;
-l15:;
+}
 j0 = v0;
 j1 = v4;
 j2 = UINT64_C(18446744073709551606);
@@ -16763,7 +16858,7 @@ j1 = UINT64_C(18446744073709551480);
 j0 = j0 + j1;
 j1 = UINT64_C(18446744073709551608);
 i0 = (j0 > j1);
-if (i0) { goto l16; }
+if (!i0) {
 j0 = v4;
 j1 = UINT64_C(0);
 p28 = read_at(j1 + UINT64_C(67817), m, 7u);
@@ -16774,7 +16869,7 @@ j0 = v4;
 j1 = UINT64_C(0);
 i1 = load32(p28 + 0);
 store32(p29 + 0, i1);
-l16:;
+}
 j0 = v4;
 p30 = read_at(j0, m, 32u);
 j0 = load64(p30 + 24);
@@ -16825,7 +16920,7 @@ j1 = v7;
 j0 = j0 - j1;
 r = j0;
 return r;
-l2:;
+}
 fio2070_trap();
 return r;
 }
@@ -16874,7 +16969,7 @@ p1 = write_at(j0, m, 48u);
 v4 = j0;
 j1 = UINT64_C(16);
 i0 = (SIGNED64(j0) < SIGNED64(j1));
-if (i0) { goto l2; }
+if (!i0) {
 j0 = v0;
 j1 = v0;
 j2 = UINT64_C(72);
@@ -16888,7 +16983,7 @@ j1 = v1;
 j0 = j0 - j1;
 j1 = v2;
 i0 = (j0 >= j1);
-if (i0) { goto l4; }
+if (!i0) {
 j0 = v2;
 j1 = UINT64_C(28);
 j0 = j0 & j1;
@@ -16899,7 +16994,7 @@ j0 = j0 & j1;
 v8 = j0;
 j0 = UINT64_C(0);
 v9 = j0;
-l5:;
+for (;;) {
 j0 = v6;
 j1 = v9;
 j0 = j0 + j1;
@@ -16942,7 +17037,8 @@ j2 = UINT64_C(4);
 j1 = j1 + j2;
 v9 = j1;
 i0 = (j0 != j1);
-if (i0) { goto l5; }
+if (!i0) break;
+}
 j0 = v8;
 i0 = (j0 == 0);
 if (i0) { goto l3; }
@@ -16977,14 +17073,15 @@ j1 = UINT64_C(0);
 i0 = (j0 != j1);
 if (i0) { goto l6; }
 goto l3;
-l4:;
+}
 j0 = v2;
 i0 = (j0 == 0);
-if (i0) { goto l3; }
+if (!i0) {
 j0 = v6;
 j1 = v1;
 j2 = v2;
 copy(m, j0, j1, j2);
+}
 l3:;
 j0 = v0;
 j1 = UINT64_C(72);
@@ -17015,10 +17112,10 @@ v9 = j0;
 j0 = v3;
 j1 = UINT64_C(10000);
 i0 = (j0 < j1);
-if (i0) { goto l7; }
+if (!i0) {
 j0 = UINT64_C(40);
 v9 = j0;
-l8:;
+for (;;) {
 j0 = v4;
 j1 = UINT64_C(8);
 j0 = j0 + j1;
@@ -17073,16 +17170,17 @@ v9 = j0;
 j0 = v10;
 j1 = UINT64_C(99999999);
 i0 = (j0 > j1);
-if (i0) { goto l8; }
-l7:;
+if (!i0) break;
+}
+}
 j0 = v3;
 j1 = UINT64_C(99);
 i0 = (j0 > j1);
-if (i0) { goto l10; }
+if (!i0) {
 j0 = v3;
 j1 = UINT64_C(9);
 i0 = (j0 > j1);
-if (i0) { goto l11; }
+if (!i0) {
 j0 = v4;
 j1 = UINT64_C(8);
 j0 = j0 + j1;
@@ -17098,7 +17196,7 @@ i1 = i1 | i2;
 p11 = write_at(j0, m, 1u);
 store8(p11 + 0, i1);
 goto l9;
-l11:;
+}
 j0 = v4;
 j1 = UINT64_C(8);
 j0 = j0 + j1;
@@ -17115,7 +17213,7 @@ i1 = load16(p12 + 0);
 p13 = write_at(j0, m, 2u);
 store16(p13 + 0, i1);
 goto l9;
-l10:;
+}
 j0 = v4;
 j1 = UINT64_C(8);
 j0 = j0 + j1;
@@ -17147,7 +17245,7 @@ store16(p15 + 0, i1);
 j0 = v3;
 j1 = UINT64_C(999);
 i0 = (j0 > j1);
-if (i0) { goto l12; }
+if (!i0) {
 j0 = v4;
 j1 = UINT64_C(8);
 j0 = j0 + j1;
@@ -17162,7 +17260,7 @@ i1 = i1 | i2;
 p16 = write_at(j0, m, 1u);
 store8(p16 + 0, i1);
 goto l9;
-l12:;
+}
 j0 = v4;
 j1 = UINT64_C(8);
 j0 = j0 + j1;
@@ -17185,7 +17283,7 @@ j1 = v9;
 j0 = j0 - j1;
 v10 = j0;
 i0 = (j0 == 0);
-if (i0) { goto l13; }
+if (!i0) {
 j0 = v0;
 j1 = v8;
 j0 = j0 + j1;
@@ -17196,7 +17294,7 @@ j2 = v9;
 j1 = j1 + j2;
 j2 = v10;
 copy(m, j0, j1, j2);
-l13:;
+}
 j0 = v0;
 j1 = UINT64_C(72);
 j0 = j0 + j1;
@@ -17205,9 +17303,8 @@ j2 = v8;
 j1 = j1 + j2;
 store64(p7 + 0, j1);
 return;
-l2:;
+}
 fio2070_trap();
-return;
 }
 static uint64_t enter_block_entries(struct machine *m, uint64_t v0, uint64_t v1, uint64_t v2, uint64_t v3)
 {
@@ -17216,13 +17313,12 @@ uint64_t j0;
 uint64_t j1;
 uint64_t j2;
 uint64_t j3;
-uint64_t r;
+uint64_t r = 0;
 i0 = rattle_enter(m);
 i0 = (i0 == 0);
-if (i0) { goto l2; }
+if (!i0) {
 fio2070_trap();
-fio2070_trap();
-l2:;
+}
 j0 = v0;
 j1 = v1;
 j2 = v2;
@@ -17247,7 +17343,7 @@ uint64_t j0;
 uint64_t j1;
 uint64_t j2;
 uint64_t j3;
-uint64_t r;
+uint64_t r = 0;
 uint8_t *p1;
 uint8_t *p2;
 uint8_t *p3;
@@ -17256,12 +17352,12 @@ uint8_t *p5;
 j0 = m->g0;
 j1 = UINT64_C(16);
 i0 = (SIGNED64(j0) < SIGNED64(j1));
-if (i0) { goto l2; }
+if (!i0) {
 j0 = UINT64_C(18446744073709551615);
 v4 = j0;
 j0 = v1;
 i0 = (j0 == 0);
-if (i0) { goto l3; }
+if (!i0) {
 j0 = v0;
 j1 = UINT64_C(4096);
 j2 = UINT64_C(0);
@@ -17274,13 +17370,13 @@ p1 = read_at(j0, m, 1u);
 i0 = load8(p1 + 0);
 i1 = UINT32_C(182);
 i0 = (i0 != i1);
-if (i0) { goto l3; }
+if (!i0) {
 j0 = UINT64_C(8);
 v0 = j0;
 j0 = v1;
 j1 = UINT64_C(3);
 i0 = (j0 < j1);
-if (i0) { goto l4; }
+if (!i0) {
 j0 = v1;
 j1 = UINT64_C(773);
 i0 = (j0 > j1);
@@ -17295,11 +17391,11 @@ j0 = j0 * j1;
 j1 = UINT64_C(8);
 j0 = j0 + j1;
 v0 = j0;
-l4:;
+}
 j0 = v0;
 j1 = v1;
 i0 = (j0 != j1);
-if (i0) { goto l3; }
+if (!i0) {
 j0 = v5;
 j1 = UINT64_C(2);
 j0 = j0 + j1;
@@ -17310,11 +17406,11 @@ j0 = (uint64_t)i0;
 v4 = j0;
 i0 = v6;
 i0 = (i0 == 0);
-if (i0) { goto l3; }
+if (!i0) {
 j0 = v3;
 j1 = v4;
 i0 = (j0 < j1);
-if (i0) { goto l3; }
+if (!i0) {
 j0 = v2;
 j1 = UINT64_C(4096);
 j2 = UINT64_C(0);
@@ -17342,7 +17438,7 @@ j0 = j0 + j1;
 v2 = j0;
 p5 = write_at(v0 + UINT64_C(0), m, run(4u, 4u, turns(v2, UINT64_C(0), 1u)));
 p4 = read_at(v1 + UINT64_C(18446744073709551614), m, run(3u, 3u, turns(v2, UINT64_C(0), 1u)));
-l5:;
+for (;;) {
 j0 = v0;
 j1 = v1;
 j2 = UINT64_C(18446744073709551615);
@@ -17384,12 +17480,20 @@ j0 = j0 + j1;
 v2 = j0;
 i0 = (j0 == 0);
 i0 = (i0 == 0);
-if (i0) { p4 += 3; p5 += 4; goto l5; }
+if (!i0) break;
+p4 += 3;
+p5 += 4;
+}
+}
+}
+}
+}
+}
 l3:;
 j0 = v4;
 r = j0;
 return r;
-l2:;
+}
 fio2070_trap();
 return r;
 }
@@ -17401,13 +17505,12 @@ uint64_t j0;
 uint64_t j1;
 uint64_t j2;
 uint64_t j3;
-uint32_t r;
+uint32_t r = 0;
 i0 = rattle_enter(m);
 i0 = (i0 == 0);
-if (i0) { goto l2; }
+if (!i0) {
 fio2070_trap();
-fio2070_trap();
-l2:;
+}
 j0 = v0;
 j1 = v1;
 j2 = v2;
@@ -17435,7 +17538,7 @@ uint64_t j2;
 uint64_t j3;
 uint64_t j4;
 uint64_t j5;
-uint32_t r;
+uint32_t r = 0;
 uint8_t *p2;
 uint8_t *p3;
 j0 = m->g0;
@@ -17447,9 +17550,9 @@ j0 = v4;
 v4 = j0;
 j1 = UINT64_C(15);
 i0 = (SIGNED64(j0) > SIGNED64(j1));
-if (i0) { goto l2; }
+if (!i0) {
 fio2070_trap();
-l2:;
+}
 j0 = v4;
 j1 = UINT64_C(0);
 p2 = write_at(j0 + UINT64_C(8), m, 8u);
@@ -17522,16 +17625,14 @@ uint64_t j1;
 uint64_t j2;
 i0 = rattle_enter(m);
 i0 = (i0 == 0);
-if (i0) { goto l2; }
+if (!i0) {
 fio2070_trap();
-fio2070_trap();
-l2:;
+}
 j0 = v0;
 j1 = v1;
 j2 = v2;
 proved_content_sent(m, j0, j1, j2);
 rattle_leave(m);
-return;
 }
 static void proved_content_sent(struct machine *m, uint64_t v0, uint64_t v1, uint64_t v2)
 {
@@ -17547,9 +17648,9 @@ j0 = m->g0;
 v3 = j0;
 j1 = UINT64_C(15);
 i0 = (SIGNED64(j0) > SIGNED64(j1));
-if (i0) { goto l2; }
+if (!i0) {
 fio2070_trap();
-l2:;
+}
 j0 = v0;
 j1 = v1;
 j2 = UINT64_C(4096);
@@ -17562,7 +17663,6 @@ j2 = v2;
 fio_check_content_ContentChecker_sent(m, j0, j1, j2);
 j0 = v3;
 m->g0 = j0;
-return;
 }
 static void enter_content_start(struct machine *m, uint64_t v0)
 {
@@ -17570,14 +17670,12 @@ uint32_t i0;
 uint64_t j0;
 i0 = rattle_enter(m);
 i0 = (i0 == 0);
-if (i0) { goto l2; }
+if (!i0) {
 fio2070_trap();
-fio2070_trap();
-l2:;
+}
 j0 = v0;
 proved_content_start(m, j0);
 rattle_leave(m);
-return;
 }
 static void proved_content_start(struct machine *m, uint64_t v0)
 {
@@ -17590,9 +17688,9 @@ uint8_t *p1;
 j0 = m->g0;
 j1 = UINT64_C(15);
 i0 = (SIGNED64(j0) > SIGNED64(j1));
-if (i0) { goto l2; }
+if (!i0) {
 fio2070_trap();
-l2:;
+}
 j0 = v0;
 i1 = UINT32_C(0);
 j2 = UINT64_C(384);
@@ -17625,7 +17723,6 @@ store64(p1 + 8, j1);
 j0 = v0;
 j1 = UINT64_C(0);
 store64(p1 + 0, j1);
-return;
 }
 static void enter_content_start_begun(struct machine *m, uint64_t v0)
 {
@@ -17633,14 +17730,12 @@ uint32_t i0;
 uint64_t j0;
 i0 = rattle_enter(m);
 i0 = (i0 == 0);
-if (i0) { goto l2; }
+if (!i0) {
 fio2070_trap();
-fio2070_trap();
-l2:;
+}
 j0 = v0;
 proved_content_start_begun(m, j0);
 rattle_leave(m);
-return;
 }
 static void proved_content_start_begun(struct machine *m, uint64_t v0)
 {
@@ -17653,9 +17748,9 @@ uint8_t *p1;
 j0 = m->g0;
 j1 = UINT64_C(15);
 i0 = (SIGNED64(j0) > SIGNED64(j1));
-if (i0) { goto l2; }
+if (!i0) {
 fio2070_trap();
-l2:;
+}
 j0 = v0;
 j1 = UINT64_C(18446744073709551615);
 p1 = write_at(j0, m, 696u);
@@ -17744,7 +17839,6 @@ store16(p1 + 689, i1);
 j0 = v0;
 i1 = UINT32_C(0);
 store8(p1 + 695, i1);
-return;
 }
 static void enter_counter_ask_load(struct machine *m, uint64_t v0, uint32_t v1)
 {
@@ -17753,15 +17847,13 @@ uint32_t i1;
 uint64_t j0;
 i0 = rattle_enter(m);
 i0 = (i0 == 0);
-if (i0) { goto l2; }
+if (!i0) {
 fio2070_trap();
-fio2070_trap();
-l2:;
+}
 j0 = v0;
 i1 = v1;
 proved_counter_ask_load(m, j0, i1);
 rattle_leave(m);
-return;
 }
 static void proved_counter_ask_load(struct machine *m, uint64_t v0, uint32_t v1)
 {
@@ -17773,9 +17865,9 @@ uint8_t *p1;
 j0 = m->g0;
 j1 = UINT64_C(15);
 i0 = (SIGNED64(j0) > SIGNED64(j1));
-if (i0) { goto l2; }
+if (!i0) {
 fio2070_trap();
-l2:;
+}
 j0 = v0;
 j1 = UINT64_C(8);
 j0 = j0 + j1;
@@ -17787,7 +17879,6 @@ j1 = UINT64_C(4);
 j0 = j0 + j1;
 i1 = v1;
 store32(p1 + 0, i1);
-return;
 }
 static void enter_counter_line_sync(struct machine *m, uint64_t v0)
 {
@@ -17795,14 +17886,12 @@ uint32_t i0;
 uint64_t j0;
 i0 = rattle_enter(m);
 i0 = (i0 == 0);
-if (i0) { goto l2; }
+if (!i0) {
 fio2070_trap();
-fio2070_trap();
-l2:;
+}
 j0 = v0;
 proved_counter_line_sync(m, j0);
 rattle_leave(m);
-return;
 }
 static void proved_counter_line_sync(struct machine *m, uint64_t v0)
 {
@@ -17817,7 +17906,7 @@ uint8_t *p2;
 j0 = m->g0;
 j1 = UINT64_C(16);
 i0 = (SIGNED64(j0) < SIGNED64(j1));
-if (i0) { goto l2; }
+if (!i0) {
 j0 = v0;
 j1 = UINT64_C(8);
 j0 = j0 + j1;
@@ -17825,7 +17914,7 @@ v1 = j0;
 p1 = read_at(j0, m, 1u);
 i0 = load8(p1 + 0);
 i0 = (i0 == 0);
-if (i0) { goto l3; }
+if (!i0) {
 j0 = v1;
 i1 = UINT32_C(0);
 p2 = write_at(j0 + UINT64_C(18446744073709551608), m, 9u);
@@ -17836,24 +17925,22 @@ j2 = UINT64_C(4);
 j1 = j1 + j2;
 i1 = load32(p2 + 4);
 store32(p2 + 0, i1);
-l3:;
+}
 return;
-l2:;
+}
 fio2070_trap();
-return;
 }
 static uint32_t enter_counter_now(struct machine *m, uint64_t v0)
 {
 uint32_t v1 = 0;
 uint32_t i0;
 uint64_t j0;
-uint32_t r;
+uint32_t r = 0;
 i0 = rattle_enter(m);
 i0 = (i0 == 0);
-if (i0) { goto l2; }
+if (!i0) {
 fio2070_trap();
-fio2070_trap();
-l2:;
+}
 j0 = v0;
 i0 = proved_counter_now(m, j0);
 v1 = i0;
@@ -17867,14 +17954,14 @@ static uint32_t proved_counter_now(struct machine *m, uint64_t v0)
 uint32_t i0;
 uint64_t j0;
 uint64_t j1;
-uint32_t r;
+uint32_t r = 0;
 uint8_t *p1;
 j0 = m->g0;
 j1 = UINT64_C(15);
 i0 = (SIGNED64(j0) > SIGNED64(j1));
-if (i0) { goto l2; }
+if (!i0) {
 fio2070_trap();
-l2:;
+}
 j0 = v0;
 p1 = read_at(j0, m, 4u);
 i0 = load32(p1 + 0);
@@ -17887,14 +17974,12 @@ uint32_t i0;
 uint64_t j0;
 i0 = rattle_enter(m);
 i0 = (i0 == 0);
-if (i0) { goto l2; }
+if (!i0) {
 fio2070_trap();
-fio2070_trap();
-l2:;
+}
 j0 = v0;
 proved_counter_start(m, j0);
 rattle_leave(m);
-return;
 }
 static void proved_counter_start(struct machine *m, uint64_t v0)
 {
@@ -17906,9 +17991,9 @@ uint8_t *p1;
 j0 = m->g0;
 j1 = UINT64_C(15);
 i0 = (SIGNED64(j0) > SIGNED64(j1));
-if (i0) { goto l2; }
+if (!i0) {
 fio2070_trap();
-l2:;
+}
 j0 = v0;
 i1 = UINT32_C(0);
 p1 = write_at(j0, m, 12u);
@@ -17916,7 +18001,6 @@ store32(p1 + 8, i1);
 j0 = v0;
 j1 = UINT64_C(0);
 store64(p1 + 0, j1);
-return;
 }
 static void enter_counter_tick(struct machine *m, uint64_t v0)
 {
@@ -17924,14 +18008,12 @@ uint32_t i0;
 uint64_t j0;
 i0 = rattle_enter(m);
 i0 = (i0 == 0);
-if (i0) { goto l2; }
+if (!i0) {
 fio2070_trap();
-fio2070_trap();
-l2:;
+}
 j0 = v0;
 proved_counter_tick(m, j0);
 rattle_leave(m);
-return;
 }
 static void proved_counter_tick(struct machine *m, uint64_t v0)
 {
@@ -17944,9 +18026,9 @@ uint8_t *p1;
 j0 = m->g0;
 j1 = UINT64_C(15);
 i0 = (SIGNED64(j0) > SIGNED64(j1));
-if (i0) { goto l2; }
+if (!i0) {
 fio2070_trap();
-l2:;
+}
 j0 = v0;
 j1 = v0;
 p1 = write_at(j1, m, 4u);
@@ -17954,19 +18036,17 @@ i1 = load32(p1 + 0);
 i2 = UINT32_C(1);
 i1 = i1 + i2;
 store32(p1 + 0, i1);
-return;
 }
 static uint64_t enter_filters_filtered(struct machine *m, uint64_t v0)
 {
 uint32_t i0;
 uint64_t j0;
-uint64_t r;
+uint64_t r = 0;
 i0 = rattle_enter(m);
 i0 = (i0 == 0);
-if (i0) { goto l2; }
+if (!i0) {
 fio2070_trap();
-fio2070_trap();
-l2:;
+}
 j0 = v0;
 j0 = proved_filters_filtered(m, j0);
 v0 = j0;
@@ -17980,14 +18060,14 @@ static uint64_t proved_filters_filtered(struct machine *m, uint64_t v0)
 uint32_t i0;
 uint64_t j0;
 uint64_t j1;
-uint64_t r;
+uint64_t r = 0;
 uint8_t *p1;
 j0 = m->g0;
 j1 = UINT64_C(15);
 i0 = (SIGNED64(j0) > SIGNED64(j1));
-if (i0) { goto l2; }
+if (!i0) {
 fio2070_trap();
-l2:;
+}
 j0 = v0;
 j1 = UINT64_C(200);
 j0 = j0 + j1;
@@ -18000,13 +18080,12 @@ static uint64_t enter_filters_raw(struct machine *m, uint64_t v0)
 {
 uint32_t i0;
 uint64_t j0;
-uint64_t r;
+uint64_t r = 0;
 i0 = rattle_enter(m);
 i0 = (i0 == 0);
-if (i0) { goto l2; }
+if (!i0) {
 fio2070_trap();
-fio2070_trap();
-l2:;
+}
 j0 = v0;
 j0 = proved_filters_raw(m, j0);
 v0 = j0;
@@ -18020,14 +18099,14 @@ static uint64_t proved_filters_raw(struct machine *m, uint64_t v0)
 uint32_t i0;
 uint64_t j0;
 uint64_t j1;
-uint64_t r;
+uint64_t r = 0;
 uint8_t *p1;
 j0 = m->g0;
 j1 = UINT64_C(15);
 i0 = (SIGNED64(j0) > SIGNED64(j1));
-if (i0) { goto l2; }
+if (!i0) {
 fio2070_trap();
-l2:;
+}
 j0 = v0;
 j1 = UINT64_C(208);
 j0 = j0 + j1;
@@ -18041,13 +18120,12 @@ static uint64_t enter_filters_scan(struct machine *m, uint64_t v0, uint64_t v1)
 uint32_t i0;
 uint64_t j0;
 uint64_t j1;
-uint64_t r;
+uint64_t r = 0;
 i0 = rattle_enter(m);
 i0 = (i0 == 0);
-if (i0) { goto l2; }
+if (!i0) {
 fio2070_trap();
-fio2070_trap();
-l2:;
+}
 j0 = v0;
 j1 = v1;
 j0 = proved_filters_scan(m, j0, j1);
@@ -18073,14 +18151,14 @@ uint64_t j4;
 uint64_t j5;
 uint64_t j6;
 uint64_t j7;
-uint64_t r;
+uint64_t r = 0;
 uint8_t *p1;
 uint8_t *p2;
 j0 = m->g0;
 v2 = j0;
 j1 = UINT64_C(16);
 i0 = (SIGNED64(j0) < SIGNED64(j1));
-if (i0) { goto l2; }
+if (!i0) {
 j0 = v0;
 j1 = UINT64_C(208);
 j0 = j0 + j1;
@@ -18101,7 +18179,7 @@ v5 = j1;
 j1 = load64(p1 + 0);
 v6 = j1;
 i0 = (j0 == j1);
-if (i0) { goto l3; }
+if (!i0) {
 j0 = v5;
 j1 = v1;
 j2 = v6;
@@ -18132,13 +18210,13 @@ j2 = UINT64_C(18446744073709551615);
 j1 = j1 ^ j2;
 j0 = j0 & j1;
 v3 = j0;
-l3:;
+}
 j0 = v2;
 m->g0 = j0;
 j0 = v3;
 r = j0;
 return r;
-l2:;
+}
 fio2070_trap();
 return r;
 }
@@ -18148,14 +18226,12 @@ uint32_t i0;
 uint64_t j0;
 i0 = rattle_enter(m);
 i0 = (i0 == 0);
-if (i0) { goto l2; }
+if (!i0) {
 fio2070_trap();
-fio2070_trap();
-l2:;
+}
 j0 = v0;
 proved_filters_start(m, j0);
 rattle_leave(m);
-return;
 }
 static void proved_filters_start(struct machine *m, uint64_t v0)
 {
@@ -18175,9 +18251,9 @@ j0 = v1;
 v1 = j0;
 j1 = UINT64_C(15);
 i0 = (SIGNED64(j0) > SIGNED64(j1));
-if (i0) { goto l2; }
+if (!i0) {
 fio2070_trap();
-l2:;
+}
 j0 = v1;
 j1 = UINT64_C(0);
 p2 = write_at(j0 + UINT64_C(200), m, 88u);
@@ -18236,7 +18312,6 @@ j0 = v1;
 j1 = UINT64_C(416);
 j0 = j0 + j1;
 m->g0 = j0;
-return;
 }
 static void enter_poller_start(struct machine *m, uint64_t v0, uint32_t v1)
 {
@@ -18245,15 +18320,13 @@ uint32_t i1;
 uint64_t j0;
 i0 = rattle_enter(m);
 i0 = (i0 == 0);
-if (i0) { goto l2; }
+if (!i0) {
 fio2070_trap();
-fio2070_trap();
-l2:;
+}
 j0 = v0;
 i1 = v1;
 proved_poller_start(m, j0, i1);
 rattle_leave(m);
-return;
 }
 static void proved_poller_start(struct machine *m, uint64_t v0, uint32_t v1)
 {
@@ -18265,14 +18338,13 @@ uint8_t *p1;
 j0 = m->g0;
 j1 = UINT64_C(15);
 i0 = (SIGNED64(j0) > SIGNED64(j1));
-if (i0) { goto l2; }
+if (!i0) {
 fio2070_trap();
-l2:;
+}
 j0 = v0;
 i1 = v1;
 p1 = write_at(j0, m, 1u);
 store8(p1 + 0, i1);
-return;
 }
 static void enter_read_identification(struct machine *m, uint64_t v0, uint64_t v1, uint64_t v2, uint64_t v3)
 {
@@ -18283,17 +18355,15 @@ uint64_t j2;
 uint64_t j3;
 i0 = rattle_enter(m);
 i0 = (i0 == 0);
-if (i0) { goto l2; }
+if (!i0) {
 fio2070_trap();
-fio2070_trap();
-l2:;
+}
 j0 = v0;
 j1 = v1;
 j2 = v2;
 j3 = v3;
 proved_read_identification(m, j0, j1, j2, j3);
 rattle_leave(m);
-return;
 }
 static void proved_read_identification(struct machine *m, uint64_t v0, uint64_t v1, uint64_t v2, uint64_t v3)
 {
@@ -18315,13 +18385,13 @@ uint8_t *p4;
 j0 = m->g0;
 j1 = UINT64_C(16);
 i0 = (SIGNED64(j0) < SIGNED64(j1));
-if (i0) { goto l4; }
+if (!i0) {
 j0 = UINT64_C(0);
 v4 = j0;
 j0 = v2;
 i0 = (j0 == 0);
 i0 = (i0 == 0);
-if (i0) { goto l5; }
+if (!i0) {
 i0 = UINT32_C(1);
 v5 = i0;
 i0 = UINT32_C(0);
@@ -18329,13 +18399,13 @@ v6 = i0;
 i0 = UINT32_C(0);
 v7 = i0;
 goto l2;
-l5:;
+}
 i0 = UINT32_C(0);
 v7 = i0;
 j0 = v2;
 j1 = UINT64_C(773);
 i0 = (j0 <= j1);
-if (i0) { goto l6; }
+if (!i0) {
 i0 = UINT32_C(2);
 v5 = i0;
 i0 = UINT32_C(0);
@@ -18343,7 +18413,7 @@ v6 = i0;
 j0 = v2;
 v4 = j0;
 goto l2;
-l6:;
+}
 j0 = v1;
 j1 = UINT64_C(4096);
 j2 = UINT64_C(0);
@@ -18357,11 +18427,11 @@ i0 = load8(p1 + 0);
 v6 = i0;
 i1 = UINT32_C(188);
 i0 = (i0 == i1);
-if (i0) { goto l7; }
+if (!i0) {
 i0 = UINT32_C(3);
 v5 = i0;
 goto l2;
-l7:;
+}
 j0 = v2;
 j1 = UINT64_C(2);
 i0 = (j0 == j1);
@@ -18375,7 +18445,7 @@ v5 = i0;
 j0 = v2;
 v4 = j0;
 goto l2;
-l4:;
+}
 fio2070_trap();
 l3:;
 j0 = v3;
@@ -18409,7 +18479,6 @@ store8(p4 + 1, i1);
 j0 = v0;
 i1 = v5;
 store8(p4 + 0, i1);
-return;
 }
 static void enter_read_outputs_answer(struct machine *m, uint64_t v0, uint64_t v1, uint64_t v2, uint64_t v3)
 {
@@ -18420,17 +18489,15 @@ uint64_t j2;
 uint64_t j3;
 i0 = rattle_enter(m);
 i0 = (i0 == 0);
-if (i0) { goto l2; }
+if (!i0) {
 fio2070_trap();
-fio2070_trap();
-l2:;
+}
 j0 = v0;
 j1 = v1;
 j2 = v2;
 j3 = v3;
 proved_read_outputs_answer(m, j0, j1, j2, j3);
 rattle_leave(m);
-return;
 }
 static void proved_read_outputs_answer(struct machine *m, uint64_t v0, uint64_t v1, uint64_t v2, uint64_t v3)
 {
@@ -18453,13 +18520,13 @@ uint8_t *p4;
 j0 = m->g0;
 j1 = UINT64_C(16);
 i0 = (SIGNED64(j0) < SIGNED64(j1));
-if (i0) { goto l4; }
+if (!i0) {
 j0 = UINT64_C(0);
 v4 = j0;
 j0 = v2;
 i0 = (j0 == 0);
 i0 = (i0 == 0);
-if (i0) { goto l5; }
+if (!i0) {
 i0 = UINT32_C(1);
 v5 = i0;
 i0 = UINT32_C(0);
@@ -18467,13 +18534,13 @@ v6 = i0;
 i0 = UINT32_C(0);
 v7 = i0;
 goto l2;
-l5:;
+}
 i0 = UINT32_C(0);
 v7 = i0;
 j0 = v2;
 j1 = UINT64_C(773);
 i0 = (j0 <= j1);
-if (i0) { goto l6; }
+if (!i0) {
 i0 = UINT32_C(2);
 v5 = i0;
 i0 = UINT32_C(0);
@@ -18481,7 +18548,7 @@ v6 = i0;
 j0 = v2;
 v4 = j0;
 goto l2;
-l6:;
+}
 j0 = v1;
 j1 = UINT64_C(4096);
 j2 = UINT64_C(0);
@@ -18495,11 +18562,11 @@ i0 = load8(p1 + 0);
 v6 = i0;
 i1 = UINT32_C(183);
 i0 = (i0 == i1);
-if (i0) { goto l7; }
+if (!i0) {
 i0 = UINT32_C(3);
 v5 = i0;
 goto l2;
-l7:;
+}
 j0 = v2;
 j1 = UINT64_C(6);
 i0 = (j0 == j1);
@@ -18513,7 +18580,7 @@ v5 = i0;
 j0 = v2;
 v4 = j0;
 goto l2;
-l4:;
+}
 fio2070_trap();
 l3:;
 j0 = v3;
@@ -18558,7 +18625,6 @@ store8(p4 + 1, i1);
 j0 = v0;
 i1 = v5;
 store8(p4 + 0, i1);
-return;
 }
 static void enter_sized_module_count_receive_error(struct machine *m, uint64_t v0)
 {
@@ -18566,14 +18632,12 @@ uint32_t i0;
 uint64_t j0;
 i0 = rattle_enter(m);
 i0 = (i0 == 0);
-if (i0) { goto l2; }
+if (!i0) {
 fio2070_trap();
-fio2070_trap();
-l2:;
+}
 j0 = v0;
 proved_sized_module_count_receive_error(m, j0);
 rattle_leave(m);
-return;
 }
 static void proved_sized_module_count_receive_error(struct machine *m, uint64_t v0)
 {
@@ -18589,9 +18653,9 @@ uint8_t *p1;
 j0 = m->g0;
 j1 = UINT64_C(15);
 i0 = (SIGNED64(j0) > SIGNED64(j1));
-if (i0) { goto l2; }
+if (!i0) {
 fio2070_trap();
-l2:;
+}
 j0 = v0;
 j1 = UINT64_C(1036);
 j0 = j0 + j1;
@@ -18608,7 +18672,6 @@ i4 = UINT32_C(255);
 i3 = (i3 < i4);
 i1 = i3 ? i1 : i2;
 store8(p1 + 0, i1);
-return;
 }
 static void enter_sized_module_count_transmit_error(struct machine *m, uint64_t v0)
 {
@@ -18616,14 +18679,12 @@ uint32_t i0;
 uint64_t j0;
 i0 = rattle_enter(m);
 i0 = (i0 == 0);
-if (i0) { goto l2; }
+if (!i0) {
 fio2070_trap();
-fio2070_trap();
-l2:;
+}
 j0 = v0;
 proved_sized_module_count_transmit_error(m, j0);
 rattle_leave(m);
-return;
 }
 static void proved_sized_module_count_transmit_error(struct machine *m, uint64_t v0)
 {
@@ -18639,9 +18700,9 @@ uint8_t *p1;
 j0 = m->g0;
 j1 = UINT64_C(15);
 i0 = (SIGNED64(j0) > SIGNED64(j1));
-if (i0) { goto l2; }
+if (!i0) {
 fio2070_trap();
-l2:;
+}
 j0 = v0;
 j1 = UINT64_C(1037);
 j0 = j0 + j1;
@@ -18658,7 +18719,6 @@ i4 = UINT32_C(255);
 i3 = (i3 < i4);
 i1 = i3 ? i1 : i2;
 store8(p1 + 0, i1);
-return;
 }
 static void enter_sized_module_line_sync(struct machine *m, uint64_t v0)
 {
@@ -18666,14 +18726,12 @@ uint32_t i0;
 uint64_t j0;
 i0 = rattle_enter(m);
 i0 = (i0 == 0);
-if (i0) { goto l2; }
+if (!i0) {
 fio2070_trap();
-fio2070_trap();
-l2:;
+}
 j0 = v0;
 proved_sized_module_line_sync(m, j0);
 rattle_leave(m);
-return;
 }
 static void proved_sized_module_line_sync(struct machine *m, uint64_t v0)
 {
@@ -18688,7 +18746,7 @@ uint8_t *p2;
 j0 = m->g0;
 j1 = UINT64_C(16);
 i0 = (SIGNED64(j0) < SIGNED64(j1));
-if (i0) { goto l2; }
+if (!i0) {
 j0 = v0;
 j1 = UINT64_C(20);
 j0 = j0 + j1;
@@ -18696,7 +18754,7 @@ v1 = j0;
 p1 = read_at(j0, m, 1u);
 i0 = load8(p1 + 0);
 i0 = (i0 == 0);
-if (i0) { goto l3; }
+if (!i0) {
 j0 = v1;
 i1 = UINT32_C(0);
 p2 = write_at(j0 + UINT64_C(18446744073709551608), m, 9u);
@@ -18709,11 +18767,256 @@ j2 = UINT64_C(16);
 j1 = j1 + j2;
 i1 = load32(p2 + 4);
 store32(p2 + 0, i1);
-l3:;
+}
 return;
-l2:;
+}
 fio2070_trap();
-return;
+}
+static uint32_t enter_sized_module_makers_command(struct machine *m, uint64_t v0, uint64_t v1, uint64_t v2)
+{
+uint32_t v3 = 0;
+uint32_t i0;
+uint64_t j0;
+uint64_t j1;
+uint64_t j2;
+uint32_t r = 0;
+i0 = rattle_enter(m);
+i0 = (i0 == 0);
+if (!i0) {
+fio2070_trap();
+}
+j0 = v0;
+j1 = v1;
+j2 = v2;
+i0 = proved_sized_module_makers_command(m, j0, j1, j2);
+v3 = i0;
+rattle_leave(m);
+i0 = v3;
+r = i0;
+return r;
+}
+static uint32_t proved_sized_module_makers_command(struct machine *m, uint64_t v0, uint64_t v1, uint64_t v2)
+{
+uint32_t v3 = 0;
+uint32_t v4 = 0;
+uint64_t v5 = 0;
+uint32_t v6 = 0;
+uint32_t i0;
+uint32_t i1;
+uint32_t i3;
+uint64_t j0;
+uint64_t j1;
+uint64_t j2;
+uint64_t j3;
+uint32_t r = 0;
+uint8_t *p1;
+uint8_t *p2;
+uint8_t *p3;
+j0 = m->g0;
+j1 = UINT64_C(16);
+i0 = (SIGNED64(j0) < SIGNED64(j1));
+if (!i0) {
+i0 = UINT32_C(0);
+v3 = i0;
+j0 = v2;
+i0 = (j0 == 0);
+i0 = (i0 == 0);
+if (!i0) {
+i0 = UINT32_C(0);
+v4 = i0;
+goto l2;
+}
+j0 = UINT64_C(2);
+v5 = j0;
+i0 = UINT32_C(1);
+v4 = i0;
+j0 = v1;
+j1 = UINT64_C(4096);
+j2 = UINT64_C(0);
+j3 = v1;
+i3 = (j3 == 0);
+j1 = i3 ? j1 : j2;
+j0 = j0 + j1;
+v1 = j0;
+p1 = read_at(j0, m, 1u);
+i0 = load8(p1 + 0);
+v6 = i0;
+i1 = UINT32_C(4294967247);
+i0 = i0 + i1;
+switch (i0) {
+case 0:
+goto l7;
+case 1:
+goto l14;
+case 2:
+goto l13;
+case 3:
+goto l11;
+case 4:
+goto l11;
+case 5:
+goto l7;
+case 6:
+goto l12;
+case 7:
+goto l11;
+case 8:
+goto l11;
+case 9:
+goto l7;
+case 10:
+goto l10;
+case 11:
+goto l9;
+default:
+goto l11;
+}
+l14:;
+j0 = UINT64_C(5);
+v5 = j0;
+goto l8;
+l13:;
+j0 = v2;
+j1 = UINT64_C(1);
+i0 = (j0 != j1);
+if (!i0) {
+j0 = UINT64_C(0);
+v1 = j0;
+j0 = UINT64_C(2);
+v5 = j0;
+goto l6;
+}
+j0 = v1;
+j1 = UINT64_C(1);
+j0 = j0 + j1;
+p2 = read_at(j0, m, 1u);
+j0 = load8(p2 + 0);
+j1 = UINT64_C(3);
+j0 = j0 * j1;
+j1 = UINT64_C(2);
+j0 = j0 + j1;
+v5 = j0;
+goto l8;
+l12:;
+j0 = UINT64_C(17);
+v5 = j0;
+goto l8;
+l11:;
+i0 = UINT32_C(0);
+v4 = i0;
+j0 = UINT64_C(0);
+v5 = j0;
+i0 = v6;
+i1 = UINT32_C(49);
+i0 = (i0 < i1);
+if (i0) { goto l7; }
+i0 = v6;
+i1 = UINT32_C(54);
+i0 = (i0 < i1);
+if (i0) { goto l9; }
+i0 = v6;
+i1 = UINT32_C(57);
+i0 = (i0 > i1);
+if (i0) { goto l7; }
+l10:;
+j0 = v2;
+v5 = j0;
+goto l8;
+l9:;
+j0 = UINT64_C(1);
+v5 = j0;
+l8:;
+i0 = UINT32_C(1);
+v4 = i0;
+l7:;
+j0 = v2;
+j1 = UINT64_C(773);
+i0 = (j0 <= j1);
+if (!i0) {
+i0 = UINT32_C(0);
+v4 = i0;
+goto l2;
+}
+i0 = v4;
+if (!i0) {
+i0 = UINT32_C(0);
+v4 = i0;
+goto l2;
+}
+j0 = v2;
+j1 = UINT64_C(18446744073709551615);
+j0 = j0 + j1;
+v1 = j0;
+l6:;
+j0 = v5;
+j1 = v2;
+i0 = (j0 == j1);
+if (!i0) {
+i0 = UINT32_C(0);
+v4 = i0;
+goto l2;
+}
+i0 = v6;
+i1 = UINT32_C(60);
+i0 = (i0 > i1);
+if (!i0) {
+j0 = UINT64_C(1);
+i1 = v6;
+j1 = (uint64_t)i1;
+v5 = j1;
+j0 = j0 << (j1 & 63);
+v2 = j0;
+j1 = UINT64_C(323696223217254400);
+j0 = j0 & j1;
+j1 = UINT64_C(0);
+i0 = (j0 == j1);
+if (!i0) {
+i0 = UINT32_C(0);
+v4 = i0;
+goto l2;
+}
+j0 = v2;
+j1 = UINT64_C(1945555039024054272);
+j0 = j0 & j1;
+j1 = UINT64_C(0);
+i0 = (j0 != j1);
+if (i0) { goto l3; }
+j0 = v5;
+j1 = UINT64_C(55);
+i0 = (j0 != j1);
+if (!i0) {
+j0 = v1;
+j1 = UINT64_C(7);
+i0 = (j0 <= j1);
+if (!i0) {
+i0 = UINT32_C(0);
+v4 = i0;
+j0 = v1;
+j1 = UINT64_C(15);
+i0 = (j0 > j1);
+if (i0) { goto l2; }
+}
+}
+}
+}
+fio2070_trap();
+l3:;
+i0 = v6;
+i1 = UINT32_C(4294967168);
+i0 = i0 ^ i1;
+v4 = i0;
+i0 = v6;
+v3 = i0;
+l2:;
+j0 = v0;
+j1 = UINT64_C(5);
+j0 = j0 + j1;
+i1 = v4;
+p3 = write_at(j0, m, 1u);
+store8(p3 + 0, i1);
+i0 = v3;
+r = i0;
+return r;
 }
 static void enter_sized_module_raise(struct machine *m, uint64_t v0, uint32_t v1)
 {
@@ -18722,15 +19025,13 @@ uint32_t i1;
 uint64_t j0;
 i0 = rattle_enter(m);
 i0 = (i0 == 0);
-if (i0) { goto l2; }
+if (!i0) {
 fio2070_trap();
-fio2070_trap();
-l2:;
+}
 j0 = v0;
 i1 = v1;
 proved_sized_module_raise(m, j0, i1);
 rattle_leave(m);
-return;
 }
 static void proved_sized_module_raise(struct machine *m, uint64_t v0, uint32_t v1)
 {
@@ -18743,9 +19044,9 @@ uint8_t *p1;
 j0 = m->g0;
 j1 = UINT64_C(15);
 i0 = (SIGNED64(j0) > SIGNED64(j1));
-if (i0) { goto l2; }
+if (!i0) {
 fio2070_trap();
-l2:;
+}
 j0 = v0;
 j1 = UINT64_C(2);
 j0 = j0 + j1;
@@ -18756,7 +19057,6 @@ i1 = load8(p1 + 0);
 i2 = v1;
 i1 = i1 | i2;
 store8(p1 + 0, i1);
-return;
 }
 static void enter_sized_module_restart(struct machine *m, uint64_t v0)
 {
@@ -18764,14 +19064,12 @@ uint32_t i0;
 uint64_t j0;
 i0 = rattle_enter(m);
 i0 = (i0 == 0);
-if (i0) { goto l2; }
+if (!i0) {
 fio2070_trap();
-fio2070_trap();
-l2:;
+}
 j0 = v0;
 proved_sized_module_restart(m, j0);
 rattle_leave(m);
-return;
 }
 static void proved_sized_module_restart(struct machine *m, uint64_t v0)
 {
@@ -18792,9 +19090,9 @@ j0 = v1;
 v1 = j0;
 j1 = UINT64_C(15);
 i0 = (SIGNED64(j0) > SIGNED64(j1));
-if (i0) { goto l2; }
+if (!i0) {
 fio2070_trap();
-l2:;
+}
 j0 = v0;
 j1 = UINT64_C(20);
 j0 = j0 + j1;
@@ -18868,15 +19166,10 @@ j0 = j0 + j1;
 j1 = UINT64_C(0);
 store64(p2 + 22, j1);
 j0 = v0;
-j1 = UINT64_C(4);
-j0 = j0 + j1;
-i1 = UINT32_C(0);
-store8(p2 + 2, i1);
-j0 = v0;
 j1 = UINT64_C(2);
 j0 = j0 + j1;
 i1 = UINT32_C(128);
-store16(p2 + 0, i1);
+store32(p2 + 0, i1);
 j0 = v0;
 j1 = UINT64_C(32);
 j0 = j0 + j1;
@@ -18902,7 +19195,6 @@ j0 = v1;
 j1 = UINT64_C(416);
 j0 = j0 + j1;
 m->g0 = j0;
-return;
 }
 static void enter_sized_module_set_errors(struct machine *m, uint64_t v0, uint32_t v1, uint32_t v2)
 {
@@ -18912,16 +19204,14 @@ uint32_t i2;
 uint64_t j0;
 i0 = rattle_enter(m);
 i0 = (i0 == 0);
-if (i0) { goto l2; }
+if (!i0) {
 fio2070_trap();
-fio2070_trap();
-l2:;
+}
 j0 = v0;
 i1 = v1;
 i2 = v2;
 proved_sized_module_set_errors(m, j0, i1, i2);
 rattle_leave(m);
-return;
 }
 static void proved_sized_module_set_errors(struct machine *m, uint64_t v0, uint32_t v1, uint32_t v2)
 {
@@ -18933,9 +19223,9 @@ uint8_t *p1;
 j0 = m->g0;
 j1 = UINT64_C(15);
 i0 = (SIGNED64(j0) > SIGNED64(j1));
-if (i0) { goto l2; }
+if (!i0) {
 fio2070_trap();
-l2:;
+}
 j0 = v0;
 j1 = UINT64_C(1037);
 j0 = j0 + j1;
@@ -18947,7 +19237,6 @@ j1 = UINT64_C(1036);
 j0 = j0 + j1;
 i1 = v1;
 store8(p1 + 0, i1);
-return;
 }
 static uint32_t enter_sized_module_start(struct machine *m, uint64_t v0, uint32_t v1, uint64_t v2)
 {
@@ -18959,14 +19248,13 @@ uint64_t j0;
 uint64_t j2;
 uint64_t j3;
 uint64_t j4;
-uint32_t r;
+uint32_t r = 0;
 uint8_t *p1;
 i0 = rattle_enter(m);
 i0 = (i0 == 0);
-if (i0) { goto l2; }
+if (!i0) {
 fio2070_trap();
-fio2070_trap();
-l2:;
+}
 j0 = v0;
 i1 = v1;
 j2 = v2;
@@ -18992,7 +19280,7 @@ uint32_t i1;
 uint64_t j0;
 uint64_t j1;
 uint64_t j2;
-uint32_t r;
+uint32_t r = 0;
 uint8_t *p1;
 uint8_t *p2;
 j0 = m->g0;
@@ -19005,7 +19293,7 @@ j0 = v4;
 v4 = j0;
 j1 = UINT64_C(16);
 i0 = (SIGNED64(j0) < SIGNED64(j1));
-if (i0) { goto l2; }
+if (!i0) {
 i0 = UINT32_C(1);
 v5 = i0;
 i0 = v2;
@@ -19015,12 +19303,12 @@ i1 = UINT32_C(65535);
 i0 = i0 & i1;
 i1 = UINT32_C(57344);
 i0 = (i0 < i1);
-if (i0) { goto l3; }
+if (!i0) {
 i0 = v3;
 i1 = UINT32_C(255);
 i0 = i0 & i1;
 i0 = (i0 == 0);
-if (i0) { goto l3; }
+if (!i0) {
 j0 = v4;
 j1 = UINT64_C(0);
 store64(p1 + 280, j1);
@@ -19118,7 +19406,8 @@ store16(p2 + 1038, i1);
 j0 = v0;
 j1 = UINT64_C(0);
 store64(p2 + 1048, j1);
-l3:;
+}
+}
 j0 = v4;
 j1 = UINT64_C(416);
 j0 = j0 + j1;
@@ -19126,7 +19415,7 @@ m->g0 = j0;
 i0 = v5;
 r = i0;
 return r;
-l2:;
+}
 fio2070_trap();
 return r;
 }
@@ -19137,15 +19426,13 @@ uint64_t j0;
 uint64_t j1;
 i0 = rattle_enter(m);
 i0 = (i0 == 0);
-if (i0) { goto l2; }
+if (!i0) {
 fio2070_trap();
-fio2070_trap();
-l2:;
+}
 j0 = v0;
 j1 = v1;
 proved_sized_module_state(m, j0, j1);
 rattle_leave(m);
-return;
 }
 static void proved_sized_module_state(struct machine *m, uint64_t v0, uint64_t v1)
 {
@@ -19172,9 +19459,9 @@ j1 = UINT64_C(16);
 j0 = j0 - j1;
 j1 = UINT64_C(15);
 i0 = (SIGNED64(j0) > SIGNED64(j1));
-if (i0) { goto l2; }
+if (!i0) {
 fio2070_trap();
-l2:;
+}
 j0 = v1;
 j1 = UINT64_C(1038);
 j0 = j0 + j1;
@@ -19255,18 +19542,16 @@ i4 = v3;
 i3 = (i3 < i4);
 i1 = i3 ? i1 : i2;
 store16(p3 + 36, i1);
-return;
 }
 static uint32_t enter_version(struct machine *m)
 {
 uint32_t i0;
-uint32_t r;
+uint32_t r = 0;
 i0 = rattle_enter(m);
 i0 = (i0 == 0);
-if (i0) { goto l2; }
+if (!i0) {
 fio2070_trap();
-fio2070_trap();
-l2:;
+}
 proved_version(m);
 rattle_leave(m);
 i0 = UINT32_C(10000);
@@ -19281,22 +19566,20 @@ uint64_t j1;
 j0 = m->g0;
 j1 = UINT64_C(15);
 i0 = (SIGNED64(j0) > SIGNED64(j1));
-if (i0) { goto l2; }
+if (!i0) {
 fio2070_trap();
-l2:;
-return;
+}
 }
 static uint32_t enter_widen(struct machine *m, uint32_t v0, uint32_t v1)
 {
 uint32_t i0;
 uint32_t i1;
-uint32_t r;
+uint32_t r = 0;
 i0 = rattle_enter(m);
 i0 = (i0 == 0);
-if (i0) { goto l2; }
+if (!i0) {
 fio2070_trap();
-fio2070_trap();
-l2:;
+}
 i0 = v0;
 i1 = v1;
 i0 = proved_widen(m, i0, i1);
@@ -19313,13 +19596,13 @@ uint32_t i1;
 uint32_t i2;
 uint64_t j0;
 uint64_t j1;
-uint32_t r;
+uint32_t r = 0;
 j0 = m->g0;
 j1 = UINT64_C(15);
 i0 = (SIGNED64(j0) > SIGNED64(j1));
-if (i0) { goto l2; }
+if (!i0) {
 fio2070_trap();
-l2:;
+}
 i0 = v0;
 i1 = v0;
 i2 = v1;
@@ -19334,13 +19617,12 @@ static uint64_t enter_wire_bits_message_length(struct machine *m, uint64_t v0)
 {
 uint32_t i0;
 uint64_t j0;
-uint64_t r;
+uint64_t r = 0;
 i0 = rattle_enter(m);
 i0 = (i0 == 0);
-if (i0) { goto l2; }
+if (!i0) {
 fio2070_trap();
-fio2070_trap();
-l2:;
+}
 j0 = v0;
 j0 = proved_wire_bits_message_length(m, j0);
 v0 = j0;
@@ -19362,13 +19644,13 @@ uint64_t j0;
 uint64_t j1;
 uint64_t j2;
 uint64_t j3;
-uint64_t r;
+uint64_t r = 0;
 uint8_t *p1;
 uint8_t *p2;
 j0 = m->g0;
 j1 = UINT64_C(16);
 i0 = (SIGNED64(j0) < SIGNED64(j1));
-if (i0) { goto l2; }
+if (!i0) {
 j0 = UINT64_C(0);
 v1 = j0;
 j0 = v0;
@@ -19378,7 +19660,7 @@ p1 = read_at(j0, m, 1u);
 i0 = load8(p1 + 0);
 i1 = UINT32_C(3);
 i0 = (i0 < i1);
-if (i0) { goto l3; }
+if (!i0) {
 j0 = UINT64_C(0);
 j1 = v0;
 j2 = UINT64_C(784);
@@ -19401,11 +19683,11 @@ j3 = v0;
 i2 = (j2 > j3);
 j0 = i2 ? j0 : j1;
 v1 = j0;
-l3:;
+}
 j0 = v1;
 r = j0;
 return r;
-l2:;
+}
 fio2070_trap();
 return r;
 }
@@ -19417,16 +19699,14 @@ uint32_t i2;
 uint64_t j0;
 i0 = rattle_enter(m);
 i0 = (i0 == 0);
-if (i0) { goto l2; }
+if (!i0) {
 fio2070_trap();
-fio2070_trap();
-l2:;
+}
 j0 = v0;
 i1 = v1;
 i2 = v2;
 proved_wire_bits_start(m, j0, i1, i2);
 rattle_leave(m);
-return;
 }
 static void proved_wire_bits_start(struct machine *m, uint64_t v0, uint32_t v1, uint32_t v2)
 {
@@ -19439,9 +19719,9 @@ uint8_t *p1;
 j0 = m->g0;
 j1 = UINT64_C(15);
 i0 = (SIGNED64(j0) > SIGNED64(j1));
-if (i0) { goto l2; }
+if (!i0) {
 fio2070_trap();
-l2:;
+}
 j0 = v0;
 i1 = UINT32_C(0);
 j2 = UINT64_C(778);
@@ -19465,7 +19745,6 @@ store16(p1 + 10, i1);
 j0 = v0;
 i1 = UINT32_C(65535);
 store16(p1 + 8, i1);
-return;
 }
 static uint32_t enter_wire_check(struct machine *m, uint64_t v0, uint64_t v1)
 {
@@ -19473,13 +19752,12 @@ uint32_t v2 = 0;
 uint32_t i0;
 uint64_t j0;
 uint64_t j1;
-uint32_t r;
+uint32_t r = 0;
 i0 = rattle_enter(m);
 i0 = (i0 == 0);
-if (i0) { goto l2; }
+if (!i0) {
 fio2070_trap();
-fio2070_trap();
-l2:;
+}
 j0 = v0;
 j1 = v1;
 i0 = proved_wire_check(m, j0, j1);
@@ -19501,20 +19779,20 @@ uint64_t j0;
 uint64_t j1;
 uint64_t j2;
 uint64_t j3;
-uint32_t r;
+uint32_t r = 0;
 uint8_t *p1;
 j0 = m->g0;
 j1 = UINT64_C(16);
 i0 = (SIGNED64(j0) < SIGNED64(j1));
-if (i0) { goto l2; }
+if (!i0) {
 j0 = v1;
 i0 = (j0 == 0);
 i0 = (i0 == 0);
-if (i0) { goto l4; }
+if (!i0) {
 i0 = UINT32_C(0);
 v2 = i0;
 goto l3;
-l4:;
+}
 j0 = v0;
 j1 = UINT64_C(4096);
 j2 = UINT64_C(0);
@@ -19526,7 +19804,7 @@ v0 = j0;
 i0 = UINT32_C(65535);
 v2 = i0;
 p1 = read_at(v0 + UINT64_C(0), m, run(1u, 1u, turns(v1, UINT64_C(0), 1u)));
-l5:;
+for (;;) {
 i0 = v2;
 i1 = UINT32_C(255);
 i0 = i0 & i1;
@@ -19568,7 +19846,9 @@ j0 = j0 + j1;
 v1 = j0;
 j1 = UINT64_C(0);
 i0 = (j0 != j1);
-if (i0) { p1 += 1; goto l5; }
+if (!i0) break;
+p1 += 1;
+}
 i0 = v2;
 i1 = UINT32_C(4294967295);
 i0 = i0 ^ i1;
@@ -19579,7 +19859,7 @@ i1 = UINT32_C(65535);
 i0 = i0 & i1;
 r = i0;
 return r;
-l2:;
+}
 fio2070_trap();
 return r;
 }
@@ -19589,14 +19869,12 @@ uint32_t i0;
 uint64_t j0;
 i0 = rattle_enter(m);
 i0 = (i0 == 0);
-if (i0) { goto l2; }
+if (!i0) {
 fio2070_trap();
-fio2070_trap();
-l2:;
+}
 j0 = v0;
 proved_wire_lose(m, j0);
 rattle_leave(m);
-return;
 }
 static void proved_wire_lose(struct machine *m, uint64_t v0)
 {
@@ -19611,7 +19889,7 @@ uint8_t *p3;
 j0 = m->g0;
 j1 = UINT64_C(16);
 i0 = (SIGNED64(j0) < SIGNED64(j1));
-if (i0) { goto l2; }
+if (!i0) {
 j0 = v0;
 j1 = UINT64_C(777);
 j0 = j0 + j1;
@@ -19620,7 +19898,7 @@ i0 = load8(p1 + 0);
 v1 = i0;
 i1 = UINT32_C(4);
 i0 = (i0 < i1);
-if (i0) { goto l5; }
+if (!i0) {
 j0 = v0;
 j1 = UINT64_C(778);
 j0 = j0 + j1;
@@ -19628,7 +19906,7 @@ i1 = UINT32_C(4294901760);
 p2 = write_at(j0, m, 4u);
 store32(p2 + 0, i1);
 goto l4;
-l5:;
+}
 i0 = v1;
 i0 = (i0 == 0);
 if (i0) { goto l3; }
@@ -19641,21 +19919,19 @@ p3 = write_at(j0, m, 1u);
 store8(p3 + 0, i1);
 l3:;
 return;
-l2:;
+}
 fio2070_trap();
-return;
 }
 static uint64_t enter_wire_message_length(struct machine *m, uint64_t v0)
 {
 uint32_t i0;
 uint64_t j0;
-uint64_t r;
+uint64_t r = 0;
 i0 = rattle_enter(m);
 i0 = (i0 == 0);
-if (i0) { goto l2; }
+if (!i0) {
 fio2070_trap();
-fio2070_trap();
-l2:;
+}
 j0 = v0;
 j0 = proved_wire_message_length(m, j0);
 v0 = j0;
@@ -19677,13 +19953,13 @@ uint64_t j0;
 uint64_t j1;
 uint64_t j2;
 uint64_t j3;
-uint64_t r;
+uint64_t r = 0;
 uint8_t *p1;
 uint8_t *p2;
 j0 = m->g0;
 j1 = UINT64_C(16);
 i0 = (SIGNED64(j0) < SIGNED64(j1));
-if (i0) { goto l2; }
+if (!i0) {
 j0 = UINT64_C(0);
 v1 = j0;
 j0 = v0;
@@ -19693,7 +19969,7 @@ p1 = read_at(j0, m, 1u);
 i0 = load8(p1 + 0);
 i1 = UINT32_C(4);
 i0 = (i0 < i1);
-if (i0) { goto l3; }
+if (!i0) {
 j0 = UINT64_C(0);
 j1 = v0;
 j2 = UINT64_C(778);
@@ -19716,11 +19992,11 @@ j3 = v0;
 i2 = (j2 > j3);
 j0 = i2 ? j0 : j1;
 v1 = j0;
-l3:;
+}
 j0 = v1;
 r = j0;
 return r;
-l2:;
+}
 fio2070_trap();
 return r;
 }
@@ -19732,16 +20008,14 @@ uint32_t i2;
 uint64_t j0;
 i0 = rattle_enter(m);
 i0 = (i0 == 0);
-if (i0) { goto l2; }
+if (!i0) {
 fio2070_trap();
-fio2070_trap();
-l2:;
+}
 j0 = v0;
 i1 = v1;
 i2 = v2;
 proved_wire_start(m, j0, i1, i2);
 rattle_leave(m);
-return;
 }
 static void proved_wire_start(struct machine *m, uint64_t v0, uint32_t v1, uint32_t v2)
 {
@@ -19754,9 +20028,9 @@ uint8_t *p1;
 j0 = m->g0;
 j1 = UINT64_C(15);
 i0 = (SIGNED64(j0) > SIGNED64(j1));
-if (i0) { goto l2; }
+if (!i0) {
 fio2070_trap();
-l2:;
+}
 j0 = v0;
 i1 = UINT32_C(0);
 j2 = UINT64_C(780);
@@ -19771,7 +20045,6 @@ store16(p1 + 2, i1);
 j0 = v0;
 i1 = UINT32_C(65535);
 store16(p1 + 0, i1);
-return;
 }
 static uint64_t enter_wire_write(struct machine *m, uint32_t v0, uint32_t v1, uint64_t v2, uint64_t v3, uint64_t v4, uint64_t v5)
 {
@@ -19782,13 +20055,12 @@ uint64_t j2;
 uint64_t j3;
 uint64_t j4;
 uint64_t j5;
-uint64_t r;
+uint64_t r = 0;
 i0 = rattle_enter(m);
 i0 = (i0 == 0);
-if (i0) { goto l2; }
+if (!i0) {
 fio2070_trap();
-fio2070_trap();
-l2:;
+}
 i0 = v0;
 i1 = v1;
 j2 = v2;
@@ -19816,7 +20088,7 @@ uint64_t j0;
 uint64_t j1;
 uint64_t j2;
 uint64_t j3;
-uint64_t r;
+uint64_t r = 0;
 uint8_t *p1;
 uint8_t *p2;
 uint8_t *p3;
@@ -19834,7 +20106,7 @@ uint8_t *p14;
 j0 = m->g0;
 j1 = UINT64_C(16);
 i0 = (SIGNED64(j0) < SIGNED64(j1));
-if (i0) { goto l2; }
+if (!i0) {
 j0 = UINT64_C(0);
 v6 = j0;
 j0 = v3;
@@ -19842,7 +20114,7 @@ j1 = UINT64_C(18446744073709550842);
 j0 = j0 + j1;
 j1 = UINT64_C(18446744073709550843);
 i0 = (j0 < j1);
-if (i0) { goto l3; }
+if (!i0) {
 j0 = v5;
 j1 = v3;
 j2 = UINT64_C(1);
@@ -19850,7 +20122,7 @@ j1 = j1 << (j2 & 63);
 j2 = UINT64_C(10);
 j1 = j1 + j2;
 i0 = (j0 < j1);
-if (i0) { goto l3; }
+if (!i0) {
 j0 = v2;
 i0 = (j0 == 0);
 v7 = i0;
@@ -19876,7 +20148,7 @@ i1 = UINT32_C(255);
 i0 = i0 & i1;
 i1 = UINT32_C(1);
 i0 = (i0 > i1);
-if (i0) { goto l4; }
+if (!i0) {
 j0 = v5;
 j1 = UINT64_C(2);
 j0 = j0 + j1;
@@ -19889,7 +20161,7 @@ j0 = UINT64_C(3);
 v8 = j0;
 i0 = UINT32_C(125);
 v9 = i0;
-l4:;
+}
 j0 = UINT64_C(4096);
 j1 = UINT64_C(0);
 i2 = v7;
@@ -19906,7 +20178,7 @@ i1 = UINT32_C(255);
 i0 = i0 & i1;
 i1 = UINT32_C(1);
 i0 = (i0 > i1);
-if (i0) { goto l6; }
+if (!i0) {
 j0 = v5;
 j1 = v8;
 j0 = j0 + j1;
@@ -19924,7 +20196,7 @@ v4 = j0;
 i0 = UINT32_C(125);
 v9 = i0;
 goto l5;
-l6:;
+}
 j0 = v8;
 j1 = UINT64_C(1);
 j0 = j0 + j1;
@@ -20007,7 +20279,7 @@ i1 = UINT32_C(255);
 i0 = i0 & i1;
 i1 = UINT32_C(1);
 i0 = (i0 > i1);
-if (i0) { goto l9; }
+if (!i0) {
 j0 = v5;
 j1 = v4;
 j0 = j0 + j1;
@@ -20025,7 +20297,7 @@ v2 = j0;
 i0 = UINT32_C(125);
 v1 = i0;
 goto l8;
-l9:;
+}
 j0 = v4;
 j1 = UINT64_C(1);
 j0 = j0 + j1;
@@ -20092,7 +20364,7 @@ i1 = UINT32_C(255);
 i0 = i0 & i1;
 i1 = UINT32_C(1);
 i0 = (i0 > i1);
-if (i0) { goto l11; }
+if (!i0) {
 j0 = v5;
 j1 = v2;
 j0 = j0 + j1;
@@ -20110,7 +20382,7 @@ v6 = j0;
 i0 = UINT32_C(125);
 v1 = i0;
 goto l10;
-l11:;
+}
 j0 = v2;
 j1 = UINT64_C(1);
 j0 = j0 + j1;
@@ -20138,7 +20410,7 @@ i1 = UINT32_C(255);
 i0 = i0 & i1;
 i1 = UINT32_C(1);
 i0 = (i0 > i1);
-if (i0) { goto l13; }
+if (!i0) {
 j0 = v5;
 j1 = v6;
 j0 = j0 + j1;
@@ -20156,7 +20428,7 @@ v4 = j0;
 i0 = UINT32_C(125);
 v0 = i0;
 goto l12;
-l13:;
+}
 j0 = v6;
 j1 = UINT64_C(1);
 j0 = j0 + j1;
@@ -20178,11 +20450,12 @@ j0 = v4;
 j1 = UINT64_C(1);
 j0 = j0 + j1;
 v6 = j0;
-l3:;
+}
+}
 j0 = v6;
 r = j0;
 return r;
-l2:;
+}
 fio2070_trap();
 return r;
 }
@@ -20195,17 +20468,15 @@ uint64_t j2;
 uint64_t j3;
 i0 = rattle_enter(m);
 i0 = (i0 == 0);
-if (i0) { goto l2; }
+if (!i0) {
 fio2070_trap();
-fio2070_trap();
-l2:;
+}
 j0 = v0;
 j1 = v1;
 j2 = v2;
 j3 = v3;
 proved_decode_answer(m, j0, j1, j2, j3);
 rattle_leave(m);
-return;
 }
 static void proved_decode_answer(struct machine *m, uint64_t v0, uint64_t v1, uint64_t v2, uint64_t v3)
 {
@@ -20249,17 +20520,17 @@ p1 = write_at(j0, m, 16u);
 v4 = j0;
 j1 = UINT64_C(16);
 i0 = (SIGNED64(j0) < SIGNED64(j1));
-if (i0) { goto l4; }
+if (!i0) {
 j0 = UINT64_C(0);
 v5 = j0;
 j0 = v2;
 i0 = (j0 == 0);
 i0 = (i0 == 0);
-if (i0) { goto l5; }
+if (!i0) {
 i0 = UINT32_C(1);
 v6 = i0;
 goto l3;
-l5:;
+}
 j0 = UINT64_C(8);
 v7 = j0;
 j0 = v1;
@@ -20325,7 +20596,7 @@ if (i0) { goto l8; }
 i0 = v8;
 i1 = UINT32_C(180);
 i0 = (i0 < i1);
-if (i0) { goto l10; }
+if (!i0) {
 i0 = v8;
 i1 = UINT32_C(182);
 i0 = (i0 >= i1);
@@ -20333,6 +20604,7 @@ if (i0) { goto l9; }
 j0 = UINT64_C(13);
 v7 = j0;
 goto l7;
+}
 l10:;
 j0 = UINT64_C(2);
 v7 = j0;
@@ -20350,7 +20622,7 @@ v9 = i0;
 j0 = v2;
 j1 = UINT64_C(773);
 i0 = (j0 <= j1);
-if (i0) { goto l13; }
+if (!i0) {
 i0 = UINT32_C(2);
 v6 = i0;
 i0 = UINT32_C(0);
@@ -20358,7 +20630,7 @@ v8 = i0;
 j0 = v2;
 v5 = j0;
 goto l2;
-l13:;
+}
 i0 = UINT32_C(3);
 v6 = i0;
 goto l2;
@@ -20366,7 +20638,7 @@ l7:;
 j0 = v2;
 j1 = UINT64_C(773);
 i0 = (j0 <= j1);
-if (i0) { goto l6; }
+if (!i0) {
 i0 = UINT32_C(0);
 v8 = i0;
 i0 = UINT32_C(2);
@@ -20376,11 +20648,12 @@ v9 = i0;
 j0 = v2;
 v5 = j0;
 goto l2;
+}
 l6:;
 j0 = v7;
 j1 = v2;
 i0 = (j0 != j1);
-if (i0) { goto l16; }
+if (!i0) {
 i0 = v8;
 i1 = UINT32_C(4294967119);
 i0 = i0 + i1;
@@ -20681,7 +20954,7 @@ v13 = i0;
 i0 = UINT32_C(0);
 v14 = i0;
 goto l14;
-l16:;
+}
 j0 = v7;
 i0 = (uint32_t)j0;
 v9 = i0;
@@ -20750,6 +21023,7 @@ store16(p12 + 10, i1);
 i0 = UINT32_C(0);
 v6 = i0;
 goto l3;
+}
 l4:;
 fio2070_trap();
 l3:;
@@ -20774,7 +21048,6 @@ store8(p13 + 1, i1);
 j0 = v0;
 i1 = v6;
 store8(p13 + 0, i1);
-return;
 }
 static void enter_decode_command(struct machine *m, uint64_t v0, uint64_t v1, uint64_t v2, uint64_t v3)
 {
@@ -20785,17 +21058,15 @@ uint64_t j2;
 uint64_t j3;
 i0 = rattle_enter(m);
 i0 = (i0 == 0);
-if (i0) { goto l2; }
+if (!i0) {
 fio2070_trap();
-fio2070_trap();
-l2:;
+}
 j0 = v0;
 j1 = v1;
 j2 = v2;
 j3 = v3;
 proved_decode_command(m, j0, j1, j2, j3);
 rattle_leave(m);
-return;
 }
 static void proved_decode_command(struct machine *m, uint64_t v0, uint64_t v1, uint64_t v2, uint64_t v3)
 {
@@ -20830,17 +21101,17 @@ uint8_t *p9;
 j0 = m->g0;
 j1 = UINT64_C(16);
 i0 = (SIGNED64(j0) < SIGNED64(j1));
-if (i0) { goto l9; }
+if (!i0) {
 j0 = UINT64_C(0);
 v4 = j0;
 j0 = v2;
 i0 = (j0 == 0);
 i0 = (i0 == 0);
-if (i0) { goto l10; }
+if (!i0) {
 i0 = UINT32_C(1);
 v5 = i0;
 goto l3;
-l10:;
+}
 j0 = UINT64_C(2);
 v6 = j0;
 i0 = UINT32_C(1);
@@ -20894,13 +21165,13 @@ l19:;
 j0 = v2;
 j1 = UINT64_C(1);
 i0 = (j0 != j1);
-if (i0) { goto l21; }
+if (!i0) {
 j0 = UINT64_C(0);
 v8 = j0;
 j0 = UINT64_C(2);
 v6 = j0;
 goto l12;
-l21:;
+}
 j0 = v1;
 j1 = UINT64_C(1);
 j0 = j0 + j1;
@@ -20949,7 +21220,7 @@ v9 = i0;
 j0 = v2;
 j1 = UINT64_C(773);
 i0 = (j0 <= j1);
-if (i0) { goto l22; }
+if (!i0) {
 i0 = UINT32_C(2);
 v5 = i0;
 i0 = UINT32_C(0);
@@ -20957,7 +21228,7 @@ v7 = i0;
 j0 = v2;
 v4 = j0;
 goto l2;
-l22:;
+}
 i0 = v5;
 i0 = (i0 == 0);
 if (i0) { goto l11; }
@@ -20969,7 +21240,7 @@ l12:;
 j0 = v6;
 j1 = v2;
 i0 = (j0 != j1);
-if (i0) { goto l23; }
+if (!i0) {
 j0 = UINT64_C(0);
 v4 = j0;
 i0 = UINT32_C(0);
@@ -21145,7 +21416,7 @@ v11 = i0;
 i0 = UINT32_C(0);
 v12 = i0;
 goto l5;
-l23:;
+}
 j0 = v6;
 i0 = (uint32_t)j0;
 v9 = i0;
@@ -21160,6 +21431,7 @@ l11:;
 i0 = UINT32_C(3);
 v5 = i0;
 goto l2;
+}
 l9:;
 fio2070_trap();
 l8:;
@@ -21232,7 +21504,6 @@ store8(p9 + 1, i1);
 j0 = v0;
 i1 = v5;
 store8(p9 + 0, i1);
-return;
 }
 static void enter_checker_start(struct machine *m, uint64_t v0)
 {
@@ -21240,14 +21511,12 @@ uint32_t i0;
 uint64_t j0;
 i0 = rattle_enter(m);
 i0 = (i0 == 0);
-if (i0) { goto l2; }
+if (!i0) {
 fio2070_trap();
-fio2070_trap();
-l2:;
+}
 j0 = v0;
 proved_checker_start(m, j0);
 rattle_leave(m);
-return;
 }
 static void proved_checker_start(struct machine *m, uint64_t v0)
 {
@@ -21258,9 +21527,9 @@ uint8_t *p1;
 j0 = m->g0;
 j1 = UINT64_C(15);
 i0 = (SIGNED64(j0) > SIGNED64(j1));
-if (i0) { goto l2; }
+if (!i0) {
 fio2070_trap();
-l2:;
+}
 j0 = v0;
 j1 = UINT64_C(0);
 p1 = write_at(j0, m, 16u);
@@ -21268,7 +21537,6 @@ store64(p1 + 0, j1);
 j0 = v0;
 j1 = UINT64_C(67174144);
 store64(p1 + 8, j1);
-return;
 }
 static void enter_read_block(struct machine *m, uint64_t v0, uint64_t v1, uint64_t v2, uint64_t v3)
 {
@@ -21279,17 +21547,15 @@ uint64_t j2;
 uint64_t j3;
 i0 = rattle_enter(m);
 i0 = (i0 == 0);
-if (i0) { goto l2; }
+if (!i0) {
 fio2070_trap();
-fio2070_trap();
-l2:;
+}
 j0 = v0;
 j1 = v1;
 j2 = v2;
 j3 = v3;
 proved_read_block(m, j0, j1, j2, j3);
 rattle_leave(m);
-return;
 }
 static void proved_read_block(struct machine *m, uint64_t v0, uint64_t v1, uint64_t v2, uint64_t v3)
 {
@@ -21316,17 +21582,17 @@ uint8_t *p6;
 j0 = m->g0;
 j1 = UINT64_C(16);
 i0 = (SIGNED64(j0) < SIGNED64(j1));
-if (i0) { goto l6; }
+if (!i0) {
 j0 = UINT64_C(0);
 v4 = j0;
 j0 = v2;
 i0 = (j0 == 0);
 i0 = (i0 == 0);
-if (i0) { goto l7; }
+if (!i0) {
 i0 = UINT32_C(1);
 v5 = i0;
 goto l3;
-l7:;
+}
 j0 = v1;
 j1 = UINT64_C(4096);
 j2 = UINT64_C(0);
@@ -21340,13 +21606,13 @@ i0 = load8(p1 + 0);
 v6 = i0;
 i1 = UINT32_C(182);
 i0 = (i0 != i1);
-if (i0) { goto l9; }
+if (!i0) {
 j0 = UINT64_C(8);
 v7 = j0;
 j0 = v2;
 j1 = UINT64_C(3);
 i0 = (j0 < j1);
-if (i0) { goto l10; }
+if (!i0) {
 j0 = v2;
 j1 = UINT64_C(773);
 i0 = (j0 > j1);
@@ -21361,7 +21627,7 @@ j0 = j0 * j1;
 j1 = UINT64_C(8);
 j0 = j0 + j1;
 v7 = j0;
-l10:;
+}
 j0 = v7;
 j1 = v2;
 i0 = (j0 != j1);
@@ -21421,19 +21687,19 @@ store64(p5 + 0, j1);
 i0 = UINT32_C(0);
 v5 = i0;
 goto l3;
-l9:;
+}
 i0 = UINT32_C(0);
 v8 = i0;
 j0 = v2;
 j1 = UINT64_C(773);
 i0 = (j0 <= j1);
-if (i0) { goto l11; }
+if (!i0) {
 i0 = UINT32_C(2);
 v5 = i0;
 i0 = UINT32_C(0);
 v6 = i0;
 goto l4;
-l11:;
+}
 i0 = UINT32_C(3);
 v5 = i0;
 goto l2;
@@ -21446,7 +21712,7 @@ v6 = i0;
 i0 = UINT32_C(4);
 v5 = i0;
 goto l4;
-l6:;
+}
 fio2070_trap();
 l5:;
 i0 = UINT32_C(0);
@@ -21481,7 +21747,6 @@ store8(p6 + 1, i1);
 j0 = v0;
 i1 = v5;
 store8(p6 + 0, i1);
-return;
 }
 static uint64_t enter_wire_bits_read(struct machine *m, uint64_t v0, uint64_t v1, uint64_t v2, uint64_t v3)
 {
@@ -21490,13 +21755,12 @@ uint64_t j0;
 uint64_t j1;
 uint64_t j2;
 uint64_t j3;
-uint64_t r;
+uint64_t r = 0;
 i0 = rattle_enter(m);
 i0 = (i0 == 0);
-if (i0) { goto l2; }
+if (!i0) {
 fio2070_trap();
-fio2070_trap();
-l2:;
+}
 j0 = v0;
 j1 = v1;
 j2 = v2;
@@ -21527,7 +21791,7 @@ uint64_t j0;
 uint64_t j1;
 uint64_t j2;
 uint64_t j3;
-uint64_t r;
+uint64_t r = 0;
 uint8_t *p1;
 uint8_t *p2;
 uint8_t *p3;
@@ -21566,7 +21830,7 @@ uint8_t *p35;
 j0 = m->g0;
 j1 = UINT64_C(16);
 i0 = (SIGNED64(j0) < SIGNED64(j1));
-if (i0) { goto l2; }
+if (!i0) {
 j0 = UINT64_C(0);
 v4 = j0;
 j0 = v1;
@@ -21585,7 +21849,7 @@ l3:;
 j0 = v4;
 j1 = v2;
 i0 = (j0 != j1);
-if (i0) { goto l4; }
+if (!i0) {
 j0 = v3;
 i1 = UINT32_C(0);
 p1 = write_at(j0, m, 1u);
@@ -21593,7 +21857,7 @@ store8(p1 + 0, i1);
 j0 = v2;
 r = j0;
 return r;
-l4:;
+}
 j0 = v5;
 j1 = v4;
 j0 = j0 + j1;
@@ -21611,7 +21875,7 @@ i0 = load8(p3 + 0);
 v8 = i0;
 i1 = UINT32_C(3);
 i0 = (i0 < i1);
-if (i0) { goto l5; }
+if (!i0) {
 j0 = v0;
 j1 = UINT64_C(784);
 j0 = j0 + j1;
@@ -21628,20 +21892,20 @@ i1 = UINT32_C(1);
 store8(p4 + 0, i1);
 i0 = UINT32_C(1);
 v8 = i0;
-l5:;
+}
 j0 = v6;
 p5 = read_at(j0, m, 1u);
 i0 = load8(p5 + 0);
 v9 = i0;
 i0 = v7;
 i0 = (i0 == 0);
-if (i0) { goto l7; }
+if (!i0) {
 i0 = v9;
 i1 = UINT32_C(255);
 i0 = i0 & i1;
 i1 = UINT32_C(5);
 i0 = (i0 > i1);
-if (i0) { goto l8; }
+if (!i0) {
 j0 = v6;
 i1 = v9;
 i2 = UINT32_C(1);
@@ -21651,7 +21915,7 @@ store8(p6 + 0, i1);
 i0 = UINT32_C(0);
 v8 = i0;
 goto l6;
-l8:;
+}
 j0 = v6;
 i1 = UINT32_C(7);
 p7 = write_at(j0, m, 1u);
@@ -21671,19 +21935,19 @@ j1 = UINT64_C(784);
 j0 = j0 + j1;
 p8 = read_at(j0, m, 2u);
 i0 = load16(p8 + 0);
-if (i0) { goto l9; }
+if (!i0) {
 j0 = v0;
 j1 = UINT64_C(781);
 j0 = j0 + j1;
 p9 = read_at(j0, m, 1u);
 i0 = load8(p9 + 0);
-if (i0) { goto l9; }
+if (!i0) {
 j0 = v0;
 j1 = UINT64_C(782);
 j0 = j0 + j1;
 p10 = read_at(j0, m, 1u);
 i0 = load8(p10 + 0);
-if (i0) { goto l9; }
+if (!i0) {
 i0 = UINT32_C(2);
 i1 = UINT32_C(0);
 j2 = v0;
@@ -21693,7 +21957,9 @@ p11 = read_at(j2, m, 1u);
 i2 = load8(p11 + 0);
 i0 = i2 ? i0 : i1;
 v7 = i0;
-l9:;
+}
+}
+}
 j0 = v0;
 j1 = UINT64_C(777);
 j0 = j0 + j1;
@@ -21701,14 +21967,14 @@ i1 = v7;
 p12 = write_at(j0, m, 1u);
 store8(p12 + 0, i1);
 goto l6;
-l7:;
+}
 i0 = v9;
 i1 = UINT32_C(255);
 i0 = i0 & i1;
 v7 = i0;
 i1 = UINT32_C(6);
 i0 = (i0 != i1);
-if (i0) { goto l10; }
+if (!i0) {
 i0 = v8;
 switch (i0) {
 case 0:
@@ -21724,7 +21990,7 @@ j1 = UINT64_C(781);
 j0 = j0 + j1;
 p13 = read_at(j0, m, 1u);
 i0 = load8(p13 + 0);
-if (i0) { goto l13; }
+if (!i0) {
 i0 = UINT32_C(3);
 v8 = i0;
 j0 = v0;
@@ -21741,11 +22007,11 @@ i0 = load16(p15 + 0);
 i1 = UINT32_C(65535);
 i0 = i0 & i1;
 v7 = i0;
-if (i0) { goto l15; }
+if (!i0) {
 i0 = UINT32_C(0);
 v8 = i0;
 goto l12;
-l15:;
+}
 i0 = v7;
 i1 = UINT32_C(5);
 i0 = (i0 < i1);
@@ -21775,7 +22041,7 @@ i1 = UINT32_C(65535);
 i0 = i0 & i1;
 i1 = UINT32_C(255);
 i0 = (i0 > i1);
-if (i0) { goto l18; }
+if (!i0) {
 i0 = v7;
 i1 = UINT32_C(65535);
 i0 = i0 & i1;
@@ -21784,7 +22050,7 @@ p18 = read_at(j1, m, 1u);
 i1 = load8(p18 + 0);
 i0 = (i0 != i1);
 if (i0) { goto l17; }
-l18:;
+}
 i0 = UINT32_C(1);
 v8 = i0;
 i0 = v10;
@@ -21813,6 +22079,7 @@ store16(p20 + 0, i1);
 i0 = UINT32_C(3);
 v7 = i0;
 goto l11;
+}
 l13:;
 i0 = UINT32_C(3);
 v8 = i0;
@@ -21839,7 +22106,7 @@ i1 = v7;
 p22 = write_at(j0, m, 1u);
 store8(p22 + 0, i1);
 goto l6;
-l10:;
+}
 i0 = UINT32_C(0);
 v8 = i0;
 i0 = UINT32_C(0);
@@ -21847,14 +22114,14 @@ v10 = i0;
 i0 = v7;
 i1 = UINT32_C(5);
 i0 = (i0 > i1);
-if (i0) { goto l19; }
+if (!i0) {
 j0 = v0;
 j1 = UINT64_C(779);
 j0 = j0 + j1;
 p23 = read_at(j0, m, 1u);
 i0 = load8(p23 + 0);
 i0 = (i0 == 0);
-if (i0) { goto l20; }
+if (!i0) {
 j0 = v0;
 j1 = UINT64_C(780);
 j0 = j0 + j1;
@@ -21872,7 +22139,7 @@ i0 = load8(p24 + 1);
 v10 = i0;
 i1 = UINT32_C(6);
 i0 = (i0 > i1);
-if (i0) { goto l21; }
+if (!i0) {
 j0 = v11;
 i1 = v10;
 i2 = UINT32_C(1);
@@ -21883,7 +22150,7 @@ j0 = v1;
 i1 = v7;
 store8(p25 + 0, i1);
 goto l20;
-l21:;
+}
 j0 = v1;
 i1 = UINT32_C(0);
 p26 = write_at(j0, m, 6u);
@@ -21896,7 +22163,7 @@ j0 = load16(p26 + 4);
 v11 = j0;
 j1 = UINT64_C(776);
 i0 = (j0 > j1);
-if (i0) { goto l22; }
+if (!i0) {
 j0 = v0;
 j1 = v11;
 j0 = j0 + j1;
@@ -21950,21 +22217,22 @@ j0 = j0 + j1;
 i0 = load8(p5 + 0);
 v9 = i0;
 goto l20;
-l22:;
+}
 j0 = v0;
 j1 = UINT64_C(782);
 j0 = j0 + j1;
 i1 = UINT32_C(1);
 store8(p26 + 2, i1);
+}
 l20:;
 i0 = v9;
 i1 = UINT32_C(255);
 i0 = i0 & i1;
-if (i0) { goto l23; }
+if (!i0) {
 i0 = UINT32_C(1);
 v10 = i0;
 goto l19;
-l23:;
+}
 i0 = UINT32_C(0);
 v7 = i0;
 l24:;
@@ -21987,7 +22255,7 @@ i0 = load8(p29 + 1);
 v12 = i0;
 i1 = UINT32_C(6);
 i0 = (i0 > i1);
-if (i0) { goto l26; }
+if (!i0) {
 j0 = v11;
 i1 = v12;
 i2 = UINT32_C(1);
@@ -21998,7 +22266,7 @@ j0 = v1;
 i1 = v10;
 store8(p30 + 0, i1);
 goto l25;
-l26:;
+}
 j0 = v1;
 i1 = UINT32_C(0);
 p31 = write_at(j0, m, 6u);
@@ -22011,7 +22279,7 @@ j0 = load16(p31 + 4);
 v11 = j0;
 j1 = UINT64_C(776);
 i0 = (j0 > j1);
-if (i0) { goto l27; }
+if (!i0) {
 j0 = v0;
 j1 = v11;
 j0 = j0 + j1;
@@ -22060,7 +22328,7 @@ i2 = i2 >> (i3 & 31);
 i1 = i1 ^ i2;
 store16(p33 + 0, i1);
 goto l25;
-l27:;
+}
 j0 = v0;
 j1 = UINT64_C(782);
 j0 = j0 + j1;
@@ -22083,6 +22351,7 @@ i0 = load8(p5 + 0);
 i1 = UINT32_C(5);
 i0 = (i0 < i1);
 v10 = i0;
+}
 l19:;
 j0 = v0;
 j1 = UINT64_C(778);
@@ -22110,7 +22379,7 @@ store8(p35 + 0, i1);
 j0 = v4;
 r = j0;
 return r;
-l2:;
+}
 fio2070_trap();
 return r;
 }
@@ -22121,13 +22390,12 @@ uint64_t j0;
 uint64_t j1;
 uint64_t j2;
 uint64_t j3;
-uint64_t r;
+uint64_t r = 0;
 i0 = rattle_enter(m);
 i0 = (i0 == 0);
-if (i0) { goto l2; }
+if (!i0) {
 fio2070_trap();
-fio2070_trap();
-l2:;
+}
 j0 = v0;
 j1 = v1;
 j2 = v2;
@@ -22156,7 +22424,7 @@ uint64_t j0;
 uint64_t j1;
 uint64_t j2;
 uint64_t j3;
-uint64_t r;
+uint64_t r = 0;
 uint8_t *p1;
 uint8_t *p2;
 uint8_t *p3;
@@ -22181,7 +22449,7 @@ uint8_t *p21;
 j0 = m->g0;
 j1 = UINT64_C(16);
 i0 = (SIGNED64(j0) < SIGNED64(j1));
-if (i0) { goto l2; }
+if (!i0) {
 j0 = UINT64_C(0);
 v4 = j0;
 j0 = v1;
@@ -22196,7 +22464,7 @@ l3:;
 j0 = v2;
 j1 = v4;
 i0 = (j0 != j1);
-if (i0) { goto l4; }
+if (!i0) {
 j0 = v3;
 i1 = UINT32_C(0);
 p1 = write_at(j0, m, 1u);
@@ -22204,7 +22472,7 @@ store8(p1 + 0, i1);
 j0 = v2;
 r = j0;
 return r;
-l4:;
+}
 j0 = v1;
 j1 = v4;
 j0 = j0 + j1;
@@ -22219,11 +22487,11 @@ i0 = load8(p3 + 0);
 v6 = i0;
 i1 = UINT32_C(3);
 i0 = (i0 > i1);
-if (i0) { goto l11; }
+if (!i0) {
 i0 = v5;
 i1 = UINT32_C(126);
 i0 = (i0 != i1);
-if (i0) { goto l12; }
+if (!i0) {
 i0 = v6;
 switch (i0) {
 case 0:
@@ -22240,11 +22508,11 @@ j0 = j0 + j1;
 p4 = read_at(j0, m, 2u);
 i0 = load16(p4 + 0);
 v5 = i0;
-if (i0) { goto l15; }
+if (!i0) {
 i0 = UINT32_C(0);
 v6 = i0;
 goto l7;
-l15:;
+}
 i0 = UINT32_C(3);
 v6 = i0;
 i0 = v5;
@@ -22276,7 +22544,7 @@ i1 = UINT32_C(65535);
 i0 = i0 & i1;
 i1 = UINT32_C(255);
 i0 = (i0 > i1);
-if (i0) { goto l17; }
+if (!i0) {
 i0 = v6;
 i1 = UINT32_C(65535);
 i0 = i0 & i1;
@@ -22285,7 +22553,7 @@ p7 = read_at(j1, m, 1u);
 i1 = load8(p7 + 0);
 i0 = (i0 != i1);
 if (i0) { goto l16; }
-l17:;
+}
 i0 = UINT32_C(1);
 v6 = i0;
 i0 = UINT32_C(4);
@@ -22313,7 +22581,7 @@ l13:;
 i0 = UINT32_C(3);
 v6 = i0;
 goto l7;
-l12:;
+}
 i0 = v6;
 i1 = UINT32_C(4294967295);
 i0 = i0 + i1;
@@ -22358,7 +22626,7 @@ j0 = load16(p10 + 0);
 v9 = j0;
 j1 = UINT64_C(776);
 i0 = (j0 > j1);
-if (i0) { goto l20; }
+if (!i0) {
 j0 = v0;
 j1 = v9;
 j0 = j0 + j1;
@@ -22411,7 +22679,7 @@ i3 = UINT32_C(4);
 i2 = i2 >> (i3 & 31);
 i1 = i1 ^ i2;
 store16(p12 + 2, i1);
-l20:;
+}
 j0 = v0;
 j1 = UINT64_C(777);
 j0 = j0 + j1;
@@ -22419,7 +22687,7 @@ i1 = v7;
 p13 = write_at(j0, m, 1u);
 store8(p13 + 0, i1);
 goto l5;
-l11:;
+}
 j0 = v0;
 j1 = UINT64_C(778);
 j0 = j0 + j1;
@@ -22544,7 +22812,7 @@ store8(p21 + 0, i1);
 j0 = v4;
 r = j0;
 return r;
-l2:;
+}
 fio2070_trap();
 return r;
 }
@@ -22555,13 +22823,12 @@ uint64_t j0;
 uint64_t j1;
 uint64_t j2;
 uint64_t j3;
-uint64_t r;
+uint64_t r = 0;
 i0 = rattle_enter(m);
 i0 = (i0 == 0);
-if (i0) { goto l2; }
+if (!i0) {
 fio2070_trap();
-fio2070_trap();
-l2:;
+}
 j0 = v0;
 j1 = v1;
 j2 = v2;
@@ -22588,7 +22855,7 @@ uint64_t j0;
 uint64_t j1;
 uint64_t j2;
 uint64_t j3;
-uint64_t r;
+uint64_t r = 0;
 uint8_t *p1;
 uint8_t *p2;
 uint8_t *p3;
@@ -22596,7 +22863,7 @@ uint8_t *p4;
 j0 = m->g0;
 j1 = UINT64_C(16);
 i0 = (SIGNED64(j0) < SIGNED64(j1));
-if (i0) { goto l4; }
+if (!i0) {
 j0 = UINT64_C(18446744073709551615);
 v4 = j0;
 j0 = v1;
@@ -22655,13 +22922,13 @@ l12:;
 j0 = v1;
 j1 = UINT64_C(1);
 i0 = (j0 != j1);
-if (i0) { goto l14; }
+if (!i0) {
 j0 = UINT64_C(0);
 v8 = j0;
 j0 = UINT64_C(2);
 v5 = j0;
 goto l5;
-l14:;
+}
 j0 = v0;
 j1 = UINT64_C(1);
 j0 = j0 + j1;
@@ -22710,11 +22977,11 @@ j1 = UINT64_C(773);
 i0 = (j0 > j1);
 if (i0) { goto l2; }
 i0 = v6;
-if (i0) { goto l15; }
+if (!i0) {
 j0 = UINT64_C(18446744073709551615);
 r = j0;
 return r;
-l15:;
+}
 j0 = v1;
 j1 = UINT64_C(18446744073709551615);
 j0 = j0 + j1;
@@ -22727,7 +22994,7 @@ if (i0) { goto l2; }
 i0 = v7;
 i1 = UINT32_C(60);
 i0 = (i0 > i1);
-if (i0) { goto l4; }
+if (!i0) {
 j0 = UINT64_C(1);
 i1 = v7;
 j1 = (uint64_t)i1;
@@ -22745,16 +23012,19 @@ if (i0) { goto l3; }
 j0 = v1;
 j1 = UINT64_C(55);
 i0 = (j0 != j1);
-if (i0) { goto l4; }
+if (!i0) {
 j0 = v8;
 j1 = UINT64_C(7);
 i0 = (j0 <= j1);
-if (i0) { goto l4; }
+if (!i0) {
 j0 = v8;
 j1 = UINT64_C(15);
 i0 = (j0 > j1);
 if (i0) { goto l2; }
-l4:;
+}
+}
+}
+}
 fio2070_trap();
 l3:;
 j0 = v8;
@@ -22767,11 +23037,11 @@ v4 = j0;
 j0 = v1;
 j1 = UINT64_C(3);
 i0 = (j0 < j1);
-if (i0) { goto l2; }
+if (!i0) {
 j0 = v4;
 j1 = v3;
 i0 = (j0 > j1);
-if (i0) { goto l2; }
+if (!i0) {
 j0 = v2;
 j1 = UINT64_C(4096);
 j2 = UINT64_C(0);
@@ -22794,7 +23064,7 @@ j0 = j0 + j1;
 v0 = j0;
 p4 = write_at(v5 + UINT64_C(0), m, run(4u, 4u, turns(v0, UINT64_C(0), 1u)));
 p3 = read_at(v1 + UINT64_C(0), m, run(3u, 3u, turns(v0, UINT64_C(0), 1u)));
-l16:;
+for (;;) {
 j0 = v5;
 j1 = v1;
 j2 = UINT64_C(1);
@@ -22836,7 +23106,12 @@ j0 = j0 + j1;
 v0 = j0;
 i0 = (j0 == 0);
 i0 = (i0 == 0);
-if (i0) { p3 += 3; p4 += 4; goto l16; }
+if (!i0) break;
+p3 += 3;
+p4 += 4;
+}
+}
+}
 l2:;
 j0 = v4;
 r = j0;
@@ -22849,14 +23124,13 @@ uint32_t i0;
 uint32_t i1;
 uint64_t j0;
 uint64_t j1;
-uint32_t r;
+uint32_t r = 0;
 uint8_t *p1;
 i0 = rattle_enter(m);
 i0 = (i0 == 0);
-if (i0) { goto l2; }
+if (!i0) {
 fio2070_trap();
-fio2070_trap();
-l2:;
+}
 j0 = v0;
 j1 = v1;
 p1 = read_at(j1, m, 4u);
@@ -22876,12 +23150,12 @@ uint32_t i0;
 uint32_t i1;
 uint64_t j0;
 uint64_t j1;
-uint32_t r;
+uint32_t r = 0;
 uint8_t *p1;
 j0 = m->g0;
 j1 = UINT64_C(16);
 i0 = (SIGNED64(j0) < SIGNED64(j1));
-if (i0) { goto l2; }
+if (!i0) {
 i0 = UINT32_C(1);
 v2 = i0;
 i0 = v1;
@@ -22891,7 +23165,7 @@ i1 = UINT32_C(65535);
 i0 = i0 & i1;
 i1 = UINT32_C(8191);
 i0 = (i0 > i1);
-if (i0) { goto l3; }
+if (!i0) {
 i0 = v1;
 i1 = UINT32_C(16);
 i0 = i0 >> (i1 & 31);
@@ -22899,7 +23173,7 @@ v3 = i0;
 i1 = UINT32_C(255);
 i0 = i0 & i1;
 i0 = (i0 == 0);
-if (i0) { goto l3; }
+if (!i0) {
 i0 = UINT32_C(0);
 v2 = i0;
 j0 = v0;
@@ -22918,11 +23192,12 @@ store8(p1 + 8, i1);
 j0 = v0;
 j1 = UINT64_C(0);
 store64(p1 + 0, j1);
-l3:;
+}
+}
 i0 = v2;
 r = i0;
 return r;
-l2:;
+}
 fio2070_trap();
 return r;
 }
@@ -22933,14 +23208,13 @@ uint32_t i0;
 uint32_t i1;
 uint64_t j0;
 uint64_t j1;
-uint32_t r;
+uint32_t r = 0;
 uint8_t *p1;
 i0 = rattle_enter(m);
 i0 = (i0 == 0);
-if (i0) { goto l2; }
+if (!i0) {
 fio2070_trap();
-fio2070_trap();
-l2:;
+}
 j0 = v0;
 j1 = v1;
 p1 = read_at(j1, m, 4u);
@@ -22960,12 +23234,12 @@ uint32_t i0;
 uint32_t i1;
 uint64_t j0;
 uint64_t j1;
-uint32_t r;
+uint32_t r = 0;
 uint8_t *p1;
 j0 = m->g0;
 j1 = UINT64_C(16);
 i0 = (SIGNED64(j0) < SIGNED64(j1));
-if (i0) { goto l2; }
+if (!i0) {
 i0 = UINT32_C(1);
 v2 = i0;
 i0 = v1;
@@ -22975,7 +23249,7 @@ i1 = UINT32_C(65535);
 i0 = i0 & i1;
 i1 = UINT32_C(8191);
 i0 = (i0 > i1);
-if (i0) { goto l3; }
+if (!i0) {
 i0 = v1;
 i1 = UINT32_C(16);
 i0 = i0 >> (i1 & 31);
@@ -22983,7 +23257,7 @@ v3 = i0;
 i1 = UINT32_C(255);
 i0 = i0 & i1;
 i0 = (i0 == 0);
-if (i0) { goto l3; }
+if (!i0) {
 i0 = UINT32_C(0);
 v2 = i0;
 j0 = v0;
@@ -23002,11 +23276,12 @@ store16(p1 + 10, i1);
 j0 = v0;
 i1 = v3;
 store8(p1 + 9, i1);
-l3:;
+}
+}
 i0 = v2;
 r = i0;
 return r;
-l2:;
+}
 fio2070_trap();
 return r;
 }
@@ -23017,14 +23292,13 @@ uint32_t i0;
 uint32_t i1;
 uint64_t j0;
 uint64_t j1;
-uint32_t r;
+uint32_t r = 0;
 uint8_t *p1;
 i0 = rattle_enter(m);
 i0 = (i0 == 0);
-if (i0) { goto l2; }
+if (!i0) {
 fio2070_trap();
-fio2070_trap();
-l2:;
+}
 j0 = v0;
 j1 = v1;
 p1 = read_at(j1, m, 4u);
@@ -23046,7 +23320,7 @@ uint32_t i1;
 uint64_t j0;
 uint64_t j1;
 uint64_t j2;
-uint32_t r;
+uint32_t r = 0;
 uint8_t *p1;
 uint8_t *p2;
 j0 = m->g0;
@@ -23059,7 +23333,7 @@ j0 = v2;
 v2 = j0;
 j1 = UINT64_C(16);
 i0 = (SIGNED64(j0) < SIGNED64(j1));
-if (i0) { goto l2; }
+if (!i0) {
 i0 = UINT32_C(1);
 v3 = i0;
 i0 = v1;
@@ -23069,7 +23343,7 @@ i1 = UINT32_C(65535);
 i0 = i0 & i1;
 i1 = UINT32_C(8191);
 i0 = (i0 > i1);
-if (i0) { goto l3; }
+if (!i0) {
 i0 = v1;
 i1 = UINT32_C(16);
 i0 = i0 >> (i1 & 31);
@@ -23077,7 +23351,7 @@ v4 = i0;
 i1 = UINT32_C(255);
 i0 = i0 & i1;
 i0 = (i0 == 0);
-if (i0) { goto l3; }
+if (!i0) {
 i0 = UINT32_C(0);
 v3 = i0;
 j0 = v2;
@@ -23143,7 +23417,8 @@ store64(p2 + 20, j1);
 j0 = v0;
 i1 = UINT32_C(0);
 store32(p2 + 28, i1);
-l3:;
+}
+}
 j0 = v2;
 j1 = UINT64_C(704);
 j0 = j0 + j1;
@@ -23151,7 +23426,7 @@ m->g0 = j0;
 i0 = v3;
 r = i0;
 return r;
-l2:;
+}
 fio2070_trap();
 return r;
 }
@@ -23162,14 +23437,13 @@ uint32_t i0;
 uint32_t i1;
 uint64_t j0;
 uint64_t j1;
-uint32_t r;
+uint32_t r = 0;
 uint8_t *p1;
 i0 = rattle_enter(m);
 i0 = (i0 == 0);
-if (i0) { goto l2; }
+if (!i0) {
 fio2070_trap();
-fio2070_trap();
-l2:;
+}
 j0 = v0;
 j1 = v1;
 p1 = read_at(j1, m, 4u);
@@ -23190,12 +23464,12 @@ uint32_t i1;
 uint64_t j0;
 uint64_t j1;
 uint64_t j2;
-uint32_t r;
+uint32_t r = 0;
 uint8_t *p1;
 j0 = m->g0;
 j1 = UINT64_C(16);
 i0 = (SIGNED64(j0) < SIGNED64(j1));
-if (i0) { goto l2; }
+if (!i0) {
 i0 = UINT32_C(1);
 v2 = i0;
 i0 = v1;
@@ -23205,7 +23479,7 @@ i1 = UINT32_C(65535);
 i0 = i0 & i1;
 i1 = UINT32_C(8191);
 i0 = (i0 > i1);
-if (i0) { goto l3; }
+if (!i0) {
 i0 = v1;
 i1 = UINT32_C(16);
 i0 = i0 >> (i1 & 31);
@@ -23213,7 +23487,7 @@ v3 = i0;
 i1 = UINT32_C(255);
 i0 = i0 & i1;
 i0 = (i0 == 0);
-if (i0) { goto l3; }
+if (!i0) {
 j0 = v0;
 j1 = UINT64_C(18446744073709551615);
 p1 = write_at(j0, m, 728u);
@@ -23319,11 +23593,12 @@ store64(p1 + 716, j1);
 j0 = v0;
 j1 = UINT64_C(0);
 store64(p1 + 708, j1);
-l3:;
+}
+}
 i0 = v2;
 r = i0;
 return r;
-l2:;
+}
 fio2070_trap();
 return r;
 }
@@ -23336,17 +23611,15 @@ uint64_t j2;
 uint64_t j3;
 i0 = rattle_enter(m);
 i0 = (i0 == 0);
-if (i0) { goto l2; }
+if (!i0) {
 fio2070_trap();
-fio2070_trap();
-l2:;
+}
 j0 = v0;
 j1 = v1;
 j2 = v2;
 j3 = v3;
 proved_filters_configure(m, j0, j1, j2, j3);
 rattle_leave(m);
-return;
 }
 static void proved_filters_configure(struct machine *m, uint64_t v0, uint64_t v1, uint64_t v2, uint64_t v3)
 {
@@ -23381,11 +23654,11 @@ uint8_t *p13;
 j0 = m->g0;
 j1 = UINT64_C(16);
 i0 = (SIGNED64(j0) < SIGNED64(j1));
-if (i0) { goto l4; }
+if (!i0) {
 j0 = v3;
 j1 = UINT64_C(256);
 i0 = (j0 < j1);
-if (i0) { goto l5; }
+if (!i0) {
 j0 = v0;
 j1 = UINT64_C(0);
 p1 = write_at(j0, m, 16u);
@@ -23397,10 +23670,10 @@ j0 = v0;
 j1 = UINT64_C(0);
 store64(p1 + 8, j1);
 return;
-l5:;
+}
 j0 = v3;
 i0 = (j0 == 0);
-if (i0) { goto l6; }
+if (!i0) {
 j0 = UINT64_C(0);
 v4 = j0;
 j0 = v2;
@@ -23552,7 +23825,7 @@ j0 = v0;
 j1 = v4;
 store64(p10 + 8, j1);
 return;
-l6:;
+}
 j0 = v1;
 j1 = UINT64_C(192);
 j0 = j0 + j1;
@@ -23561,6 +23834,7 @@ p11 = read_at(j0, m, 8u);
 j0 = load64(p11 + 0);
 v4 = j0;
 goto l3;
+}
 l4:;
 fio2070_trap();
 l3:;
@@ -23576,7 +23850,6 @@ store64(p13 + 8, j1);
 j0 = v0;
 j1 = UINT64_C(0);
 store64(p13 + 0, j1);
-return;
 }
 static void enter_sized_module_scan(struct machine *m, uint64_t v0, uint64_t v1, uint64_t v2, uint64_t v3)
 {
@@ -23587,17 +23860,15 @@ uint64_t j2;
 uint64_t j3;
 i0 = rattle_enter(m);
 i0 = (i0 == 0);
-if (i0) { goto l2; }
+if (!i0) {
 fio2070_trap();
-fio2070_trap();
-l2:;
+}
 j0 = v0;
 j1 = v1;
 j2 = v2;
 j3 = v3;
 proved_sized_module_scan(m, j0, j1, j2, j3);
 rattle_leave(m);
-return;
 }
 static void proved_sized_module_scan(struct machine *m, uint64_t v0, uint64_t v1, uint64_t v2, uint64_t v3)
 {
@@ -23641,7 +23912,7 @@ j0 = m->g0;
 v4 = j0;
 j1 = UINT64_C(16);
 i0 = (SIGNED64(j0) < SIGNED64(j1));
-if (i0) { goto l4; }
+if (!i0) {
 j0 = v0;
 j1 = UINT64_C(248);
 j0 = j0 + j1;
@@ -23813,7 +24084,7 @@ store8(p4 + 0, i1);
 i0 = v13;
 i1 = v10;
 i0 = (i0 < i1);
-if (i0) { goto l7; }
+if (!i0) {
 j0 = v0;
 j1 = UINT64_C(4);
 j0 = j0 + j1;
@@ -23831,7 +24102,7 @@ i2 = UINT32_C(1);
 i1 = i1 + i2;
 store16(p5 + 1028, i1);
 goto l6;
-l7:;
+}
 j0 = v7;
 i1 = v17;
 i2 = UINT32_C(1);
@@ -23849,7 +24120,7 @@ i0 = (j0 == 0);
 i0 = (i0 == 0);
 if (i0) { goto l5; }
 goto l2;
-l4:;
+}
 fio2070_trap();
 l3:;
 j0 = v0;
@@ -23858,7 +24129,7 @@ j0 = j0 + j1;
 i1 = UINT32_C(1);
 p7 = write_at(j0, m, 1u);
 store8(p7 + 0, i1);
-l8:;
+for (;;) {
 j0 = v3;
 j1 = UINT64_C(18446744073709551615);
 j0 = j0 + j1;
@@ -23867,11 +24138,11 @@ j0 = j0 & j1;
 v3 = j0;
 i0 = (j0 == 0);
 i0 = (i0 == 0);
-if (i0) { goto l8; }
+if (!i0) break;
+}
 l2:;
 j0 = v4;
 m->g0 = j0;
-return;
 }
 static uint32_t enter_checker_heard(struct machine *m, uint64_t v0, uint64_t v1, uint64_t v2, uint64_t v3)
 {
@@ -23881,13 +24152,12 @@ uint64_t j0;
 uint64_t j1;
 uint64_t j2;
 uint64_t j3;
-uint32_t r;
+uint32_t r = 0;
 i0 = rattle_enter(m);
 i0 = (i0 == 0);
-if (i0) { goto l2; }
+if (!i0) {
 fio2070_trap();
-fio2070_trap();
-l2:;
+}
 j0 = v0;
 j1 = v1;
 j2 = v2;
@@ -23929,7 +24199,7 @@ uint64_t j2;
 uint64_t j3;
 uint64_t j4;
 uint64_t j5;
-uint32_t r;
+uint32_t r = 0;
 uint8_t *p1;
 uint8_t *p2;
 uint8_t *p3;
@@ -23943,7 +24213,7 @@ j0 = v4;
 v4 = j0;
 j1 = UINT64_C(16);
 i0 = (SIGNED64(j0) < SIGNED64(j1));
-if (i0) { goto l2; }
+if (!i0) {
 i0 = UINT32_C(0);
 v5 = i0;
 j0 = v4;
@@ -24178,7 +24448,7 @@ i1 = i3 ? i1 : i2;
 store8(p2 + 7, i1);
 i0 = v10;
 i0 = (i0 == 0);
-if (i0) { goto l3; }
+if (!i0) {
 i0 = v17;
 i1 = UINT32_C(16);
 i0 = i0 << (i1 & 31);
@@ -24196,7 +24466,7 @@ i2 = UINT32_C(255);
 i1 = i1 & i2;
 i0 = i0 | i1;
 v5 = i0;
-l3:;
+}
 j0 = v3;
 i1 = v5;
 p3 = write_at(j0, m, 4u);
@@ -24210,7 +24480,7 @@ i1 = UINT32_C(255);
 i0 = i0 & i1;
 r = i0;
 return r;
-l2:;
+}
 fio2070_trap();
 return r;
 }
@@ -24222,13 +24492,12 @@ uint64_t j0;
 uint64_t j1;
 uint64_t j2;
 uint64_t j3;
-uint32_t r;
+uint32_t r = 0;
 i0 = rattle_enter(m);
 i0 = (i0 == 0);
-if (i0) { goto l2; }
+if (!i0) {
 fio2070_trap();
-fio2070_trap();
-l2:;
+}
 j0 = v0;
 j1 = v1;
 j2 = v2;
@@ -24270,7 +24539,7 @@ uint64_t j2;
 uint64_t j3;
 uint64_t j4;
 uint64_t j5;
-uint32_t r;
+uint32_t r = 0;
 uint8_t *p1;
 uint8_t *p2;
 uint8_t *p3;
@@ -24284,7 +24553,7 @@ j0 = v4;
 v4 = j0;
 j1 = UINT64_C(16);
 i0 = (SIGNED64(j0) < SIGNED64(j1));
-if (i0) { goto l2; }
+if (!i0) {
 i0 = UINT32_C(0);
 v5 = i0;
 j0 = v4;
@@ -24519,7 +24788,7 @@ i1 = i3 ? i1 : i2;
 store8(p2 + 7, i1);
 i0 = v10;
 i0 = (i0 == 0);
-if (i0) { goto l3; }
+if (!i0) {
 i0 = v17;
 i1 = UINT32_C(16);
 i0 = i0 << (i1 & 31);
@@ -24537,7 +24806,7 @@ i2 = UINT32_C(255);
 i1 = i1 & i2;
 i0 = i0 | i1;
 v5 = i0;
-l3:;
+}
 j0 = v3;
 i1 = v5;
 p3 = write_at(j0, m, 4u);
@@ -24551,7 +24820,7 @@ i1 = UINT32_C(255);
 i0 = i0 & i1;
 r = i0;
 return r;
-l2:;
+}
 fio2070_trap();
 return r;
 }
@@ -24561,14 +24830,12 @@ uint32_t i0;
 uint64_t j0;
 i0 = rattle_enter(m);
 i0 = (i0 == 0);
-if (i0) { goto l2; }
+if (!i0) {
 fio2070_trap();
-fio2070_trap();
-l2:;
+}
 j0 = v0;
 proved_judge_lose(m, j0);
 rattle_leave(m);
-return;
 }
 static void proved_judge_lose(struct machine *m, uint64_t v0)
 {
@@ -24606,7 +24873,7 @@ uint8_t *p3;
 j0 = m->g0;
 j1 = UINT64_C(16);
 i0 = (SIGNED64(j0) < SIGNED64(j1));
-if (i0) { goto l2; }
+if (!i0) {
 j0 = v0;
 j1 = UINT64_C(716);
 j0 = j0 + j1;
@@ -24660,7 +24927,7 @@ v19 = j0;
 i0 = load8(p1 + 32);
 i1 = UINT32_C(2);
 i0 = (i0 != i1);
-if (i0) { goto l3; }
+if (!i0) {
 j0 = v0;
 j1 = UINT64_C(697);
 j0 = j0 + j1;
@@ -24730,7 +24997,7 @@ i0 = (i0 != i1);
 v12 = i0;
 i0 = UINT32_C(2);
 v16 = i0;
-l3:;
+}
 j0 = v0;
 i1 = UINT32_C(0);
 p2 = write_at(j0 + UINT64_C(672), m, 56u);
@@ -24825,9 +25092,500 @@ i3 = (i3 > i4);
 i1 = i3 ? i1 : i2;
 store8(p2 + 0, i1);
 return;
-l2:;
+}
 fio2070_trap();
-return;
+}
+static uint32_t enter_plan(struct machine *m, uint64_t v0, uint64_t v1)
+{
+uint32_t v2 = 0;
+uint32_t i0;
+uint64_t j0;
+uint64_t j1;
+uint32_t r = 0;
+i0 = rattle_enter(m);
+i0 = (i0 == 0);
+if (!i0) {
+fio2070_trap();
+}
+j0 = v0;
+j1 = v1;
+i0 = proved_plan(m, j0, j1);
+v2 = i0;
+rattle_leave(m);
+i0 = v2;
+r = i0;
+return r;
+}
+static uint32_t proved_plan(struct machine *m, uint64_t v0, uint64_t v1)
+{
+uint32_t v2 = 0;
+uint32_t v3 = 0;
+uint32_t v4 = 0;
+uint32_t v5 = 0;
+uint64_t v6 = 0;
+uint32_t v7 = 0;
+uint64_t v8 = 0;
+uint64_t v9 = 0;
+uint64_t v10 = 0;
+uint64_t v11 = 0;
+uint64_t v12 = 0;
+uint32_t v13 = 0;
+uint64_t v14 = 0;
+uint64_t v15 = 0;
+uint64_t v16 = 0;
+uint64_t v17 = 0;
+uint64_t v18 = 0;
+uint64_t v19 = 0;
+uint64_t v20 = 0;
+uint64_t v21 = 0;
+uint64_t v22 = 0;
+uint64_t v23 = 0;
+uint64_t v24 = 0;
+uint64_t v25 = 0;
+uint64_t v26 = 0;
+uint64_t v27 = 0;
+uint64_t v28 = 0;
+uint32_t i0;
+uint32_t i1;
+uint32_t i2;
+uint32_t i3;
+uint32_t i4;
+uint32_t i5;
+uint64_t j0;
+uint64_t j1;
+uint64_t j2;
+uint64_t j3;
+uint64_t j4;
+uint64_t j5;
+uint32_t r = 0;
+uint8_t *p1;
+uint8_t *p2;
+uint8_t *p3;
+uint8_t *p4;
+j0 = m->g0;
+j1 = UINT64_C(16);
+i0 = (SIGNED64(j0) < SIGNED64(j1));
+if (!i0) {
+i0 = UINT32_C(2);
+v2 = i0;
+j0 = v0;
+p1 = read_at(j0, m, 4u);
+i0 = load32(p1 + 0);
+v3 = i0;
+i0 = (i0 == 0);
+if (!i0) {
+j0 = v0;
+p2 = read_at(j0 + UINT64_C(17), m, 1u);
+i0 = load8(p2 + 0);
+v4 = i0;
+i1 = UINT32_C(255);
+i0 = i0 & i1;
+v5 = i0;
+i0 = (i0 == 0);
+if (!i0) {
+i0 = v5;
+i1 = UINT32_C(64);
+i0 = (i0 > i1);
+if (!i0) {
+j0 = v0;
+p3 = read_at(j0 + UINT64_C(4), m, 16u);
+j0 = load32(p3 + 0);
+v6 = j0;
+j0 = v0;
+i0 = load8(p3 + 14);
+i1 = UINT32_C(255);
+i0 = i0 & i1;
+v2 = i0;
+i1 = UINT32_C(1);
+i2 = v2;
+i3 = UINT32_C(1);
+i2 = (i2 > i3);
+i0 = i2 ? i0 : i1;
+v7 = i0;
+j0 = (uint64_t)i0;
+v8 = j0;
+j1 = v0;
+j1 = load16(p3 + 10);
+j0 = j0 * j1;
+v9 = j0;
+j0 = v8;
+j1 = v0;
+j1 = load8(p3 + 12);
+v10 = j1;
+j0 = j0 * j1;
+v11 = j0;
+i0 = v7;
+i1 = UINT32_C(4294967295);
+i0 = i0 + i1;
+j0 = (uint64_t)i0;
+j1 = UINT64_C(255);
+j0 = j0 & j1;
+v12 = j0;
+j0 = v0;
+i0 = load8(p3 + 15);
+v13 = i0;
+j0 = (uint64_t)i0;
+j1 = UINT64_C(255);
+j0 = j0 & j1;
+v14 = j0;
+j1 = UINT64_C(14);
+j0 = j0 * j1;
+j1 = UINT64_C(126);
+j0 = j0 + j1;
+v15 = j0;
+j1 = UINT64_C(73);
+i2 = v13;
+i3 = UINT32_C(255);
+i2 = i2 & i3;
+v2 = i2;
+j0 = i2 ? j0 : j1;
+j1 = v0;
+j1 = load32(p3 + 4);
+v16 = j1;
+j0 = j0 + j1;
+j1 = UINT64_C(1000);
+j0 = j0 * j1;
+i1 = v3;
+j1 = (uint64_t)i1;
+v17 = j1;
+j2 = UINT64_C(18446744073709551615);
+j1 = j1 + j2;
+v18 = j1;
+j0 = j0 + j1;
+v19 = j0;
+j0 = UINT64_C(1);
+v20 = j0;
+j0 = v0;
+j0 = load16(p3 + 8);
+v21 = j0;
+j1 = UINT64_C(1);
+j0 = j0 << (j1 & 63);
+j1 = UINT64_C(1);
+j0 = j0 | j1;
+v22 = j0;
+j0 = v21;
+j1 = UINT64_C(1);
+j0 = j0 + j1;
+v23 = j0;
+i1 = v4;
+j1 = (uint64_t)i1;
+j2 = UINT64_C(255);
+j1 = j1 & j2;
+v0 = j1;
+j0 = j0 * j1;
+v24 = j0;
+j0 = v14;
+j1 = UINT64_C(9);
+j0 = j0 + j1;
+v25 = j0;
+i0 = v2;
+i0 = (i0 == 0);
+if (!i0) {
+j0 = v15;
+j1 = v16;
+j0 = j0 + j1;
+v26 = j0;
+j0 = UINT64_C(0);
+v27 = j0;
+l6:;
+j0 = v27;
+j1 = v24;
+j0 = j0 + j1;
+v27 = j0;
+j1 = v11;
+i0 = (j0 <= j1);
+if (!i0) {
+i0 = UINT32_C(1);
+r = i0;
+return r;
+}
+i0 = UINT32_C(1);
+v2 = i0;
+j0 = v26;
+j1 = v25;
+j2 = v19;
+j3 = v17;
+j2 = divide64(j2, j3);
+j3 = v20;
+j4 = v22;
+j3 = j3 * j4;
+j2 = j2 + j3;
+v14 = j2;
+j3 = v14;
+j4 = UINT64_C(0);
+i3 = (j3 != j4);
+j3 = (uint64_t)i3;
+j2 = j2 - j3;
+j3 = v8;
+j2 = divide64(j2, j3);
+j3 = UINT64_C(1);
+j2 = j2 + j3;
+j3 = v0;
+j2 = j2 * j3;
+v28 = j2;
+j3 = v10;
+j4 = v28;
+j5 = v10;
+i4 = (j4 < j5);
+j2 = i4 ? j2 : j3;
+i2 = (uint32_t)j2;
+i3 = UINT32_C(3);
+i2 = i2 * i3;
+i3 = UINT32_C(8);
+i2 = i2 + i3;
+v3 = i2;
+i3 = UINT32_C(1);
+i2 = i2 << (i3 & 31);
+i3 = UINT32_C(10);
+i2 = i2 + i3;
+j2 = (uint64_t)i2;
+j3 = UINT64_C(65534);
+j2 = j2 & j3;
+j1 = j1 * j2;
+j0 = j0 + j1;
+j1 = UINT64_C(1000);
+j0 = j0 * j1;
+j1 = v18;
+j0 = j0 + j1;
+j1 = v17;
+j0 = divide64(j0, j1);
+j1 = v6;
+j0 = j0 + j1;
+j1 = v20;
+i0 = (j0 > j1);
+if (!i0) {
+j0 = v14;
+j1 = v12;
+j0 = j0 + j1;
+j1 = v0;
+j0 = j0 * j1;
+j1 = v9;
+i0 = (j0 <= j1);
+if (i0) { goto l2; }
+}
+j0 = v20;
+j1 = UINT64_C(1);
+j0 = j0 + j1;
+v20 = j0;
+j1 = UINT64_C(65026);
+i0 = (j0 != j1);
+if (i0) { goto l6; }
+goto l4;
+}
+j0 = v16;
+j1 = UINT64_C(73);
+j0 = j0 + j1;
+v26 = j0;
+j0 = UINT64_C(0);
+v27 = j0;
+j0 = UINT64_C(1);
+v20 = j0;
+l9:;
+i0 = UINT32_C(1);
+v2 = i0;
+j0 = v27;
+j1 = v24;
+j0 = j0 + j1;
+v27 = j0;
+j1 = v11;
+i0 = (j0 > j1);
+if (i0) { goto l4; }
+j0 = v26;
+j1 = v19;
+j2 = v17;
+j1 = divide64(j1, j2);
+j2 = v20;
+j3 = v22;
+j2 = j2 * j3;
+j1 = j1 + j2;
+v14 = j1;
+j2 = v14;
+j3 = UINT64_C(0);
+i2 = (j2 != j3);
+j2 = (uint64_t)i2;
+j1 = j1 - j2;
+j2 = v8;
+j1 = divide64(j1, j2);
+j2 = UINT64_C(1);
+j1 = j1 + j2;
+j2 = v0;
+j1 = j1 * j2;
+v28 = j1;
+j2 = v10;
+j3 = v28;
+j4 = v10;
+i3 = (j3 < j4);
+j1 = i3 ? j1 : j2;
+i1 = (uint32_t)j1;
+i2 = UINT32_C(3);
+i1 = i1 * i2;
+i2 = UINT32_C(8);
+i1 = i1 + i2;
+v3 = i1;
+i2 = UINT32_C(3);
+i1 = i1 << (i2 & 31);
+v5 = i1;
+i2 = v5;
+i3 = UINT32_C(32);
+i2 = i2 + i3;
+i3 = UINT32_C(65528);
+i2 = i2 & i3;
+i3 = UINT32_C(5);
+i2 = divide32(i2, i3);
+i1 = i1 + i2;
+i2 = UINT32_C(48);
+i1 = i1 + i2;
+j1 = (uint64_t)i1;
+j2 = UINT64_C(65535);
+j1 = j1 & j2;
+j0 = j0 + j1;
+j1 = UINT64_C(1000);
+j0 = j0 * j1;
+j1 = v18;
+j0 = j0 + j1;
+j1 = v17;
+j0 = divide64(j0, j1);
+j1 = v6;
+j0 = j0 + j1;
+j1 = v20;
+i0 = (j0 > j1);
+if (!i0) {
+j0 = v14;
+j1 = v12;
+j0 = j0 + j1;
+j1 = v0;
+j0 = j0 * j1;
+j1 = v9;
+i0 = (j0 <= j1);
+if (i0) { goto l2; }
+}
+j0 = v20;
+j1 = UINT64_C(1);
+j0 = j0 + j1;
+v20 = j0;
+j1 = UINT64_C(65026);
+i0 = (j0 != j1);
+if (i0) { goto l9; }
+}
+}
+}
+l4:;
+i0 = v2;
+r = i0;
+return r;
+}
+fio2070_trap();
+l2:;
+j0 = v20;
+i0 = (uint32_t)j0;
+v2 = i0;
+i0 = v13;
+i1 = UINT32_C(255);
+i0 = i0 & i1;
+i0 = (i0 == 0);
+if (!i0) {
+j0 = v25;
+i1 = v3;
+i2 = UINT32_C(1);
+i1 = i1 << (i2 & 31);
+i2 = UINT32_C(10);
+i1 = i1 + i2;
+j1 = (uint64_t)i1;
+j2 = UINT64_C(65534);
+j1 = j1 & j2;
+j0 = j0 * j1;
+v14 = j0;
+goto l11;
+}
+i0 = v3;
+i1 = UINT32_C(3);
+i0 = i0 << (i1 & 31);
+v3 = i0;
+i1 = v3;
+i2 = UINT32_C(32);
+i1 = i1 + i2;
+i2 = UINT32_C(65528);
+i1 = i1 & i2;
+i2 = UINT32_C(5);
+i1 = divide32(i1, i2);
+i0 = i0 + i1;
+i1 = UINT32_C(48);
+i0 = i0 + i1;
+j0 = (uint64_t)i0;
+j1 = UINT64_C(65535);
+j0 = j0 & j1;
+v14 = j0;
+j0 = UINT64_C(73);
+v15 = j0;
+l11:;
+j0 = v1;
+j1 = v20;
+p4 = write_at(j0, m, 32u);
+store64(p4 + 0, j1);
+j0 = v1;
+j1 = v20;
+j2 = v17;
+j1 = j1 * j2;
+v27 = j1;
+j2 = v14;
+j3 = v16;
+j2 = j2 + j3;
+j3 = v15;
+j2 = j2 + j3;
+v14 = j2;
+j3 = UINT64_C(1000000);
+j2 = j2 * j3;
+j1 = j1 + j2;
+j2 = UINT64_C(18446744073709551615);
+j1 = j1 + j2;
+j2 = v27;
+j1 = divide64(j1, j2);
+store64(p4 + 24, j1);
+j0 = v1;
+j1 = v14;
+j2 = UINT64_C(1000);
+j1 = j1 * j2;
+j2 = v18;
+j1 = j1 + j2;
+j2 = v17;
+j1 = divide64(j1, j2);
+j2 = v6;
+j1 = j1 + j2;
+v17 = j1;
+store64(p4 + 8, j1);
+j0 = v1;
+j1 = v20;
+j2 = v23;
+j3 = v21;
+j2 = j2 + j3;
+j1 = j1 * j2;
+j2 = v17;
+j1 = j1 + j2;
+j2 = v12;
+j3 = UINT64_C(0);
+i4 = v2;
+j5 = v23;
+i5 = (uint32_t)j5;
+i4 = i4 * i5;
+i5 = UINT32_C(4294967295);
+i4 = i4 + i5;
+i5 = v7;
+i4 = divide32(i4, i5);
+j4 = (uint64_t)i4;
+j5 = UINT64_C(1);
+j4 = j4 + j5;
+j5 = v0;
+j4 = j4 * j5;
+j5 = v10;
+i4 = (j4 > j5);
+j2 = i4 ? j2 : j3;
+j1 = j1 + j2;
+j2 = UINT64_C(18446744073709551615);
+j1 = j1 + j2;
+store64(p4 + 16, j1);
+i0 = UINT32_C(0);
+r = i0;
+return r;
 }
 static void enter_poller_hear(struct machine *m, uint64_t v0, uint64_t v1, uint64_t v2, uint64_t v3, uint64_t v4, uint64_t v5)
 {
@@ -24840,10 +25598,9 @@ uint64_t j4;
 uint64_t j5;
 i0 = rattle_enter(m);
 i0 = (i0 == 0);
-if (i0) { goto l2; }
+if (!i0) {
 fio2070_trap();
-fio2070_trap();
-l2:;
+}
 j0 = v0;
 j1 = v1;
 j2 = v2;
@@ -24852,7 +25609,6 @@ j4 = v4;
 j5 = v5;
 proved_poller_hear(m, j0, j1, j2, j3, j4, j5);
 rattle_leave(m);
-return;
 }
 static void proved_poller_hear(struct machine *m, uint64_t v0, uint64_t v1, uint64_t v2, uint64_t v3, uint64_t v4, uint64_t v5)
 {
@@ -24898,7 +25654,7 @@ p1 = write_at(j0, m, 16u);
 v6 = j0;
 j1 = UINT64_C(16);
 i0 = (SIGNED64(j0) < SIGNED64(j1));
-if (i0) { goto l2; }
+if (!i0) {
 j0 = UINT64_C(0);
 v7 = j0;
 i0 = UINT32_C(1);
@@ -24908,7 +25664,7 @@ v9 = i0;
 j0 = v3;
 i0 = (j0 == 0);
 i0 = (i0 == 0);
-if (i0) { goto l7; }
+if (!i0) {
 i0 = UINT32_C(0);
 v10 = i0;
 i0 = UINT32_C(0);
@@ -24916,7 +25672,7 @@ v11 = i0;
 i0 = UINT32_C(1);
 v12 = i0;
 goto l6;
-l7:;
+}
 j0 = UINT64_C(8);
 v13 = j0;
 j0 = v2;
@@ -24982,7 +25738,7 @@ if (i0) { goto l12; }
 i0 = v11;
 i1 = UINT32_C(180);
 i0 = (i0 < i1);
-if (i0) { goto l14; }
+if (!i0) {
 i0 = v11;
 i1 = UINT32_C(182);
 i0 = (i0 >= i1);
@@ -24990,6 +25746,7 @@ if (i0) { goto l13; }
 j0 = UINT64_C(13);
 v13 = j0;
 goto l11;
+}
 l14:;
 j0 = UINT64_C(2);
 v13 = j0;
@@ -25026,7 +25783,7 @@ l9:;
 j0 = v13;
 j1 = v3;
 i0 = (j0 != j1);
-if (i0) { goto l17; }
+if (!i0) {
 i0 = v11;
 i1 = UINT32_C(4294967119);
 i0 = i0 + i1;
@@ -25133,7 +25890,7 @@ j1 = v1;
 p6 = read_at(j1, m, 1u);
 i1 = load8(p6 + 0);
 i0 = (i0 != i1);
-if (i0) { goto l24; }
+if (!i0) {
 j0 = v5;
 j1 = v13;
 p7 = read_at(j1, m, 1u);
@@ -25161,7 +25918,7 @@ i1 = UINT32_C(63);
 i0 = i0 & i1;
 i1 = UINT32_C(1);
 i0 = i0 & i1;
-if (i0) { goto l27; }
+if (!i0) {
 i0 = v8;
 i1 = UINT32_C(255);
 i0 = i0 & i1;
@@ -25216,7 +25973,7 @@ i1 = UINT32_C(127);
 i0 = i0 & i1;
 v18 = i0;
 goto l26;
-l27:;
+}
 i0 = UINT32_C(0);
 v10 = i0;
 j0 = v6;
@@ -25268,7 +26025,7 @@ store16(p9 + 6, i1);
 j0 = v3;
 j1 = UINT64_C(3);
 i0 = (j0 < j1);
-if (i0) { goto l25; }
+if (!i0) {
 j0 = v3;
 i0 = (uint32_t)j0;
 i1 = UINT32_C(4294967293);
@@ -25286,7 +26043,7 @@ v5 = j0;
 j0 = UINT64_C(0);
 v2 = j0;
 p10 = read_at(v7 + UINT64_C(0), m, run(3u, 3u, turns(v5, v2, 12u)));
-l28:;
+for (;;) {
 j0 = v7;
 j1 = UINT64_C(1);
 j0 = j0 + j1;
@@ -25361,7 +26118,10 @@ j2 = UINT64_C(12);
 j1 = j1 + j2;
 v2 = j1;
 i0 = (j0 != j1);
-if (i0) { p10 += 3; goto l28; }
+if (!i0) break;
+p10 += 3;
+}
+}
 l25:;
 j0 = v1;
 j1 = v1;
@@ -25387,7 +26147,7 @@ v7 = j0;
 i0 = UINT32_C(0);
 v9 = i0;
 goto l4;
-l24:;
+}
 i0 = UINT32_C(0);
 v9 = i0;
 j0 = v6;
@@ -25425,7 +26185,7 @@ v8 = i0;
 i0 = UINT32_C(0);
 v14 = i0;
 goto l5;
-l17:;
+}
 j0 = v13;
 i0 = (uint32_t)j0;
 v10 = i0;
@@ -25511,9 +26271,9 @@ j0 = v0;
 i1 = v12;
 store8(p13 + 16, i1);
 return;
+}
 l2:;
 fio2070_trap();
-return;
 }
 static uint32_t enter_judge_heard(struct machine *m, uint64_t v0, uint64_t v1, uint64_t v2, uint64_t v3)
 {
@@ -25523,13 +26283,12 @@ uint64_t j0;
 uint64_t j1;
 uint64_t j2;
 uint64_t j3;
-uint32_t r;
+uint32_t r = 0;
 i0 = rattle_enter(m);
 i0 = (i0 == 0);
-if (i0) { goto l2; }
+if (!i0) {
 fio2070_trap();
-fio2070_trap();
-l2:;
+}
 j0 = v0;
 j1 = v1;
 j2 = v2;
@@ -25555,7 +26314,7 @@ uint64_t j4;
 uint64_t j5;
 uint64_t j6;
 uint64_t j7;
-uint32_t r;
+uint32_t r = 0;
 uint8_t *p2;
 uint8_t *p3;
 j0 = m->g0;
@@ -25567,9 +26326,9 @@ j0 = v4;
 v4 = j0;
 j1 = UINT64_C(15);
 i0 = (SIGNED64(j0) > SIGNED64(j1));
-if (i0) { goto l2; }
+if (!i0) {
 fio2070_trap();
-l2:;
+}
 j0 = v4;
 i1 = UINT32_C(0);
 p2 = write_at(j0, m, 10u);
@@ -25619,13 +26378,12 @@ uint64_t j0;
 uint64_t j2;
 uint64_t j3;
 uint64_t j4;
-uint32_t r;
+uint32_t r = 0;
 i0 = rattle_enter(m);
 i0 = (i0 == 0);
-if (i0) { goto l2; }
+if (!i0) {
 fio2070_trap();
-fio2070_trap();
-l2:;
+}
 j0 = v0;
 i1 = v1;
 j2 = v2;
@@ -25652,7 +26410,7 @@ uint64_t j4;
 uint64_t j5;
 uint64_t j6;
 uint64_t j7;
-uint32_t r;
+uint32_t r = 0;
 uint8_t *p2;
 uint8_t *p3;
 j0 = m->g0;
@@ -25664,9 +26422,9 @@ j0 = v5;
 v5 = j0;
 j1 = UINT64_C(15);
 i0 = (SIGNED64(j0) > SIGNED64(j1));
-if (i0) { goto l2; }
+if (!i0) {
 fio2070_trap();
-l2:;
+}
 j0 = v5;
 i1 = UINT32_C(0);
 p2 = write_at(j0, m, 10u);
@@ -25718,13 +26476,12 @@ uint64_t j3;
 uint64_t j4;
 uint64_t j5;
 uint64_t j6;
-uint64_t r;
+uint64_t r = 0;
 i0 = rattle_enter(m);
 i0 = (i0 == 0);
-if (i0) { goto l2; }
+if (!i0) {
 fio2070_trap();
-fio2070_trap();
-l2:;
+}
 j0 = v0;
 j1 = v1;
 j2 = v2;
@@ -25762,7 +26519,7 @@ uint64_t j2;
 uint64_t j3;
 uint64_t j4;
 uint64_t j5;
-uint64_t r;
+uint64_t r = 0;
 uint8_t *p2;
 uint8_t *p3;
 uint8_t *p4;
@@ -25786,7 +26543,7 @@ j0 = v7;
 v8 = j0;
 j1 = UINT64_C(16);
 i0 = (SIGNED64(j0) < SIGNED64(j1));
-if (i0) { goto l7; }
+if (!i0) {
 j0 = v6;
 j1 = v0;
 j2 = UINT64_C(1);
@@ -25864,13 +26621,13 @@ l15:;
 j0 = v4;
 j1 = UINT64_C(1);
 i0 = (j0 != j1);
-if (i0) { goto l17; }
+if (!i0) {
 j0 = UINT64_C(0);
 v12 = j0;
 j0 = UINT64_C(2);
 v9 = j0;
 goto l8;
-l17:;
+}
 j0 = v3;
 j1 = UINT64_C(1);
 j0 = j0 + j1;
@@ -25919,11 +26676,11 @@ j1 = UINT64_C(773);
 i0 = (j0 > j1);
 if (i0) { goto l2; }
 i0 = v10;
-if (i0) { goto l18; }
+if (!i0) {
 j0 = UINT64_C(18446744073709551615);
 v7 = j0;
 goto l2;
-l18:;
+}
 j0 = v4;
 j1 = UINT64_C(18446744073709551615);
 j0 = j0 + j1;
@@ -26128,6 +26885,7 @@ v15 = i0;
 i0 = UINT32_C(0);
 v13 = i0;
 goto l3;
+}
 l7:;
 fio2070_trap();
 l6:;
@@ -26190,7 +26948,7 @@ j1 = UINT64_C(0);
 store64(p10 + 0, j1);
 i0 = v10;
 i0 = (i0 == 0);
-if (i0) { goto l31; }
+if (!i0) {
 j0 = v0;
 j1 = v8;
 j2 = UINT64_C(24);
@@ -26221,7 +26979,7 @@ v6 = j1;
 j0 = j0 - j1;
 j1 = v7;
 i0 = (j0 >= j1);
-if (i0) { goto l32; }
+if (!i0) {
 j0 = v7;
 j1 = UINT64_C(3);
 j0 = j0 & j1;
@@ -26231,14 +26989,14 @@ v4 = j0;
 i0 = v10;
 i1 = UINT32_C(4);
 i0 = (i0 < i1);
-if (i0) { goto l33; }
+if (!i0) {
 j0 = v7;
 j1 = UINT64_C(1020);
 j0 = j0 & j1;
 v2 = j0;
 j0 = UINT64_C(0);
 v4 = j0;
-l34:;
+for (;;) {
 j0 = v9;
 j1 = v4;
 j0 = j0 + j1;
@@ -26283,11 +27041,12 @@ j2 = UINT64_C(4);
 j1 = j1 + j2;
 v4 = j1;
 i0 = (j0 != j1);
-if (i0) { goto l34; }
+if (!i0) break;
+}
 j0 = v1;
 i0 = (j0 == 0);
 if (i0) { goto l2; }
-l33:;
+}
 j0 = v5;
 j1 = v12;
 j2 = v4;
@@ -26323,7 +27082,7 @@ j1 = UINT64_C(0);
 i0 = (j0 != j1);
 if (i0) { goto l35; }
 goto l2;
-l32:;
+}
 j0 = v7;
 i0 = (j0 == 0);
 if (i0) { goto l2; }
@@ -26332,7 +27091,7 @@ j1 = v6;
 j2 = v7;
 copy(m, j0, j1, j2);
 goto l2;
-l31:;
+}
 j0 = v8;
 j1 = v16;
 store64(p10 + 16, j1);
@@ -26375,13 +27134,12 @@ uint32_t i0;
 uint64_t j0;
 uint64_t j1;
 uint64_t j2;
-uint64_t r;
+uint64_t r = 0;
 i0 = rattle_enter(m);
 i0 = (i0 == 0);
-if (i0) { goto l2; }
+if (!i0) {
 fio2070_trap();
-fio2070_trap();
-l2:;
+}
 j0 = v0;
 j1 = v1;
 j2 = v2;
@@ -26402,17 +27160,17 @@ uint64_t j0;
 uint64_t j1;
 uint64_t j2;
 uint64_t j3;
-uint64_t r;
+uint64_t r = 0;
 uint8_t *p1;
 uint8_t *p2;
 j0 = m->g0;
 j1 = UINT64_C(16);
 i0 = (SIGNED64(j0) < SIGNED64(j1));
-if (i0) { goto l2; }
+if (!i0) {
 j0 = v2;
 j1 = UINT64_C(2);
 i0 = (j0 < j1);
-if (i0) { goto l3; }
+if (!i0) {
 j0 = v1;
 j1 = UINT64_C(4096);
 j2 = UINT64_C(0);
@@ -26429,11 +27187,11 @@ i2 = UINT32_C(54);
 i1 = i1 | i2;
 p2 = write_at(j0, m, 2u);
 store16(p2 + 0, i1);
-l3:;
+}
 j0 = UINT64_C(2);
 r = j0;
 return r;
-l2:;
+}
 fio2070_trap();
 return r;
 }
@@ -26444,13 +27202,12 @@ uint64_t j0;
 uint64_t j1;
 uint64_t j2;
 uint64_t j3;
-uint64_t r;
+uint64_t r = 0;
 i0 = rattle_enter(m);
 i0 = (i0 == 0);
-if (i0) { goto l2; }
+if (!i0) {
 fio2070_trap();
-fio2070_trap();
-l2:;
+}
 j0 = v0;
 j1 = v1;
 j2 = v2;
@@ -26476,7 +27233,7 @@ uint64_t j2;
 uint64_t j3;
 uint64_t j4;
 uint64_t j5;
-uint64_t r;
+uint64_t r = 0;
 uint8_t *p2;
 j0 = m->g0;
 j1 = UINT64_C(16);
@@ -26487,7 +27244,7 @@ j0 = v4;
 v4 = j0;
 j1 = UINT64_C(16);
 i0 = (SIGNED64(j0) < SIGNED64(j1));
-if (i0) { goto l2; }
+if (!i0) {
 j0 = v0;
 j1 = UINT64_C(4096);
 j2 = UINT64_C(0);
@@ -26505,7 +27262,7 @@ j0 = fio_c_show_write_lines(m, j0, j1, j2, j3);
 v0 = j0;
 j1 = v3;
 i0 = (j0 >= j1);
-if (i0) { goto l3; }
+if (!i0) {
 j0 = v5;
 j1 = v1;
 j2 = v2;
@@ -26525,7 +27282,7 @@ j0 = j0 + j1;
 i1 = UINT32_C(0);
 p2 = write_at(j0, m, 1u);
 store8(p2 + 0, i1);
-l3:;
+}
 j0 = v4;
 j1 = UINT64_C(16);
 j0 = j0 + j1;
@@ -26533,7 +27290,7 @@ m->g0 = j0;
 j0 = v0;
 r = j0;
 return r;
-l2:;
+}
 fio2070_trap();
 return r;
 }
@@ -26543,13 +27300,12 @@ uint32_t i0;
 uint64_t j0;
 uint64_t j1;
 uint64_t j2;
-uint64_t r;
+uint64_t r = 0;
 i0 = rattle_enter(m);
 i0 = (i0 == 0);
-if (i0) { goto l2; }
+if (!i0) {
 fio2070_trap();
-fio2070_trap();
-l2:;
+}
 i0 = v0;
 j1 = v1;
 j2 = v2;
@@ -26576,7 +27332,7 @@ uint64_t j0;
 uint64_t j1;
 uint64_t j2;
 uint64_t j3;
-uint64_t r;
+uint64_t r = 0;
 uint8_t *p1;
 uint8_t *p2;
 uint8_t *p3;
@@ -26588,7 +27344,7 @@ uint8_t *p8;
 j0 = m->g0;
 j1 = UINT64_C(16);
 i0 = (SIGNED64(j0) < SIGNED64(j1));
-if (i0) { goto l2; }
+if (!i0) {
 j0 = v1;
 j1 = UINT64_C(4096);
 j2 = UINT64_C(0);
@@ -26605,7 +27361,7 @@ i1 = UINT32_C(255);
 i0 = i0 & i1;
 i1 = UINT32_C(10);
 i0 = (i0 > i1);
-if (i0) { goto l4; }
+if (!i0) {
 i0 = v0;
 j0 = (uint64_t)i0;
 j1 = UINT64_C(255);
@@ -26628,7 +27384,7 @@ v6 = j1;
 j0 = j0 - j1;
 j1 = v5;
 i0 = (j0 >= j1);
-if (i0) { goto l6; }
+if (!i0) {
 j0 = v5;
 j1 = UINT64_C(18446744073709551612);
 j0 = j0 & j1;
@@ -26639,7 +27395,7 @@ j0 = j0 & j1;
 v8 = j0;
 j0 = UINT64_C(0);
 v1 = j0;
-l7:;
+for (;;) {
 j0 = v3;
 j1 = v1;
 j0 = j0 + j1;
@@ -26682,7 +27438,8 @@ j2 = UINT64_C(4);
 j1 = j1 + j2;
 v1 = j1;
 i0 = (j0 != j1);
-if (i0) { goto l7; }
+if (!i0) break;
+}
 j0 = UINT64_C(1);
 j1 = v4;
 j0 = j0 << (j1 & 63);
@@ -26722,14 +27479,15 @@ j1 = UINT64_C(0);
 i0 = (j0 != j1);
 if (i0) { goto l8; }
 goto l5;
-l6:;
+}
 j0 = v5;
 i0 = (j0 == 0);
-if (i0) { goto l5; }
+if (!i0) {
 j0 = v3;
 j1 = v6;
 j2 = v5;
 copy(m, j0, j1, j2);
+}
 l5:;
 j0 = v3;
 j1 = v5;
@@ -26740,21 +27498,22 @@ store8(p7 + 0, i1);
 j0 = v5;
 r = j0;
 return r;
-l4:;
+}
 j0 = UINT64_C(0);
 v5 = j0;
 j0 = v2;
 i0 = (j0 == 0);
-if (i0) { goto l3; }
+if (!i0) {
 j0 = v3;
 i1 = UINT32_C(0);
 p8 = write_at(j0, m, 1u);
 store8(p8 + 0, i1);
+}
 l3:;
 j0 = v5;
 r = j0;
 return r;
-l2:;
+}
 fio2070_trap();
 return r;
 }
@@ -26764,13 +27523,12 @@ uint32_t i0;
 uint64_t j0;
 uint64_t j1;
 uint64_t j2;
-uint64_t r;
+uint64_t r = 0;
 i0 = rattle_enter(m);
 i0 = (i0 == 0);
-if (i0) { goto l2; }
+if (!i0) {
 fio2070_trap();
-fio2070_trap();
-l2:;
+}
 j0 = v0;
 j1 = v1;
 j2 = v2;
@@ -26796,7 +27554,7 @@ uint64_t j0;
 uint64_t j1;
 uint64_t j2;
 uint64_t j3;
-uint64_t r;
+uint64_t r = 0;
 uint8_t *p1;
 uint8_t *p2;
 uint8_t *p3;
@@ -26811,7 +27569,7 @@ j0 = v3;
 v3 = j0;
 j1 = UINT64_C(16);
 i0 = (SIGNED64(j0) < SIGNED64(j1));
-if (i0) { goto l2; }
+if (!i0) {
 j0 = UINT64_C(0);
 v4 = j0;
 j0 = v1;
@@ -26916,14 +27674,14 @@ i0 = (j0 >= j1);
 if (i0) { goto l3; }
 j0 = v0;
 i0 = (j0 == 0);
-if (i0) { goto l9; }
+if (!i0) {
 j0 = v5;
 j1 = v3;
 j2 = UINT64_C(8);
 j1 = j1 + j2;
 j2 = v0;
 copy(m, j0, j1, j2);
-l9:;
+}
 j0 = v5;
 j1 = v0;
 j0 = j0 + j1;
@@ -26936,11 +27694,12 @@ j0 = UINT64_C(0);
 v0 = j0;
 j0 = v2;
 i0 = (j0 == 0);
-if (i0) { goto l3; }
+if (!i0) {
 j0 = v5;
 i1 = UINT32_C(0);
 p4 = write_at(j0, m, 1u);
 store8(p4 + 0, i1);
+}
 l3:;
 j0 = v3;
 j1 = UINT64_C(192);
@@ -26949,7 +27708,7 @@ m->g0 = j0;
 j0 = v0;
 r = j0;
 return r;
-l2:;
+}
 fio2070_trap();
 return r;
 }
@@ -26959,13 +27718,12 @@ uint32_t i0;
 uint64_t j0;
 uint64_t j1;
 uint64_t j2;
-uint64_t r;
+uint64_t r = 0;
 i0 = rattle_enter(m);
 i0 = (i0 == 0);
-if (i0) { goto l2; }
+if (!i0) {
 fio2070_trap();
-fio2070_trap();
-l2:;
+}
 j0 = v0;
 j1 = v1;
 j2 = v2;
@@ -26995,7 +27753,7 @@ uint64_t j0;
 uint64_t j1;
 uint64_t j2;
 uint64_t j3;
-uint64_t r;
+uint64_t r = 0;
 uint8_t *p1;
 uint8_t *p2;
 uint8_t *p3;
@@ -27039,7 +27797,7 @@ j0 = v3;
 v3 = j0;
 j1 = UINT64_C(16);
 i0 = (SIGNED64(j0) < SIGNED64(j1));
-if (i0) { goto l2; }
+if (!i0) {
 j0 = v3;
 j1 = UINT64_C(8);
 j0 = j0 + j1;
@@ -27054,7 +27812,7 @@ j0 = load8(p2 + 0);
 v5 = j0;
 j1 = UINT64_C(4);
 i0 = (j0 > j1);
-if (i0) { goto l3; }
+if (!i0) {
 j0 = v3;
 j1 = UINT64_C(127);
 j0 = j0 + j1;
@@ -27153,11 +27911,11 @@ i0 = load8(p4 + 7);
 v9 = i0;
 i1 = UINT32_C(99);
 i0 = (i0 > i1);
-if (i0) { goto l15; }
+if (!i0) {
 i0 = v9;
 i1 = UINT32_C(9);
 i0 = (i0 > i1);
-if (i0) { goto l16; }
+if (!i0) {
 j0 = v3;
 j1 = UINT64_C(111);
 j0 = j0 + j1;
@@ -27170,7 +27928,7 @@ store8(p1 + 125, i1);
 j0 = UINT64_C(103);
 v4 = j0;
 goto l14;
-l16:;
+}
 j0 = v3;
 j1 = UINT64_C(110);
 j0 = j0 + j1;
@@ -27186,7 +27944,7 @@ store16(p1 + 124, i1);
 j0 = UINT64_C(102);
 v4 = j0;
 goto l14;
-l15:;
+}
 j0 = v3;
 j1 = UINT64_C(109);
 j0 = j0 + j1;
@@ -27239,11 +27997,11 @@ i0 = i0 & i1;
 v10 = i0;
 i1 = UINT32_C(99);
 i0 = (i0 > i1);
-if (i0) { goto l18; }
+if (!i0) {
 i0 = v10;
 i1 = UINT32_C(9);
 i0 = (i0 > i1);
-if (i0) { goto l19; }
+if (!i0) {
 j0 = v3;
 i1 = v9;
 i2 = UINT32_C(48);
@@ -27252,7 +28010,7 @@ store8(p1 + 135, i1);
 j0 = UINT64_C(121);
 v4 = j0;
 goto l17;
-l19:;
+}
 j0 = v3;
 i1 = v9;
 j1 = (uint64_t)i1;
@@ -27268,7 +28026,7 @@ v4 = j0;
 j0 = v8;
 v7 = j0;
 goto l17;
-l18:;
+}
 j0 = v3;
 i1 = v10;
 i2 = UINT32_C(100);
@@ -27317,11 +28075,11 @@ i0 = i0 & i1;
 v10 = i0;
 i1 = UINT32_C(99);
 i0 = (i0 > i1);
-if (i0) { goto l21; }
+if (!i0) {
 i0 = v10;
 i1 = UINT32_C(9);
 i0 = (i0 > i1);
-if (i0) { goto l22; }
+if (!i0) {
 j0 = v3;
 i1 = v9;
 i2 = UINT32_C(48);
@@ -27330,7 +28088,7 @@ store8(p1 + 135, i1);
 j0 = UINT64_C(121);
 v4 = j0;
 goto l20;
-l22:;
+}
 j0 = v3;
 i1 = v9;
 j1 = (uint64_t)i1;
@@ -27346,7 +28104,7 @@ v4 = j0;
 j0 = v8;
 v7 = j0;
 goto l20;
-l21:;
+}
 j0 = v3;
 i1 = v10;
 i2 = UINT32_C(100);
@@ -27434,7 +28192,7 @@ j0 = v3;
 j0 = load64(p1 + 208);
 v0 = j0;
 i0 = (j0 == 0);
-if (i0) { goto l23; }
+if (!i0) {
 j0 = v3;
 j1 = UINT64_C(8);
 j0 = j0 + j1;
@@ -27447,7 +28205,7 @@ j2 = UINT64_C(136);
 j1 = j1 + j2;
 j2 = v0;
 copy(m, j0, j1, j2);
-l23:;
+}
 j0 = UINT64_C(117);
 j1 = v0;
 j0 = j0 - j1;
@@ -27481,7 +28239,7 @@ i0 = load16(p24 + 0);
 v9 = i0;
 i1 = UINT32_C(10000);
 i0 = (i0 < i1);
-if (i0) { goto l28; }
+if (!i0) {
 j0 = v3;
 j1 = UINT64_C(131);
 j0 = j0 + j1;
@@ -27524,7 +28282,7 @@ store16(p1 + 134, i1);
 j0 = UINT64_C(108);
 v4 = j0;
 goto l27;
-l28:;
+}
 i0 = v9;
 i1 = UINT32_C(99);
 i0 = (i0 > i1);
@@ -27582,7 +28340,7 @@ store16(p1 + 134, i1);
 i0 = v9;
 i1 = UINT32_C(999);
 i0 = (i0 > i1);
-if (i0) { goto l29; }
+if (!i0) {
 j0 = v3;
 i1 = v10;
 i2 = UINT32_C(48);
@@ -27591,7 +28349,7 @@ store8(p1 + 133, i1);
 j0 = UINT64_C(110);
 v4 = j0;
 goto l24;
-l29:;
+}
 j0 = v3;
 i1 = v10;
 j1 = (uint64_t)i1;
@@ -27618,6 +28376,7 @@ j0 = v0;
 j1 = UINT64_C(0);
 j1 = load64(p31 + 0);
 store64(p32 + 0, j1);
+}
 l3:;
 j0 = UINT64_C(128);
 j1 = v4;
@@ -27625,7 +28384,7 @@ j0 = j0 - j1;
 v0 = j0;
 j1 = v2;
 i0 = (j0 >= j1);
-if (i0) { goto l30; }
+if (!i0) {
 j0 = v1;
 j1 = UINT64_C(4096);
 j2 = UINT64_C(0);
@@ -27636,7 +28395,7 @@ j0 = j0 + j1;
 v1 = j0;
 j0 = v0;
 i0 = (j0 == 0);
-if (i0) { goto l31; }
+if (!i0) {
 j0 = v1;
 j1 = v3;
 j2 = UINT64_C(8);
@@ -27645,14 +28404,14 @@ j2 = v4;
 j1 = j1 + j2;
 j2 = v0;
 copy(m, j0, j1, j2);
-l31:;
+}
 j0 = v1;
 j1 = v0;
 j0 = j0 + j1;
 i1 = UINT32_C(0);
 p33 = write_at(j0, m, 1u);
 store8(p33 + 0, i1);
-l30:;
+}
 j0 = v3;
 j1 = UINT64_C(240);
 j0 = j0 + j1;
@@ -27660,7 +28419,7 @@ m->g0 = j0;
 j0 = v0;
 r = j0;
 return r;
-l2:;
+}
 fio2070_trap();
 return r;
 }
@@ -27670,13 +28429,12 @@ uint32_t i0;
 uint64_t j0;
 uint64_t j1;
 uint64_t j2;
-uint64_t r;
+uint64_t r = 0;
 i0 = rattle_enter(m);
 i0 = (i0 == 0);
-if (i0) { goto l2; }
+if (!i0) {
 fio2070_trap();
-fio2070_trap();
-l2:;
+}
 i0 = v0;
 j1 = v1;
 j2 = v2;
@@ -27703,7 +28461,7 @@ uint64_t j0;
 uint64_t j1;
 uint64_t j2;
 uint64_t j3;
-uint64_t r;
+uint64_t r = 0;
 uint8_t *p1;
 uint8_t *p2;
 uint8_t *p3;
@@ -27715,7 +28473,7 @@ uint8_t *p8;
 j0 = m->g0;
 j1 = UINT64_C(16);
 i0 = (SIGNED64(j0) < SIGNED64(j1));
-if (i0) { goto l2; }
+if (!i0) {
 j0 = v1;
 j1 = UINT64_C(4096);
 j2 = UINT64_C(0);
@@ -27732,7 +28490,7 @@ i1 = UINT32_C(255);
 i0 = i0 & i1;
 i1 = UINT32_C(8);
 i0 = (i0 > i1);
-if (i0) { goto l4; }
+if (!i0) {
 i0 = v0;
 j0 = (uint64_t)i0;
 j1 = UINT64_C(255);
@@ -27755,7 +28513,7 @@ v6 = j1;
 j0 = j0 - j1;
 j1 = v5;
 i0 = (j0 >= j1);
-if (i0) { goto l6; }
+if (!i0) {
 j0 = v5;
 j1 = UINT64_C(18446744073709551612);
 j0 = j0 & j1;
@@ -27766,7 +28524,7 @@ j0 = j0 & j1;
 v8 = j0;
 j0 = UINT64_C(0);
 v1 = j0;
-l7:;
+for (;;) {
 j0 = v3;
 j1 = v1;
 j0 = j0 + j1;
@@ -27809,7 +28567,8 @@ j2 = UINT64_C(4);
 j1 = j1 + j2;
 v1 = j1;
 i0 = (j0 != j1);
-if (i0) { goto l7; }
+if (!i0) break;
+}
 j0 = UINT64_C(1);
 j1 = v4;
 j0 = j0 << (j1 & 63);
@@ -27849,14 +28608,15 @@ j1 = UINT64_C(0);
 i0 = (j0 != j1);
 if (i0) { goto l8; }
 goto l5;
-l6:;
+}
 j0 = v5;
 i0 = (j0 == 0);
-if (i0) { goto l5; }
+if (!i0) {
 j0 = v3;
 j1 = v6;
 j2 = v5;
 copy(m, j0, j1, j2);
+}
 l5:;
 j0 = v3;
 j1 = v5;
@@ -27867,22 +28627,350 @@ store8(p7 + 0, i1);
 j0 = v5;
 r = j0;
 return r;
-l4:;
+}
 j0 = UINT64_C(0);
 v5 = j0;
 j0 = v2;
 i0 = (j0 == 0);
-if (i0) { goto l3; }
+if (!i0) {
 j0 = v3;
 i1 = UINT32_C(0);
 p8 = write_at(j0, m, 1u);
 store8(p8 + 0, i1);
+}
 l3:;
 j0 = v5;
 r = j0;
 return r;
-l2:;
+}
 fio2070_trap();
+return r;
+}
+static uint64_t enter_sized_module_answer_other(struct machine *m, uint64_t v0, uint32_t v1, uint64_t v2, uint64_t v3, uint64_t v4, uint64_t v5)
+{
+uint32_t i0;
+uint32_t i1;
+uint64_t j0;
+uint64_t j2;
+uint64_t j3;
+uint64_t j4;
+uint64_t j5;
+uint64_t r = 0;
+i0 = rattle_enter(m);
+i0 = (i0 == 0);
+if (!i0) {
+fio2070_trap();
+}
+j0 = v0;
+i1 = v1;
+j2 = v2;
+j3 = v3;
+j4 = v4;
+j5 = v5;
+j0 = proved_sized_module_answer_other(m, j0, i1, j2, j3, j4, j5);
+v5 = j0;
+rattle_leave(m);
+j0 = v5;
+r = j0;
+return r;
+}
+static uint64_t proved_sized_module_answer_other(struct machine *m, uint64_t v0, uint32_t v1, uint64_t v2, uint64_t v3, uint64_t v4, uint64_t v5)
+{
+uint64_t v6 = 0;
+uint32_t v7 = 0;
+uint32_t v8 = 0;
+uint64_t v9 = 0;
+uint64_t v10 = 0;
+uint64_t v11 = 0;
+uint64_t v12 = 0;
+uint64_t v13 = 0;
+uint64_t v14 = 0;
+uint32_t i0;
+uint32_t i1;
+uint32_t i2;
+uint32_t i3;
+uint32_t i4;
+uint64_t j0;
+uint64_t j1;
+uint64_t j2;
+uint64_t j3;
+uint64_t j4;
+uint64_t r = 0;
+uint8_t *p1;
+uint8_t *p2;
+uint8_t *p3;
+uint8_t *p4;
+uint8_t *p5;
+uint8_t *p6;
+uint8_t *p7;
+uint8_t *p8;
+uint8_t *p9;
+uint8_t *p10;
+uint8_t *p11;
+j0 = m->g0;
+j1 = UINT64_C(16);
+i0 = (SIGNED64(j0) < SIGNED64(j1));
+if (!i0) {
+j0 = UINT64_C(18446744073709551614);
+v6 = j0;
+j0 = v0;
+j1 = UINT64_C(5);
+j0 = j0 + j1;
+p1 = read_at(j0, m, 1u);
+i0 = load8(p1 + 0);
+v7 = i0;
+i1 = UINT32_C(4294967113);
+i0 = i0 + i1;
+v8 = i0;
+i1 = UINT32_C(5);
+i0 = (i0 > i1);
+if (i0) { goto l2; }
+i0 = v8;
+i1 = UINT32_C(3);
+i0 = (i0 == i1);
+if (i0) { goto l2; }
+i0 = v7;
+i1 = UINT32_C(63);
+i0 = i0 & i1;
+i1 = v1;
+i2 = UINT32_C(255);
+i1 = i1 & i2;
+i0 = (i0 == i1);
+if (!i0) {
+j0 = UINT64_C(18446744073709551613);
+r = j0;
+return r;
+}
+j0 = v3;
+j1 = UINT64_C(772);
+i0 = (j0 <= j1);
+if (!i0) {
+j0 = UINT64_C(18446744073709551612);
+r = j0;
+return r;
+}
+j0 = v5;
+j1 = v3;
+i0 = (j0 > j1);
+if (!i0) {
+j0 = v3;
+j1 = UINT64_C(1);
+j0 = j0 + j1;
+v6 = j0;
+goto l2;
+}
+i0 = v7;
+i1 = UINT32_C(4294967113);
+i0 = i0 + i1;
+switch (i0) {
+case 0:
+goto l12;
+case 1:
+goto l11;
+case 2:
+goto l10;
+case 3:
+goto l2;
+case 4:
+goto l9;
+case 5:
+goto l8;
+default:
+goto l2;
+}
+l12:;
+j0 = v0;
+j1 = UINT64_C(5);
+j0 = j0 + j1;
+i1 = UINT32_C(0);
+p2 = write_at(j0, m, 1u);
+store8(p2 + 0, i1);
+goto l7;
+l11:;
+j0 = v0;
+j1 = UINT64_C(5);
+j0 = j0 + j1;
+i1 = UINT32_C(0);
+p3 = write_at(j0, m, 1u);
+store8(p3 + 0, i1);
+goto l7;
+l10:;
+j0 = v0;
+j1 = UINT64_C(5);
+j0 = j0 + j1;
+i1 = UINT32_C(0);
+p4 = write_at(j0, m, 1u);
+store8(p4 + 0, i1);
+goto l7;
+l9:;
+j0 = v0;
+j1 = UINT64_C(5);
+j0 = j0 + j1;
+i1 = UINT32_C(0);
+p5 = write_at(j0, m, 1u);
+store8(p5 + 0, i1);
+goto l7;
+l8:;
+j0 = v0;
+j1 = UINT64_C(5);
+j0 = j0 + j1;
+i1 = UINT32_C(0);
+p6 = write_at(j0, m, 1u);
+store8(p6 + 0, i1);
+l7:;
+j0 = v4;
+j1 = UINT64_C(4096);
+j2 = UINT64_C(0);
+j3 = v4;
+i3 = (j3 == 0);
+j1 = i3 ? j1 : j2;
+v9 = j1;
+j0 = j0 + j1;
+v10 = j0;
+i1 = v7;
+p7 = write_at(j0, m, 1u);
+store8(p7 + 0, i1);
+j0 = v3;
+j1 = UINT64_C(1);
+j0 = j0 + j1;
+v6 = j0;
+j0 = v10;
+j1 = UINT64_C(1);
+j0 = j0 + j1;
+v0 = j0;
+j1 = v2;
+j2 = UINT64_C(4096);
+j3 = UINT64_C(0);
+j4 = v2;
+i4 = (j4 == 0);
+j2 = i4 ? j2 : j3;
+v11 = j2;
+j1 = j1 + j2;
+v12 = j1;
+j0 = j0 - j1;
+j1 = v3;
+i0 = (j0 >= j1);
+if (!i0) {
+j0 = v3;
+j1 = UINT64_C(3);
+j0 = j0 & j1;
+v13 = j0;
+j0 = UINT64_C(0);
+v0 = j0;
+j0 = v3;
+j1 = UINT64_C(4);
+i0 = (j0 < j1);
+if (!i0) {
+j0 = v3;
+j1 = UINT64_C(1020);
+j0 = j0 & j1;
+v14 = j0;
+j0 = UINT64_C(0);
+v0 = j0;
+for (;;) {
+j0 = v10;
+j1 = v0;
+j0 = j0 + j1;
+v3 = j0;
+j1 = UINT64_C(1);
+j0 = j0 + j1;
+j1 = v12;
+j2 = v0;
+j1 = j1 + j2;
+v5 = j1;
+p8 = read_at(j1, m, 4u);
+i1 = load8(p8 + 0);
+p9 = write_at(j0, m, 4u);
+store8(p9 + 0, i1);
+j0 = v3;
+j1 = UINT64_C(2);
+j0 = j0 + j1;
+j1 = v5;
+j2 = UINT64_C(1);
+j1 = j1 + j2;
+i1 = load8(p8 + 1);
+store8(p9 + 1, i1);
+j0 = v3;
+j1 = UINT64_C(3);
+j0 = j0 + j1;
+j1 = v5;
+j2 = UINT64_C(2);
+j1 = j1 + j2;
+i1 = load8(p8 + 2);
+store8(p9 + 2, i1);
+j0 = v3;
+j1 = UINT64_C(4);
+j0 = j0 + j1;
+j1 = v5;
+j2 = UINT64_C(3);
+j1 = j1 + j2;
+i1 = load8(p8 + 3);
+store8(p9 + 3, i1);
+j0 = v14;
+j1 = v0;
+j2 = UINT64_C(4);
+j1 = j1 + j2;
+v0 = j1;
+i0 = (j0 != j1);
+if (!i0) break;
+}
+j0 = v13;
+i0 = (j0 == 0);
+if (i0) { goto l2; }
+}
+j0 = v2;
+j1 = v11;
+j2 = v0;
+j1 = j1 + j2;
+j0 = j0 + j1;
+v3 = j0;
+j0 = v9;
+j1 = v0;
+j0 = j0 + j1;
+j1 = v4;
+j0 = j0 + j1;
+j1 = UINT64_C(1);
+j0 = j0 + j1;
+v0 = j0;
+l16:;
+j0 = v0;
+j1 = v3;
+p10 = read_at(j1, m, 1u);
+i1 = load8(p10 + 0);
+p11 = write_at(j0, m, 1u);
+store8(p11 + 0, i1);
+j0 = v0;
+j1 = UINT64_C(1);
+j0 = j0 + j1;
+v0 = j0;
+j0 = v3;
+j1 = UINT64_C(1);
+j0 = j0 + j1;
+v3 = j0;
+j0 = v13;
+j1 = UINT64_C(18446744073709551615);
+j0 = j0 + j1;
+v13 = j0;
+j1 = UINT64_C(0);
+i0 = (j0 != j1);
+if (i0) { goto l16; }
+goto l2;
+}
+j0 = v3;
+i0 = (j0 == 0);
+if (i0) { goto l2; }
+j0 = v0;
+j1 = v12;
+j2 = v3;
+copy(m, j0, j1, j2);
+j0 = v6;
+r = j0;
+return r;
+}
+fio2070_trap();
+l2:;
+j0 = v6;
+r = j0;
 return r;
 }
 static uint64_t enter_encode_answer(struct machine *m, uint64_t v0, uint64_t v1, uint64_t v2, uint64_t v3, uint64_t v4, uint64_t v5, uint64_t v6)
@@ -27895,13 +28983,12 @@ uint64_t j3;
 uint64_t j4;
 uint64_t j5;
 uint64_t j6;
-uint64_t r;
+uint64_t r = 0;
 i0 = rattle_enter(m);
 i0 = (i0 == 0);
-if (i0) { goto l2; }
+if (!i0) {
 fio2070_trap();
-fio2070_trap();
-l2:;
+}
 j0 = v0;
 j1 = v1;
 j2 = v2;
@@ -27945,7 +29032,7 @@ uint64_t j1;
 uint64_t j2;
 uint64_t j3;
 uint64_t j4;
-uint64_t r;
+uint64_t r = 0;
 uint8_t *p1;
 uint8_t *p2;
 uint8_t *p3;
@@ -27987,7 +29074,7 @@ j0 = v7;
 v7 = j0;
 j1 = UINT64_C(16);
 i0 = (SIGNED64(j0) < SIGNED64(j1));
-if (i0) { goto l5; }
+if (!i0) {
 j0 = UINT64_C(18446744073709551615);
 v8 = j0;
 j0 = v2;
@@ -28107,7 +29194,7 @@ v15 = i0;
 i0 = v11;
 i1 = UINT32_C(177);
 i0 = (i0 >= i1);
-if (i0) { goto l13; }
+if (!i0) {
 i0 = UINT32_C(0);
 v14 = i0;
 i0 = UINT32_C(0);
@@ -28121,7 +29208,7 @@ v19 = i0;
 i0 = v10;
 v20 = i0;
 goto l7;
-l13:;
+}
 i0 = v11;
 i1 = UINT32_C(180);
 i0 = (i0 < i1);
@@ -28313,13 +29400,13 @@ i0 = i0 + i1;
 v9 = i0;
 i1 = UINT32_C(6);
 i0 = (i0 > i1);
-if (i0) { goto l14; }
+if (!i0) {
 i0 = UINT32_C(1);
 i1 = v9;
 i0 = i0 << (i1 & 31);
 i1 = UINT32_C(110);
 i0 = i0 & i1;
-if (i0) { goto l15; }
+if (!i0) {
 i0 = v9;
 if (i0) { goto l14; }
 j0 = v1;
@@ -28334,7 +29421,7 @@ v4 = j0;
 j0 = v2;
 i0 = (j0 == 0);
 v10 = i0;
-if (i0) { goto l16; }
+if (!i0) {
 j0 = v2;
 j1 = UINT64_C(3);
 j0 = j0 & j1;
@@ -28342,13 +29429,13 @@ v8 = j0;
 j0 = v2;
 j1 = UINT64_C(4);
 i0 = (j0 >= j1);
-if (i0) { goto l19; }
+if (!i0) {
 j0 = UINT64_C(0);
 v5 = j0;
 i0 = UINT32_C(1);
 v9 = i0;
 goto l18;
-l19:;
+}
 j0 = v2;
 j1 = UINT64_C(18446744073709551612);
 j0 = j0 & j1;
@@ -28360,7 +29447,7 @@ v9 = i0;
 j0 = v4;
 v0 = j0;
 p17 = read_at(v0 + UINT64_C(0), m, run(13u, 16u, turns(v3, v5, 4u)));
-l20:;
+for (;;) {
 i0 = v9;
 j1 = v0;
 j2 = UINT64_C(12);
@@ -28394,7 +29481,9 @@ j2 = UINT64_C(4);
 j1 = j1 + j2;
 v5 = j1;
 i0 = (j0 != j1);
-if (i0) { p17 += 16; goto l20; }
+if (!i0) break;
+p17 += 16;
+}
 j0 = v8;
 i0 = (j0 == 0);
 if (i0) { goto l17; }
@@ -28408,7 +29497,7 @@ j1 = j1 + j2;
 j0 = j0 + j1;
 v0 = j0;
 p18 = read_at(v0 + UINT64_C(0), m, run(1u, 4u, turns(v8, UINT64_C(0), 1u)));
-l21:;
+for (;;) {
 i0 = v9;
 j1 = v0;
 i1 = (uint32_t)extend(load8(p18 + 0), 7);
@@ -28426,14 +29515,16 @@ j0 = j0 + j1;
 v8 = j0;
 j1 = UINT64_C(0);
 i0 = (j0 != j1);
-if (i0) { p18 += 4; goto l21; }
+if (!i0) break;
+p18 += 4;
+}
 l17:;
 j0 = UINT64_C(18446744073709551615);
 v8 = j0;
 i0 = v9;
 i0 = (i0 == 0);
 if (i0) { goto l2; }
-l16:;
+}
 j0 = v7;
 i1 = v18;
 store8(p1 + 14, i1);
@@ -28479,7 +29570,7 @@ j1 = j1 + j2;
 j0 = j0 - j1;
 j1 = UINT64_C(2);
 i0 = (j0 > j1);
-if (i0) { goto l23; }
+if (!i0) {
 j0 = v22;
 i1 = v9;
 p19 = write_at(j0, m, 3u);
@@ -28491,7 +29582,7 @@ j0 = v22;
 i1 = UINT32_C(182);
 store8(p19 + 0, i1);
 goto l22;
-l23:;
+}
 j0 = v22;
 j1 = v7;
 i1 = load8(p1 + 15);
@@ -28503,7 +29594,7 @@ i1 = load16(p1 + 13);
 store16(p20 + 0, i1);
 l22:;
 i0 = v10;
-if (i0) { goto l24; }
+if (!i0) {
 j0 = v22;
 j1 = UINT64_C(4);
 j0 = j0 + j1;
@@ -28561,7 +29652,7 @@ v2 = j0;
 j1 = UINT64_C(0);
 i0 = (j0 != j1);
 if (i0) { goto l25; }
-l24:;
+}
 j0 = v22;
 j1 = v5;
 j0 = j0 + j1;
@@ -28575,7 +29666,7 @@ j1 = j1 + j2;
 j0 = j0 - j1;
 j1 = UINT64_C(4);
 i0 = (j0 > j1);
-if (i0) { goto l26; }
+if (!i0) {
 j0 = v2;
 j1 = UINT64_C(4);
 j0 = j0 + j1;
@@ -28586,7 +29677,7 @@ j0 = v0;
 i1 = v17;
 store8(p24 + 0, i1);
 goto l2;
-l26:;
+}
 j0 = v0;
 j1 = v7;
 i1 = load8(p1 + 20);
@@ -28597,7 +29688,7 @@ j1 = v7;
 i1 = load32(p1 + 16);
 store32(p25 + 0, i1);
 goto l2;
-l15:;
+}
 j0 = v4;
 j1 = UINT64_C(772);
 i0 = (j0 > j1);
@@ -28630,7 +29721,7 @@ v1 = j1;
 j0 = j0 - j1;
 j1 = v4;
 i0 = (j0 >= j1);
-if (i0) { goto l27; }
+if (!i0) {
 j0 = v4;
 j1 = UINT64_C(3);
 j0 = j0 & j1;
@@ -28640,14 +29731,14 @@ v2 = j0;
 j0 = v4;
 j1 = UINT64_C(4);
 i0 = (j0 < j1);
-if (i0) { goto l28; }
+if (!i0) {
 j0 = v4;
 j1 = UINT64_C(1020);
 j0 = j0 & j1;
 v16 = j0;
 j0 = UINT64_C(0);
 v2 = j0;
-l29:;
+for (;;) {
 j0 = v22;
 j1 = v2;
 j0 = j0 + j1;
@@ -28692,11 +29783,12 @@ j2 = UINT64_C(4);
 j1 = j1 + j2;
 v2 = j1;
 i0 = (j0 != j1);
-if (i0) { goto l29; }
+if (!i0) break;
+}
 j0 = v6;
 i0 = (j0 == 0);
 if (i0) { goto l2; }
-l28:;
+}
 j0 = v3;
 j1 = v23;
 j2 = v2;
@@ -28734,7 +29826,7 @@ j1 = UINT64_C(0);
 i0 = (j0 != j1);
 if (i0) { goto l30; }
 goto l2;
-l27:;
+}
 j0 = v4;
 i0 = (j0 == 0);
 if (i0) { goto l2; }
@@ -28743,6 +29835,7 @@ j1 = v1;
 j2 = v4;
 copy(m, j0, j1, j2);
 goto l2;
+}
 l14:;
 j0 = UINT64_C(18446744073709551615);
 v8 = j0;
@@ -28915,6 +30008,7 @@ v17 = i0;
 j0 = UINT64_C(13);
 v8 = j0;
 goto l3;
+}
 l5:;
 fio2070_trap();
 l4:;
@@ -28977,16 +30071,18 @@ store64(p31 + 776, j1);
 j0 = v8;
 j1 = v6;
 i0 = (j0 > j1);
-if (i0) { goto l2; }
+if (!i0) {
 j0 = v8;
 i0 = (j0 == 0);
-if (i0) { goto l2; }
+if (!i0) {
 j0 = v22;
 j1 = v7;
 j2 = UINT64_C(16);
 j1 = j1 + j2;
 j2 = v8;
 copy(m, j0, j1, j2);
+}
+}
 l2:;
 j0 = v7;
 j1 = UINT64_C(1568);
@@ -29006,13 +30102,12 @@ uint64_t j3;
 uint64_t j4;
 uint64_t j5;
 uint64_t j6;
-uint64_t r;
+uint64_t r = 0;
 i0 = rattle_enter(m);
 i0 = (i0 == 0);
-if (i0) { goto l2; }
+if (!i0) {
 fio2070_trap();
-fio2070_trap();
-l2:;
+}
 j0 = v0;
 j1 = v1;
 j2 = v2;
@@ -29054,7 +30149,7 @@ uint64_t j1;
 uint64_t j2;
 uint64_t j3;
 uint64_t j4;
-uint64_t r;
+uint64_t r = 0;
 uint8_t *p2;
 uint8_t *p3;
 uint8_t *p4;
@@ -29107,7 +30202,7 @@ j0 = v7;
 v7 = j0;
 j1 = UINT64_C(16);
 i0 = (SIGNED64(j0) < SIGNED64(j1));
-if (i0) { goto l6; }
+if (!i0) {
 j0 = UINT64_C(18446744073709551615);
 v8 = j0;
 j0 = v2;
@@ -29651,7 +30746,7 @@ v4 = j0;
 j0 = v2;
 i0 = (j0 == 0);
 v12 = i0;
-if (i0) { goto l30; }
+if (!i0) {
 j0 = v2;
 j1 = UINT64_C(3);
 j0 = j0 & j1;
@@ -29659,13 +30754,13 @@ v8 = j0;
 j0 = v2;
 j1 = UINT64_C(4);
 i0 = (j0 >= j1);
-if (i0) { goto l33; }
+if (!i0) {
 j0 = UINT64_C(0);
 v5 = j0;
 i0 = UINT32_C(1);
 v9 = i0;
 goto l32;
-l33:;
+}
 j0 = v2;
 j1 = UINT64_C(18446744073709551612);
 j0 = j0 & j1;
@@ -29677,7 +30772,7 @@ v9 = i0;
 j0 = v4;
 v0 = j0;
 p31 = read_at(v0 + UINT64_C(0), m, run(13u, 16u, turns(v3, v5, 4u)));
-l34:;
+for (;;) {
 i0 = v9;
 j1 = v0;
 j2 = UINT64_C(12);
@@ -29711,7 +30806,9 @@ j2 = UINT64_C(4);
 j1 = j1 + j2;
 v5 = j1;
 i0 = (j0 != j1);
-if (i0) { p31 += 16; goto l34; }
+if (!i0) break;
+p31 += 16;
+}
 j0 = v8;
 i0 = (j0 == 0);
 if (i0) { goto l31; }
@@ -29725,7 +30822,7 @@ j1 = j1 + j2;
 j0 = j0 + j1;
 v0 = j0;
 p32 = read_at(v0 + UINT64_C(0), m, run(1u, 4u, turns(v8, UINT64_C(0), 1u)));
-l35:;
+for (;;) {
 i0 = v9;
 j1 = v0;
 i1 = (uint32_t)extend(load8(p32 + 0), 7);
@@ -29743,14 +30840,16 @@ j0 = j0 + j1;
 v8 = j0;
 j1 = UINT64_C(0);
 i0 = (j0 != j1);
-if (i0) { p32 += 4; goto l35; }
+if (!i0) break;
+p32 += 4;
+}
 l31:;
 j0 = UINT64_C(18446744073709551615);
 v8 = j0;
 i0 = v9;
 i0 = (i0 == 0);
 if (i0) { goto l2; }
-l30:;
+}
 j0 = v2;
 j1 = UINT64_C(3);
 j0 = j0 * j1;
@@ -29768,7 +30867,7 @@ j1 = v7;
 j0 = j0 - j1;
 j1 = UINT64_C(1);
 i0 = (j0 > j1);
-if (i0) { goto l37; }
+if (!i0) {
 j0 = v18;
 i1 = v9;
 p33 = write_at(j0, m, 2u);
@@ -29777,7 +30876,7 @@ j0 = v18;
 i1 = UINT32_C(51);
 store8(p33 + 0, i1);
 goto l36;
-l37:;
+}
 j0 = v18;
 i1 = v9;
 i2 = UINT32_C(8);
@@ -29875,7 +30974,7 @@ v1 = j1;
 j0 = j0 - j1;
 j1 = v4;
 i0 = (j0 >= j1);
-if (i0) { goto l39; }
+if (!i0) {
 j0 = v4;
 j1 = UINT64_C(3);
 j0 = j0 & j1;
@@ -29885,14 +30984,14 @@ v2 = j0;
 j0 = v4;
 j1 = UINT64_C(4);
 i0 = (j0 < j1);
-if (i0) { goto l40; }
+if (!i0) {
 j0 = v4;
 j1 = UINT64_C(1020);
 j0 = j0 & j1;
 v21 = j0;
 j0 = UINT64_C(0);
 v2 = j0;
-l41:;
+for (;;) {
 j0 = v18;
 j1 = v2;
 j0 = j0 + j1;
@@ -29937,11 +31036,12 @@ j2 = UINT64_C(4);
 j1 = j1 + j2;
 v2 = j1;
 i0 = (j0 != j1);
-if (i0) { goto l41; }
+if (!i0) break;
+}
 j0 = v6;
 i0 = (j0 == 0);
 if (i0) { goto l2; }
-l40:;
+}
 j0 = v3;
 j1 = v20;
 j2 = v2;
@@ -29979,7 +31079,7 @@ j1 = UINT64_C(0);
 i0 = (j0 != j1);
 if (i0) { goto l42; }
 goto l2;
-l39:;
+}
 j0 = v4;
 i0 = (j0 == 0);
 if (i0) { goto l2; }
@@ -30152,6 +31252,7 @@ v0 = j0;
 i0 = v14;
 v12 = i0;
 goto l4;
+}
 l6:;
 fio2070_trap();
 l5:;
@@ -30204,14 +31305,16 @@ store64(p44 + 776, j1);
 j0 = v8;
 j1 = v6;
 i0 = (j0 > j1);
-if (i0) { goto l2; }
+if (!i0) {
 j0 = v8;
 i0 = (j0 == 0);
-if (i0) { goto l2; }
+if (!i0) {
 j0 = v18;
 j1 = v7;
 j2 = v8;
 copy(m, j0, j1, j2);
+}
+}
 l2:;
 j0 = v7;
 j1 = UINT64_C(2304);
@@ -30281,6 +31384,9 @@ enum { STACK_fio2070_sized_module_count_transmit_error = 0 };
 enum { STACK_fio2070_sized_module_line_sync = 0 };
 #define TABLE_fio2070_sized_module_line_sync NO_TABLE
 #define call_fio2070_sized_module_line_sync enter_sized_module_line_sync
+enum { STACK_fio2070_sized_module_makers_command = 0 };
+#define TABLE_fio2070_sized_module_makers_command NO_TABLE
+#define call_fio2070_sized_module_makers_command enter_sized_module_makers_command
 enum { STACK_fio2070_sized_module_raise = 0 };
 #define TABLE_fio2070_sized_module_raise NO_TABLE
 #define call_fio2070_sized_module_raise enter_sized_module_raise
@@ -30371,6 +31477,9 @@ enum { STACK_fio2070_checker_sent = 64 };
 enum { STACK_fio2070_judge_lose = 0 };
 #define TABLE_fio2070_judge_lose NO_TABLE
 #define call_fio2070_judge_lose enter_judge_lose
+enum { STACK_fio2070_plan = 0 };
+#define TABLE_fio2070_plan NO_TABLE
+#define call_fio2070_plan enter_plan
 enum { STACK_fio2070_poller_hear = 16 };
 #define TABLE_fio2070_poller_hear NO_TABLE
 #define call_fio2070_poller_hear enter_poller_hear
@@ -30401,6 +31510,9 @@ enum { STACK_fio2070_heard_text = 368 };
 enum { STACK_fio2070_rule_text = 0 };
 #define TABLE_fio2070_rule_text table_67785
 #define call_fio2070_rule_text enter_rule_text
+enum { STACK_fio2070_sized_module_answer_other = 0 };
+#define TABLE_fio2070_sized_module_answer_other NO_TABLE
+#define call_fio2070_sized_module_answer_other enter_sized_module_answer_other
 enum { STACK_fio2070_encode_answer = 1568 };
 #define TABLE_fio2070_encode_answer NO_TABLE
 #define call_fio2070_encode_answer enter_encode_answer
@@ -30657,7 +31769,7 @@ j0 = v1;
 v1 = j0;
 j1 = UINT64_C(16);
 i0 = (SIGNED64(j0) < SIGNED64(j1));
-if (i0) { goto l2; }
+if (!i0) {
 j0 = v0;
 j1 = UINT64_C(451728);
 j0 = j0 + j1;
@@ -30736,25 +31848,25 @@ j0 = j0 + j1;
 j0 = load64(p3 + 382400);
 v2 = j0;
 i0 = (j0 == 0);
-if (i0) { goto l12; }
+if (!i0) {
 j0 = v2;
 j1 = UINT64_C(784);
 j0 = j0 * j1;
 v2 = j0;
 i0 = (j0 == 0);
-if (i0) { goto l13; }
+if (!i0) {
 j0 = v6;
 i1 = UINT32_C(0);
 j2 = v2;
 fill(m, j0, i1, j2);
-l13:;
+}
 j0 = v0;
 j1 = UINT64_C(447936);
 j0 = j0 + j1;
 j1 = UINT64_C(0);
 p4 = write_at(j0, m, 8u);
 store64(p4 + 0, j1);
-l12:;
+}
 j0 = v0;
 j1 = UINT64_C(451080);
 j0 = j0 + j1;
@@ -30762,27 +31874,27 @@ p5 = read_at(j0, m, 8u);
 j0 = load64(p5 + 0);
 v2 = j0;
 i0 = (j0 == 0);
-if (i0) { goto l14; }
+if (!i0) {
 j0 = v2;
 j1 = UINT64_C(5);
 j0 = j0 << (j1 & 63);
 v2 = j0;
 i0 = (j0 == 0);
-if (i0) { goto l15; }
+if (!i0) {
 j0 = v0;
 j1 = UINT64_C(447944);
 j0 = j0 + j1;
 i1 = UINT32_C(0);
 j2 = v2;
 fill(m, j0, i1, j2);
-l15:;
+}
 j0 = v0;
 j1 = UINT64_C(451080);
 j0 = j0 + j1;
 j1 = UINT64_C(0);
 p6 = write_at(j0, m, 8u);
 store64(p6 + 0, j1);
-l14:;
+}
 j0 = v0;
 j1 = UINT64_C(451088);
 j0 = j0 + j1;
@@ -30792,10 +31904,10 @@ store8(p7 + 0, i1);
 j0 = v8;
 j1 = UINT64_C(2);
 i0 = (j0 < j1);
-if (i0) { goto l20; }
+if (!i0) {
 i0 = v4;
 i0 = (i0 == 0);
-if (i0) { goto l20; }
+if (!i0) {
 j0 = v0;
 p8 = read_at(j0, m, 1u);
 i0 = load8(p8 + 0);
@@ -30841,7 +31953,8 @@ fill(m, j0, i1, j2);
 i0 = UINT32_C(1);
 v11 = i0;
 goto l8;
-l20:;
+}
+}
 j0 = v1;
 j1 = UINT64_C(107);
 j0 = j0 + j1;
@@ -30860,7 +31973,7 @@ i0 = (i0 == i1);
 if (i0) { goto l17; }
 i0 = v5;
 i0 = (i0 == 0);
-if (i0) { goto l24; }
+if (!i0) {
 i0 = UINT32_C(0);
 v10 = i0;
 i0 = UINT32_C(1);
@@ -30872,7 +31985,7 @@ v13 = j0;
 j0 = v0;
 v2 = j0;
 goto l7;
-l24:;
+}
 i0 = UINT32_C(0);
 v10 = i0;
 j0 = v8;
@@ -30959,7 +32072,7 @@ j0 = v0;
 j1 = UINT64_C(65544);
 j0 = j0 + j1;
 i0 = load8(p12 + 0);
-if (i0) { goto l25; }
+if (!i0) {
 j0 = v0;
 j1 = UINT64_C(65536);
 j0 = j0 + j1;
@@ -30967,7 +32080,7 @@ p13 = read_at(j0, m, 8u);
 j0 = load64(p13 + 0);
 v8 = j0;
 i0 = (j0 == 0);
-if (i0) { goto l26; }
+if (!i0) {
 j0 = v0;
 v2 = j0;
 l27:;
@@ -30997,7 +32110,7 @@ v8 = j0;
 j1 = UINT64_C(0);
 i0 = (j0 != j1);
 if (i0) { goto l27; }
-l26:;
+}
 j0 = v0;
 j1 = UINT64_C(451096);
 j0 = j0 + j1;
@@ -31018,6 +32131,7 @@ j1 = v8;
 j2 = UINT64_C(1);
 j1 = j1 + j2;
 store64(p12 + 386112, j1);
+}
 l25:;
 j0 = v0;
 j1 = UINT64_C(451746);
@@ -31055,19 +32169,20 @@ v5 = i0;
 i0 = v9;
 i1 = UINT32_C(62);
 i0 = (i0 != i1);
-if (i0) { goto l28; }
+if (!i0) {
 i0 = v5;
 i1 = UINT32_C(255);
 i0 = i0 & i1;
 i1 = UINT32_C(32);
 i0 = (i0 != i1);
-if (i0) { goto l28; }
+if (!i0) {
 i0 = UINT32_C(1);
 v17 = i0;
 i0 = UINT32_C(0);
 v12 = i0;
 goto l6;
-l28:;
+}
+}
 i0 = UINT32_C(1);
 v14 = i0;
 j0 = UINT64_C(0);
@@ -31091,27 +32206,27 @@ l6:;
 j0 = v13;
 j1 = UINT64_C(1547);
 i0 = (j0 > j1);
-if (i0) { goto l30; }
+if (!i0) {
 i0 = UINT32_C(1);
 v14 = i0;
 j0 = v13;
 i0 = (j0 == 0);
 i0 = (i0 == 0);
-if (i0) { goto l31; }
+if (!i0) {
 j0 = UINT64_C(0);
 v15 = j0;
 goto l5;
-l31:;
+}
 j0 = v13;
 j1 = UINT64_C(1);
 j0 = j0 & j1;
 i0 = (uint32_t)j0;
 i0 = (i0 == 0);
-if (i0) { goto l32; }
+if (!i0) {
 j0 = UINT64_C(0);
 v15 = j0;
 goto l5;
-l32:;
+}
 j0 = v1;
 j1 = UINT64_C(107);
 j0 = j0 + j1;
@@ -31128,11 +32243,11 @@ i0 = load8(p18 + 0);
 v5 = i0;
 i1 = UINT32_C(48);
 i0 = (i0 >= i1);
-if (i0) { goto l34; }
+if (!i0) {
 j0 = UINT64_C(0);
 v15 = j0;
 goto l5;
-l34:;
+}
 j0 = v2;
 j1 = UINT64_C(1);
 j0 = j0 + j1;
@@ -31142,31 +32257,31 @@ v9 = i0;
 i0 = v5;
 i1 = UINT32_C(57);
 i0 = (i0 > i1);
-if (i0) { goto l36; }
+if (!i0) {
 i0 = v5;
 i1 = UINT32_C(4294967248);
 i0 = i0 + i1;
 v18 = i0;
 goto l35;
-l36:;
+}
 i0 = v5;
 i1 = UINT32_C(65);
 i0 = (i0 >= i1);
-if (i0) { goto l37; }
+if (!i0) {
 j0 = UINT64_C(0);
 v15 = j0;
 goto l5;
-l37:;
+}
 i0 = v5;
 i1 = UINT32_C(70);
 i0 = (i0 > i1);
-if (i0) { goto l38; }
+if (!i0) {
 i0 = v5;
 i1 = UINT32_C(4294967241);
 i0 = i0 + i1;
 v18 = i0;
 goto l35;
-l38:;
+}
 i0 = v5;
 i1 = UINT32_C(4294967199);
 i0 = i0 + i1;
@@ -31174,11 +32289,11 @@ i1 = UINT32_C(255);
 i0 = i0 & i1;
 i1 = UINT32_C(5);
 i0 = (i0 <= i1);
-if (i0) { goto l39; }
+if (!i0) {
 j0 = UINT64_C(0);
 v15 = j0;
 goto l5;
-l39:;
+}
 i0 = v5;
 i1 = UINT32_C(4294967209);
 i0 = i0 + i1;
@@ -31190,42 +32305,42 @@ i0 = i0 & i1;
 v5 = i0;
 i1 = UINT32_C(48);
 i0 = (i0 >= i1);
-if (i0) { goto l40; }
+if (!i0) {
 j0 = UINT64_C(0);
 v15 = j0;
 goto l5;
-l40:;
+}
 i0 = v5;
 i1 = UINT32_C(57);
 i0 = (i0 > i1);
-if (i0) { goto l42; }
+if (!i0) {
 i0 = v9;
 i1 = UINT32_C(4294967248);
 i0 = i0 + i1;
 v5 = i0;
 goto l41;
-l42:;
+}
 i0 = v9;
 i1 = UINT32_C(255);
 i0 = i0 & i1;
 v5 = i0;
 i1 = UINT32_C(65);
 i0 = (i0 >= i1);
-if (i0) { goto l43; }
+if (!i0) {
 j0 = UINT64_C(0);
 v15 = j0;
 goto l5;
-l43:;
+}
 i0 = v5;
 i1 = UINT32_C(70);
 i0 = (i0 > i1);
-if (i0) { goto l44; }
+if (!i0) {
 i0 = v9;
 i1 = UINT32_C(4294967241);
 i0 = i0 + i1;
 v5 = i0;
 goto l41;
-l44:;
+}
 i0 = v9;
 i1 = UINT32_C(4294967199);
 i0 = i0 + i1;
@@ -31233,11 +32348,11 @@ i1 = UINT32_C(255);
 i0 = i0 & i1;
 i1 = UINT32_C(5);
 i0 = (i0 <= i1);
-if (i0) { goto l45; }
+if (!i0) {
 j0 = UINT64_C(0);
 v15 = j0;
 goto l5;
-l45:;
+}
 i0 = v9;
 i1 = UINT32_C(4294967209);
 i0 = i0 + i1;
@@ -31267,7 +32382,7 @@ i0 = (j0 == 0);
 i0 = (i0 == 0);
 if (i0) { goto l33; }
 goto l29;
-l30:;
+}
 i0 = UINT32_C(1);
 v14 = i0;
 j0 = UINT64_C(0);
@@ -31290,7 +32405,7 @@ if (i0) { goto l5; }
 i0 = v5;
 i1 = UINT32_C(58);
 i0 = (i0 < i1);
-if (i0) { goto l47; }
+if (!i0) {
 i0 = v5;
 i1 = UINT32_C(65);
 i0 = (i0 < i1);
@@ -31298,7 +32413,7 @@ if (i0) { goto l5; }
 i0 = v5;
 i1 = UINT32_C(71);
 i0 = (i0 < i1);
-if (i0) { goto l47; }
+if (!i0) {
 i0 = v5;
 i1 = UINT32_C(4294967199);
 i0 = i0 + i1;
@@ -31307,7 +32422,8 @@ i0 = i0 & i1;
 i1 = UINT32_C(5);
 i0 = (i0 > i1);
 if (i0) { goto l5; }
-l47:;
+}
+}
 j0 = v2;
 j1 = UINT64_C(1);
 j0 = j0 + j1;
@@ -31320,7 +32436,7 @@ if (i0) { goto l5; }
 i0 = v5;
 i1 = UINT32_C(58);
 i0 = (i0 < i1);
-if (i0) { goto l48; }
+if (!i0) {
 i0 = v5;
 i1 = UINT32_C(65);
 i0 = (i0 < i1);
@@ -31328,7 +32444,7 @@ if (i0) { goto l5; }
 i0 = v5;
 i1 = UINT32_C(71);
 i0 = (i0 < i1);
-if (i0) { goto l48; }
+if (!i0) {
 i0 = v5;
 i1 = UINT32_C(4294967199);
 i0 = i0 + i1;
@@ -31337,7 +32453,8 @@ i0 = i0 & i1;
 i1 = UINT32_C(5);
 i0 = (i0 > i1);
 if (i0) { goto l5; }
-l48:;
+}
+}
 j0 = v2;
 j1 = UINT64_C(2);
 j0 = j0 + j1;
@@ -31357,7 +32474,7 @@ l29:;
 j0 = v15;
 j1 = UINT64_C(773);
 i0 = (j0 > j1);
-if (i0) { goto l49; }
+if (!i0) {
 j0 = v1;
 j1 = UINT64_C(0);
 store64(p1 + 904, j1);
@@ -31371,13 +32488,13 @@ j0 = v1;
 j1 = UINT64_C(0);
 store64(p1 + 880, j1);
 i0 = v12;
-if (i0) { goto l50; }
+if (!i0) {
 j0 = v1;
 i0 = load8(p1 + 107);
 v5 = i0;
 i0 = v17;
 i0 = (i0 == 0);
-if (i0) { goto l52; }
+if (!i0) {
 j0 = UINT64_C(2);
 v2 = j0;
 i0 = v5;
@@ -31440,12 +32557,13 @@ if (i0) { goto l49; }
 i0 = v5;
 i1 = UINT32_C(54);
 i0 = (i0 < i1);
-if (i0) { goto l55; }
+if (!i0) {
 i0 = v5;
 i1 = UINT32_C(58);
 i0 = (i0 < i1);
 if (i0) { goto l53; }
 goto l49;
+}
 l55:;
 j0 = UINT64_C(1);
 v2 = j0;
@@ -31468,7 +32586,7 @@ j1 = UINT64_C(16);
 i0 = (j0 > j1);
 if (i0) { goto l51; }
 goto l2;
-l52:;
+}
 j0 = UINT64_C(8);
 v2 = j0;
 i0 = v5;
@@ -31519,7 +32637,7 @@ if (i0) { goto l49; }
 i0 = v5;
 i1 = UINT32_C(180);
 i0 = (i0 < i1);
-if (i0) { goto l62; }
+if (!i0) {
 j0 = UINT64_C(13);
 v2 = j0;
 i0 = v5;
@@ -31531,6 +32649,7 @@ i1 = UINT32_C(189);
 i0 = (i0 < i1);
 if (i0) { goto l60; }
 goto l49;
+}
 l62:;
 j0 = UINT64_C(2);
 v2 = j0;
@@ -31548,26 +32667,27 @@ v5 = i1;
 i0 = i0 << (i1 & 31);
 i1 = UINT32_C(4071);
 i0 = i0 & i1;
-if (i0) { goto l51; }
+if (!i0) {
 i0 = v5;
 i1 = UINT32_C(3);
 i0 = (i0 != i1);
-if (i0) { goto l65; }
+if (!i0) {
 j0 = v15;
 j1 = UINT64_C(8);
 i0 = (j0 <= j1);
 if (i0) { goto l2; }
 goto l51;
-l65:;
+}
 j0 = v15;
 j1 = UINT64_C(8);
 i0 = (j0 <= j1);
 if (i0) { goto l2; }
+}
 l51:;
 i0 = UINT32_C(3);
 v14 = i0;
 goto l5;
-l50:;
+}
 j0 = v1;
 j1 = UINT64_C(880);
 j0 = j0 + j1;
@@ -31578,10 +32698,12 @@ j2 = v15;
 fio_log_sayings_spelled(m, j0, j1, j2);
 j0 = v1;
 i0 = load8(p1 + 880);
-if (i0) { goto l49; }
+if (!i0) {
 i0 = UINT32_C(3);
 v14 = i0;
 goto l5;
+}
+}
 l49:;
 i0 = UINT32_C(2);
 v14 = i0;
@@ -31590,7 +32712,7 @@ i0 = v7;
 i1 = UINT32_C(1);
 i0 = i0 & i1;
 i0 = (i0 == 0);
-if (i0) { goto l66; }
+if (!i0) {
 j0 = v1;
 j1 = UINT64_C(0);
 store64(p1 + 94, j1);
@@ -31617,7 +32739,7 @@ v9 = i0;
 i0 = UINT32_C(4);
 v5 = i0;
 goto l4;
-l66:;
+}
 i0 = v14;
 i1 = UINT32_C(4294967295);
 i0 = i0 + i1;
@@ -31697,10 +32819,10 @@ fill(m, j0, i1, j2);
 j0 = v15;
 j1 = UINT64_C(773);
 i0 = (j0 > j1);
-if (i0) { goto l70; }
+if (!i0) {
 j0 = v15;
 i0 = (j0 == 0);
-if (i0) { goto l71; }
+if (!i0) {
 j0 = v1;
 j1 = UINT64_C(880);
 j0 = j0 + j1;
@@ -31709,11 +32831,11 @@ j2 = UINT64_C(107);
 j1 = j1 + j2;
 j2 = v15;
 copy(m, j0, j1, j2);
-l71:;
+}
 j0 = v1;
 j1 = v15;
 store64(p1 + 1656, j1);
-l70:;
+}
 j0 = v6;
 j1 = v1;
 j2 = UINT64_C(880);
@@ -31891,9 +33013,9 @@ j1 = UINT64_C(1664);
 j0 = j0 + j1;
 m->g0 = j0;
 return;
+}
 l2:;
 fio2070_trap();
-return;
 }
 static void fio_log_sayings_spelled(struct machine *m, uint64_t v0, uint64_t v1, uint64_t v2)
 {
@@ -31917,7 +33039,7 @@ uint8_t *p6;
 j0 = m->g0;
 j1 = UINT64_C(16);
 i0 = (SIGNED64(j0) < SIGNED64(j1));
-if (i0) { goto l3; }
+if (!i0) {
 i0 = UINT32_C(0);
 v3 = i0;
 j0 = UINT64_C(0);
@@ -31925,11 +33047,11 @@ v4 = j0;
 j0 = v2;
 i0 = (j0 == 0);
 i0 = (i0 == 0);
-if (i0) { goto l11; }
+if (!i0) {
 j0 = UINT64_C(0);
 v5 = j0;
 goto l10;
-l11:;
+}
 j0 = v1;
 p1 = read_at(j0, m, 1u);
 i0 = (uint32_t)extend(load8(p1 + 0), 7);
@@ -31940,7 +33062,7 @@ v7 = i0;
 i0 = v6;
 i1 = UINT32_C(4294967295);
 i0 = (SIGNED32(i0) > SIGNED32(i1));
-if (i0) { goto l12; }
+if (!i0) {
 j0 = UINT64_C(8);
 v5 = j0;
 i0 = v7;
@@ -31996,7 +33118,7 @@ if (i0) { goto l13; }
 i0 = v6;
 i1 = UINT32_C(4294967220);
 i0 = (i0 < i1);
-if (i0) { goto l15; }
+if (!i0) {
 i0 = v6;
 i1 = UINT32_C(4294967222);
 i0 = (i0 >= i1);
@@ -32004,6 +33126,7 @@ if (i0) { goto l14; }
 j0 = UINT64_C(13);
 v5 = j0;
 goto l7;
+}
 l15:;
 j0 = UINT64_C(2);
 v5 = j0;
@@ -32027,7 +33150,7 @@ v4 = j0;
 j0 = UINT64_C(0);
 v2 = j0;
 goto l2;
-l12:;
+}
 i0 = UINT32_C(1);
 v3 = i0;
 j0 = UINT64_C(2);
@@ -32073,13 +33196,13 @@ l25:;
 j0 = v2;
 j1 = UINT64_C(1);
 i0 = (j0 != j1);
-if (i0) { goto l27; }
+if (!i0) {
 j0 = UINT64_C(0);
 v4 = j0;
 j0 = UINT64_C(2);
 v5 = j0;
 goto l18;
-l27:;
+}
 j0 = v1;
 j1 = UINT64_C(1);
 j0 = j0 + j1;
@@ -32126,19 +33249,19 @@ l19:;
 j0 = v2;
 j1 = UINT64_C(773);
 i0 = (j0 <= j1);
-if (i0) { goto l28; }
+if (!i0) {
 j0 = v2;
 v5 = j0;
 goto l10;
-l28:;
+}
 i0 = v8;
-if (i0) { goto l29; }
+if (!i0) {
 i0 = UINT32_C(2);
 v3 = i0;
 j0 = UINT64_C(0);
 v5 = j0;
 goto l9;
-l29:;
+}
 j0 = v2;
 j1 = UINT64_C(18446744073709551615);
 j0 = j0 + j1;
@@ -32226,7 +33349,7 @@ l5:;
 j0 = v5;
 j1 = v2;
 i0 = (j0 == j1);
-if (i0) { goto l30; }
+if (!i0) {
 i0 = UINT32_C(3);
 v3 = i0;
 i0 = UINT32_C(0);
@@ -32236,7 +33359,7 @@ v4 = j0;
 j0 = v5;
 v2 = j0;
 goto l2;
-l30:;
+}
 i0 = UINT32_C(1);
 i1 = v7;
 i2 = UINT32_C(4294967119);
@@ -32245,21 +33368,22 @@ v6 = i1;
 i0 = i0 << (i1 & 31);
 i1 = UINT32_C(4071);
 i0 = i0 & i1;
-if (i0) { goto l4; }
+if (!i0) {
 i0 = v6;
 i1 = UINT32_C(3);
 i0 = (i0 != i1);
-if (i0) { goto l31; }
+if (!i0) {
 j0 = v2;
 j1 = UINT64_C(8);
 i0 = (j0 > j1);
 if (i0) { goto l4; }
 goto l3;
-l31:;
+}
 j0 = v2;
 j1 = UINT64_C(8);
 i0 = (j0 <= j1);
 if (i0) { goto l3; }
+}
 l4:;
 j0 = v0;
 i1 = UINT32_C(0);
@@ -32281,6 +33405,7 @@ j0 = j0 + j1;
 j1 = UINT64_C(0);
 store64(p5 + 24, j1);
 return;
+}
 l3:;
 fio2070_trap();
 l2:;
@@ -32308,7 +33433,6 @@ j1 = UINT64_C(8);
 j0 = j0 + j1;
 i1 = v3;
 store8(p6 + 8, i1);
-return;
 }
 static void fio_log_sides_said_at(struct machine *m, uint64_t v0, uint64_t v1, uint64_t v2, uint64_t v3)
 {
@@ -32372,11 +33496,11 @@ j0 = m->g0;
 v4 = j0;
 j1 = UINT64_C(16);
 i0 = (SIGNED64(j0) < SIGNED64(j1));
-if (i0) { goto l2; }
+if (!i0) {
 j0 = v2;
 j1 = UINT64_C(2);
 i0 = (j0 < j1);
-if (i0) { goto l4; }
+if (!i0) {
 j0 = v1;
 p1 = read_at(j0, m, 1u);
 i0 = load8(p1 + 0);
@@ -32410,12 +33534,14 @@ p3 = read_at(j0 + UINT64_C(1), m, 1u);
 i0 = load8(p3 + 0);
 i1 = UINT32_C(32);
 i0 = (i0 != i1);
-if (i0) { goto l4; }
+if (!i0) {
 i0 = UINT32_C(1);
 v6 = i0;
 i0 = UINT32_C(1);
 v5 = i0;
 goto l3;
+}
+}
 l4:;
 i0 = UINT32_C(0);
 v6 = i0;
@@ -32424,11 +33550,11 @@ j1 = v3;
 i0 = (j0 < j1);
 v7 = i0;
 i0 = (i0 == 0);
-if (i0) { goto l7; }
+if (!i0) {
 i0 = UINT32_C(0);
 v5 = i0;
 goto l3;
-l7:;
+}
 i0 = UINT32_C(0);
 v5 = i0;
 j0 = UINT64_C(0);
@@ -32437,7 +33563,7 @@ i2 = v7;
 j0 = i2 ? j0 : j1;
 v8 = j0;
 i0 = (j0 == 0);
-if (i0) { goto l3; }
+if (!i0) {
 j0 = UINT64_C(0);
 j1 = v1;
 i2 = v7;
@@ -32472,13 +33598,13 @@ i0 = load8(p4 + 0);
 v16 = i0;
 i1 = UINT32_C(45);
 i0 = (i0 == i1);
-if (i0) { goto l15; }
+if (!i0) {
 i0 = UINT32_C(3);
 v17 = i0;
 i0 = v16;
 i1 = UINT32_C(60);
 i0 = (i0 < i1);
-if (i0) { goto l16; }
+if (!i0) {
 i0 = v16;
 i1 = UINT32_C(63);
 i0 = (i0 < i1);
@@ -32486,19 +33612,19 @@ if (i0) { goto l15; }
 i0 = v16;
 i1 = UINT32_C(65);
 i0 = (i0 < i1);
-if (i0) { goto l16; }
+if (!i0) {
 i0 = v16;
 i1 = UINT32_C(91);
 i0 = (i0 < i1);
-if (i0) { goto l17; }
+if (!i0) {
 i0 = v16;
 i1 = UINT32_C(97);
 i0 = (i0 >= i1);
-if (i0) { goto l20; }
+if (!i0) {
 i0 = UINT32_C(0);
 v18 = i0;
 goto l19;
-l20:;
+}
 i0 = v16;
 i1 = UINT32_C(123);
 i0 = (i0 < i1);
@@ -32521,7 +33647,7 @@ j0 = j0 + j1;
 v2 = j0;
 j1 = v8;
 i0 = (j0 >= j1);
-if (i0) { goto l21; }
+if (!i0) {
 j0 = v9;
 j1 = v14;
 j0 = j0 + j1;
@@ -32553,7 +33679,7 @@ j1 = UINT64_C(1);
 j0 = j0 + j1;
 j1 = UINT64_C(3);
 i0 = (j0 < j1);
-if (i0) { goto l24; }
+if (!i0) {
 j0 = v15;
 j1 = v22;
 j0 = j0 + j1;
@@ -32579,7 +33705,7 @@ p7 = read_at(j0, m, 1u);
 i0 = load8(p7 + 0);
 i1 = UINT32_C(134);
 i0 = (i0 != i1);
-if (i0) { goto l24; }
+if (!i0) {
 j0 = v23;
 j1 = UINT64_C(18446744073709551614);
 j0 = j0 + j1;
@@ -32588,6 +33714,8 @@ i0 = load8(p8 + 0);
 i1 = UINT32_C(226);
 i0 = (i0 == i1);
 if (i0) { goto l22; }
+}
+}
 l24:;
 j0 = v2;
 j1 = UINT64_C(1);
@@ -32612,6 +33740,7 @@ j0 = j0 + j1;
 j1 = UINT64_C(1);
 j0 = j0 + j1;
 v2 = j0;
+}
 l21:;
 i0 = UINT32_C(0);
 v19 = i0;
@@ -32702,6 +33831,7 @@ i1 = UINT32_C(226);
 i0 = (i0 != i1);
 if (i0) { goto l10; }
 goto l13;
+}
 l17:;
 i0 = UINT32_C(0);
 v19 = i0;
@@ -32710,12 +33840,14 @@ v18 = i0;
 i0 = UINT32_C(0);
 v17 = i0;
 goto l14;
-l16:;
+}
+}
 i0 = UINT32_C(1);
 v19 = i0;
 i0 = UINT32_C(0);
 v18 = i0;
 goto l14;
+}
 l15:;
 i0 = UINT32_C(1);
 v17 = i0;
@@ -32730,7 +33862,7 @@ j0 = j0 + j1;
 v2 = j0;
 j1 = v8;
 i0 = (j0 >= j1);
-if (i0) { goto l34; }
+if (!i0) {
 l35:;
 i0 = UINT32_C(1);
 v7 = i0;
@@ -32742,11 +33874,11 @@ i0 = load8(p14 + 0);
 v11 = i0;
 i1 = UINT32_C(45);
 i0 = (i0 == i1);
-if (i0) { goto l36; }
+if (!i0) {
 i0 = v11;
 i1 = UINT32_C(60);
 i0 = (i0 < i1);
-if (i0) { goto l37; }
+if (!i0) {
 i0 = v11;
 i1 = UINT32_C(63);
 i0 = (i0 < i1);
@@ -32754,7 +33886,7 @@ if (i0) { goto l36; }
 i0 = v11;
 i1 = UINT32_C(65);
 i0 = (i0 < i1);
-if (i0) { goto l37; }
+if (!i0) {
 i0 = UINT32_C(0);
 v7 = i0;
 i0 = v11;
@@ -32764,7 +33896,7 @@ if (i0) { goto l36; }
 i0 = v11;
 i1 = UINT32_C(97);
 i0 = (i0 < i1);
-if (i0) { goto l37; }
+if (!i0) {
 i0 = v11;
 i1 = UINT32_C(123);
 i0 = (i0 < i1);
@@ -32780,9 +33912,12 @@ i0 = v19;
 i0 = (i0 == 0);
 if (i0) { goto l33; }
 goto l32;
-l37:;
+}
+}
+}
 i0 = UINT32_C(3);
 v7 = i0;
+}
 l36:;
 i0 = v7;
 i1 = v17;
@@ -32797,6 +33932,7 @@ i0 = (j0 != j1);
 if (i0) { goto l35; }
 j0 = v3;
 v2 = j0;
+}
 l34:;
 i0 = v19;
 if (i0) { goto l32; }
@@ -32825,7 +33961,7 @@ j1 = j1 + j2;
 p15 = read_at(j1, m, 8u);
 j1 = load64(p15 + 0);
 i0 = (j0 != j1);
-if (i0) { goto l39; }
+if (!i0) {
 j0 = v25;
 j1 = UINT64_C(65544);
 j0 = j0 + j1;
@@ -32877,7 +34013,7 @@ i2 = UINT32_C(255);
 i1 = i1 & i2;
 i0 = (i0 == i1);
 if (i0) { goto l40; }
-l39:;
+}
 j0 = v20;
 j1 = UINT64_C(1);
 j0 = j0 + j1;
@@ -32902,7 +34038,7 @@ l31:;
 j0 = v21;
 j1 = UINT64_C(1);
 i0 = (j0 > j1);
-if (i0) { goto l43; }
+if (!i0) {
 i0 = UINT32_C(0);
 v19 = i0;
 i0 = UINT32_C(0);
@@ -32943,7 +34079,7 @@ goto l42;
 default:
 goto l10;
 }
-l43:;
+}
 j0 = v1;
 j1 = v2;
 j0 = j0 + j1;
@@ -32953,7 +34089,7 @@ p19 = read_at(j0, m, 1u);
 i0 = load8(p19 + 0);
 i1 = UINT32_C(62);
 i0 = (i0 == i1);
-if (i0) { goto l45; }
+if (!i0) {
 i0 = UINT32_C(0);
 v19 = i0;
 i0 = v16;
@@ -32961,7 +34097,7 @@ i1 = UINT32_C(60);
 i0 = (i0 != i1);
 if (i0) { goto l12; }
 goto l28;
-l45:;
+}
 j0 = v15;
 j1 = v21;
 j2 = UINT64_C(65541);
@@ -33006,7 +34142,7 @@ v17 = i0;
 j0 = v20;
 j1 = UINT64_C(18);
 i0 = (j0 > j1);
-if (i0) { goto l29; }
+if (!i0) {
 j0 = v25;
 j1 = UINT64_C(65560);
 j0 = j0 + j1;
@@ -33017,6 +34153,7 @@ i0 = UINT32_C(1);
 v17 = i0;
 i0 = UINT32_C(1);
 v13 = i0;
+}
 l29:;
 i0 = UINT32_C(0);
 v11 = i0;
@@ -33026,7 +34163,7 @@ j0 = j0 + j1;
 v14 = j0;
 j1 = UINT64_C(1);
 i0 = (j0 > j1);
-if (i0) { goto l46; }
+if (!i0) {
 j0 = v14;
 i0 = (uint32_t)j0;
 switch (i0) {
@@ -33206,6 +34343,7 @@ i1 = (i1 == 0);
 i0 = i0 & i1;
 v19 = i0;
 goto l10;
+}
 l46:;
 i0 = UINT32_C(0);
 v7 = i0;
@@ -33258,6 +34396,7 @@ j0 = v2;
 j1 = v8;
 i0 = (j0 < j1);
 if (i0) { goto l8; }
+}
 l3:;
 j0 = v0;
 i1 = v6;
@@ -33269,9 +34408,8 @@ store8(p26 + 0, i1);
 j0 = v4;
 m->g0 = j0;
 return;
-l2:;
+}
 fio2070_trap();
-return;
 }
 static uint32_t core_slice_reads_slice_T_contains_i8_31_core_cmp_numbers_U8PartialEq(struct machine *m, uint64_t v0, uint64_t v1, uint64_t v2)
 {
@@ -33294,7 +34432,7 @@ uint64_t j2;
 uint64_t j3;
 uint64_t j4;
 uint64_t j5;
-uint32_t r;
+uint32_t r = 0;
 uint8_t *p1;
 uint8_t *p2;
 uint8_t *p3;
@@ -33347,11 +34485,11 @@ uint8_t *p49;
 j0 = m->g0;
 j1 = UINT64_C(16);
 i0 = (SIGNED64(j0) < SIGNED64(j1));
-if (i0) { goto l2; }
+if (!i0) {
 j0 = v1;
 j1 = UINT64_C(3);
 i0 = (j0 > j1);
-if (i0) { goto l4; }
+if (!i0) {
 j0 = v0;
 p1 = read_at(j0, m, 1u);
 i0 = load8(p1 + 0);
@@ -33382,11 +34520,11 @@ i1 = (i1 == i2);
 i0 = i0 | i1;
 v3 = i0;
 goto l3;
-l4:;
+}
 j0 = v1;
 j1 = UINT64_C(8);
 i0 = (j0 > j1);
-if (i0) { goto l5; }
+if (!i0) {
 j0 = v0;
 p5 = read_at(j0, m, 4u);
 i0 = load8(p5 + 0);
@@ -33450,11 +34588,11 @@ i1 = i1 | i2;
 i0 = i0 | i1;
 v3 = i0;
 goto l3;
-l5:;
+}
 j0 = v1;
 j1 = UINT64_C(32);
 i0 = (j0 > j1);
-if (i0) { goto l6; }
+if (!i0) {
 j0 = v0;
 p8 = read_at(j0, m, 8u);
 i0 = load8(p8 + 0);
@@ -33701,7 +34839,7 @@ i1 = i1 | i2;
 i0 = i0 | i1;
 v3 = i0;
 goto l3;
-l6:;
+}
 j0 = v2;
 p13 = read_at(j0, m, 1u);
 i0 = load8(p13 + 0);
@@ -33709,7 +34847,7 @@ v6 = i0;
 j0 = v1;
 j1 = UINT64_C(64);
 i0 = (j0 > j1);
-if (i0) { goto l7; }
+if (!i0) {
 j0 = v0;
 p14 = read_at(j0, m, 32u);
 i0 = load8(p14 + 0);
@@ -34165,7 +35303,7 @@ i1 = i1 | i2;
 i0 = i0 | i1;
 v3 = i0;
 goto l3;
-l7:;
+}
 j0 = v1;
 j1 = UINT64_C(18446744073709551552);
 j0 = j0 & j1;
@@ -34179,7 +35317,7 @@ i0 = UINT32_C(0);
 v10 = i0;
 j0 = UINT64_C(0);
 v5 = j0;
-l10:;
+for (;;) {
 i0 = v10;
 j1 = v9;
 j2 = v5;
@@ -34221,7 +35359,8 @@ j0 = j0 + j1;
 v5 = j0;
 j1 = UINT64_C(64);
 i0 = (j0 != j1);
-if (i0) { goto l10; }
+if (!i0) break;
+}
 i0 = v10;
 i1 = UINT32_C(1);
 i0 = i0 & i1;
@@ -34248,7 +35387,7 @@ j0 = j0 - j1;
 v5 = j0;
 j1 = UINT64_C(32);
 i0 = (j0 < j1);
-if (i0) { goto l11; }
+if (!i0) {
 j0 = v0;
 j1 = v8;
 j0 = j0 + j1;
@@ -34637,6 +35776,7 @@ j0 = v5;
 j1 = UINT64_C(31);
 i0 = (j0 > j1);
 if (i0) { goto l3; }
+}
 l11:;
 j0 = v0;
 j1 = v1;
@@ -34874,7 +36014,7 @@ i1 = UINT32_C(1);
 i0 = i0 & i1;
 r = i0;
 return r;
-l2:;
+}
 fio2070_trap();
 return r;
 }
@@ -34897,7 +36037,7 @@ uint64_t j2;
 uint64_t j3;
 uint64_t j4;
 uint64_t j5;
-uint32_t r;
+uint32_t r = 0;
 uint8_t *p1;
 uint8_t *p2;
 uint8_t *p3;
@@ -34909,7 +36049,7 @@ uint8_t *p8;
 j0 = m->g0;
 j1 = UINT64_C(16);
 i0 = (SIGNED64(j0) < SIGNED64(j1));
-if (i0) { goto l2; }
+if (!i0) {
 j0 = v0;
 j1 = v2;
 j2 = UINT64_C(18446744073709551608);
@@ -35190,7 +36330,7 @@ i1 = (i1 != i2);
 i0 = i0 | i1;
 r = i0;
 return r;
-l2:;
+}
 fio2070_trap();
 return r;
 }
@@ -35253,7 +36393,7 @@ j0 = m->g0;
 v1 = j0;
 j1 = UINT64_C(16);
 i0 = (SIGNED64(j0) < SIGNED64(j1));
-if (i0) { goto l2; }
+if (!i0) {
 j0 = v0;
 j1 = UINT64_C(451736);
 j0 = j0 + j1;
@@ -35265,7 +36405,7 @@ j2 = UINT64_C(451728);
 j1 = j1 + j2;
 j1 = load64(p1 + 0);
 i0 = (j0 != j1);
-if (i0) { goto l3; }
+if (!i0) {
 j0 = v0;
 j1 = UINT64_C(451746);
 j0 = j0 + j1;
@@ -35275,14 +36415,14 @@ store8(p2 + 0, i1);
 j0 = v1;
 m->g0 = j0;
 return;
-l3:;
+}
 j0 = v0;
 j1 = UINT64_C(451664);
 j0 = j0 + j1;
 p3 = read_at(j0, m, 1u);
 i0 = load8(p3 + 0);
 i0 = (i0 == 0);
-if (i0) { goto l4; }
+if (!i0) {
 j0 = v0;
 j1 = UINT64_C(451746);
 j0 = j0 + j1;
@@ -35292,7 +36432,7 @@ store8(p4 + 0, i1);
 j0 = v1;
 m->g0 = j0;
 return;
-l4:;
+}
 j0 = v0;
 j1 = UINT64_C(415792);
 j0 = j0 + j1;
@@ -35317,7 +36457,7 @@ p5 = read_at(j0, m, 8u);
 j0 = load64(p5 + 0);
 v2 = j0;
 i0 = (j0 == 0);
-if (i0) { goto l9; }
+if (!i0) {
 j0 = v5;
 j1 = v3;
 j2 = v6;
@@ -35333,7 +36473,7 @@ j1 = j1 + j2;
 p7 = read_at(j1, m, 8u);
 j1 = load64(p7 + 0);
 i0 = (j0 <= j1);
-if (i0) { goto l10; }
+if (!i0) {
 j0 = v2;
 j1 = UINT64_C(1);
 i0 = (j0 == j1);
@@ -35346,7 +36486,7 @@ j0 = remainder64(j0, j1);
 j1 = UINT64_C(144);
 j0 = j0 * j1;
 v9 = j0;
-l10:;
+}
 j0 = v3;
 j1 = v9;
 j0 = j0 + j1;
@@ -35355,6 +36495,7 @@ j0 = j0 + j1;
 p8 = read_at(j0, m, 1u);
 i0 = load8(p8 + 0);
 if (i0) { goto l8; }
+}
 l9:;
 j0 = v0;
 fio_log_reader_Reader_read_unread(m, j0);
@@ -35381,7 +36522,7 @@ j1 = j1 + j2;
 p11 = read_at(j1, m, 8u);
 j1 = load64(p11 + 0);
 i0 = (j0 <= j1);
-if (i0) { goto l11; }
+if (!i0) {
 j0 = v2;
 j1 = UINT64_C(1);
 i0 = (j0 == j1);
@@ -35394,7 +36535,7 @@ j0 = remainder64(j0, j1);
 j1 = UINT64_C(144);
 j0 = j0 * j1;
 v6 = j0;
-l11:;
+}
 j0 = v3;
 j1 = v6;
 j0 = j0 + j1;
@@ -35403,7 +36544,7 @@ j0 = j0 + j1;
 p12 = read_at(j0, m, 1u);
 i0 = load8(p12 + 0);
 i0 = (i0 == 0);
-if (i0) { goto l7; }
+if (!i0) {
 j0 = v2;
 j1 = UINT64_C(66);
 j2 = v2;
@@ -35416,6 +36557,7 @@ j1 = UINT64_C(372656);
 j0 = j0 + j1;
 v9 = j0;
 goto l6;
+}
 l7:;
 j0 = v0;
 fio_log_reader_Reader_judge_held(m, j0);
@@ -35468,7 +36610,7 @@ j1 = UINT64_C(8);
 j0 = j0 + j1;
 p15 = read_at(j0, m, 1u);
 i0 = load8(p15 + 0);
-if (i0) { goto l13; }
+if (!i0) {
 j0 = v8;
 j1 = UINT64_C(65);
 i0 = (j0 < j1);
@@ -35504,7 +36646,7 @@ j0 = v9;
 j1 = v4;
 j2 = v6;
 fio_log_judge_decide_Decider_give_up(m, j0, j1, j2);
-l13:;
+}
 j0 = v2;
 j1 = UINT64_C(1);
 j0 = j0 + j1;
@@ -35527,7 +36669,7 @@ p19 = read_at(j0, m, 1u);
 i0 = load8(p19 + 0);
 i1 = UINT32_C(1);
 i0 = (i0 != i1);
-if (i0) { goto l14; }
+if (!i0) {
 j0 = v0;
 j1 = UINT64_C(442744);
 j0 = j0 + j1;
@@ -35536,7 +36678,7 @@ p20 = read_at(j0, m, 8u);
 j0 = load64(p20 + 0);
 v8 = j0;
 i0 = (j0 == 0);
-if (i0) { goto l15; }
+if (!i0) {
 j0 = v5;
 j1 = v3;
 j2 = v0;
@@ -35554,7 +36696,7 @@ j1 = j1 + j2;
 p22 = read_at(j1, m, 8u);
 j1 = load64(p22 + 0);
 i0 = (j0 <= j1);
-if (i0) { goto l16; }
+if (!i0) {
 j0 = v8;
 j1 = UINT64_C(1);
 i0 = (j0 == j1);
@@ -35567,7 +36709,7 @@ j0 = remainder64(j0, j1);
 j1 = UINT64_C(144);
 j0 = j0 * j1;
 v6 = j0;
-l16:;
+}
 j0 = v3;
 j1 = v6;
 j0 = j0 + j1;
@@ -35576,6 +36718,7 @@ j0 = j0 + j1;
 p23 = read_at(j0, m, 1u);
 i0 = load8(p23 + 0);
 if (i0) { goto l14; }
+}
 l15:;
 j0 = v4;
 fio_log_judge_Judge_close(m, j0);
@@ -35584,7 +36727,7 @@ p24 = read_at(j0, m, 8u);
 j0 = load64(p24 + 0);
 v2 = j0;
 i0 = (j0 == 0);
-if (i0) { goto l14; }
+if (!i0) {
 j0 = v2;
 j1 = UINT64_C(66);
 j2 = v2;
@@ -35618,7 +36761,7 @@ j0 = j0 + j1;
 i0 = load8(p25 + 3552);
 i1 = UINT32_C(1);
 i0 = (i0 != i1);
-if (i0) { goto l19; }
+if (!i0) {
 j0 = v8;
 j1 = v0;
 j2 = UINT64_C(446296);
@@ -35627,7 +36770,7 @@ p26 = read_at(j1, m, 8u);
 j1 = load64(p26 + 0);
 i0 = (j0 == j1);
 if (i0) { goto l18; }
-l19:;
+}
 j0 = v9;
 j1 = v4;
 j2 = v8;
@@ -35640,11 +36783,13 @@ j1 = j1 + j2;
 v2 = j1;
 i0 = (j0 != j1);
 if (i0) { goto l17; }
+}
+}
 l14:;
 j0 = v7;
 p27 = read_at(j0, m, 1u);
 i0 = load8(p27 + 0);
-if (i0) { goto l20; }
+if (!i0) {
 j0 = v0;
 j1 = UINT64_C(442744);
 j0 = j0 + j1;
@@ -35652,7 +36797,7 @@ p28 = read_at(j0, m, 8u);
 j0 = load64(p28 + 0);
 v2 = j0;
 i0 = (j0 == 0);
-if (i0) { goto l21; }
+if (!i0) {
 j0 = v5;
 j1 = v3;
 j2 = v0;
@@ -35670,7 +36815,7 @@ j1 = j1 + j2;
 p30 = read_at(j1, m, 8u);
 j1 = load64(p30 + 0);
 i0 = (j0 <= j1);
-if (i0) { goto l22; }
+if (!i0) {
 j0 = v2;
 j1 = UINT64_C(1);
 i0 = (j0 == j1);
@@ -35683,7 +36828,7 @@ j0 = remainder64(j0, j1);
 j1 = UINT64_C(144);
 j0 = j0 * j1;
 v8 = j0;
-l22:;
+}
 j0 = v3;
 j1 = v8;
 j0 = j0 + j1;
@@ -35692,6 +36837,7 @@ j0 = j0 + j1;
 p31 = read_at(j0, m, 1u);
 i0 = load8(p31 + 0);
 if (i0) { goto l20; }
+}
 l21:;
 j0 = v0;
 j1 = UINT64_C(451728);
@@ -35705,7 +36851,7 @@ j1 = load64(p32 + 8);
 j0 = j0 - j1;
 j1 = UINT64_C(1081410);
 i0 = (j0 > j1);
-if (i0) { goto l20; }
+if (!i0) {
 j0 = v0;
 j1 = UINT64_C(451656);
 j0 = j0 + j1;
@@ -35716,6 +36862,8 @@ j0 = j0 + j1;
 j1 = UINT64_C(18446744073709551545);
 i0 = (j0 < j1);
 v10 = i0;
+}
+}
 l20:;
 j0 = v0;
 j1 = UINT64_C(451746);
@@ -35726,9 +36874,8 @@ store8(p34 + 0, i1);
 j0 = v1;
 m->g0 = j0;
 return;
-l2:;
+}
 fio2070_trap();
-return;
 }
 static void fio_log_reader_Reader_read_unread(struct machine *m, uint64_t v0)
 {
@@ -35928,7 +37075,7 @@ j0 = v1;
 v2 = j0;
 j1 = UINT64_C(16);
 i0 = (SIGNED64(j0) < SIGNED64(j1));
-if (i0) { goto l7; }
+if (!i0) {
 j0 = v0;
 j1 = UINT64_C(451744);
 j0 = j0 + j1;
@@ -35963,31 +37110,31 @@ i0 = load8(p3 + 8);
 v6 = i0;
 i1 = UINT32_C(1);
 i0 = (i0 != i1);
-if (i0) { goto l8; }
+if (!i0) {
 j0 = v0;
 j1 = UINT64_C(73048);
 j0 = j0 + j1;
 j0 = load64(p3 + 7512);
 v1 = j0;
 i0 = (j0 == 0);
-if (i0) { goto l9; }
+if (!i0) {
 j0 = v1;
 j1 = UINT64_C(936);
 j0 = j0 * j1;
 v1 = j0;
 i0 = (j0 == 0);
-if (i0) { goto l10; }
+if (!i0) {
 j0 = v3;
 i1 = UINT32_C(0);
 j2 = v1;
 fill(m, j0, i1, j2);
-l10:;
+}
 j0 = v0;
 j1 = UINT64_C(73048);
 j0 = j0 + j1;
 j1 = UINT64_C(0);
 store64(p3 + 7512, j1);
-l9:;
+}
 j0 = v0;
 j1 = UINT64_C(73064);
 j0 = j0 + j1;
@@ -36009,7 +37156,7 @@ j0 = j0 + j1;
 i1 = UINT32_C(0);
 store8(p3 + 7544, i1);
 goto l3;
-l8:;
+}
 j0 = v0;
 j1 = UINT64_C(73088);
 j0 = j0 + j1;
@@ -36032,24 +37179,24 @@ j0 = j0 + j1;
 j0 = load64(p3 + 7512);
 v1 = j0;
 i0 = (j0 == 0);
-if (i0) { goto l11; }
+if (!i0) {
 j0 = v1;
 j1 = UINT64_C(936);
 j0 = j0 * j1;
 v1 = j0;
 i0 = (j0 == 0);
-if (i0) { goto l12; }
+if (!i0) {
 j0 = v3;
 i1 = UINT32_C(0);
 j2 = v1;
 fill(m, j0, i1, j2);
-l12:;
+}
 j0 = v0;
 j1 = UINT64_C(73048);
 j0 = j0 + j1;
 j1 = UINT64_C(0);
 store64(p3 + 7512, j1);
-l11:;
+}
 j0 = v0;
 j1 = UINT64_C(73064);
 j0 = j0 + j1;
@@ -36191,7 +37338,7 @@ j2 = UINT64_C(576460752437641216);
 j1 = j1 & j2;
 j0 = j0 | j1;
 i0 = (j0 == 0);
-if (i0) { goto l13; }
+if (!i0) {
 j0 = UINT64_C(0);
 v1 = j0;
 j0 = v2;
@@ -36214,7 +37361,7 @@ j1 = UINT64_C(0);
 store64(p1 + 72, j1);
 j0 = v4;
 i0 = (j0 == 0);
-if (i0) { goto l13; }
+if (!i0) {
 j0 = v2;
 j1 = UINT64_C(80);
 j0 = j0 + j1;
@@ -36234,7 +37381,7 @@ j0 = v2;
 i0 = load8(p1 + 72);
 i1 = UINT32_C(1);
 i0 = (i0 != i1);
-if (i0) { goto l15; }
+if (!i0) {
 j0 = v0;
 j1 = v4;
 j2 = v8;
@@ -36246,7 +37393,7 @@ j5 = UINT64_C(152);
 j4 = j4 + j5;
 j5 = v3;
 fio_log_line_runs_keep(m, j0, j1, j2, j3, j4, j5);
-l15:;
+}
 j0 = v4;
 j1 = v1;
 j2 = UINT64_C(1);
@@ -36254,7 +37401,8 @@ j1 = j1 + j2;
 v1 = j1;
 i0 = (j0 != j1);
 if (i0) { goto l14; }
-l13:;
+}
+}
 j0 = UINT64_C(0);
 v15 = j0;
 j0 = v2;
@@ -36275,7 +37423,7 @@ j0 = v1;
 j0 = load64(p4 + 0);
 v8 = j0;
 i0 = (j0 == 0);
-if (i0) { goto l18; }
+if (!i0) {
 j0 = v1;
 p5 = read_at(j0 + UINT64_C(66312), m, 8u);
 j0 = load64(p5 + 0);
@@ -36287,7 +37435,7 @@ i0 = load8(p6 + 0);
 v10 = i0;
 i1 = UINT32_C(63);
 i0 = (i0 > i1);
-if (i0) { goto l21; }
+if (!i0) {
 j0 = UINT64_C(1);
 i1 = v10;
 j1 = (uint64_t)i1;
@@ -36296,7 +37444,7 @@ j1 = v13;
 j0 = j0 & j1;
 v9 = j0;
 goto l20;
-l21:;
+}
 i0 = v10;
 i0 = (uint32_t)extend(i0 & 255, 7);
 i1 = UINT32_C(0);
@@ -36328,10 +37476,10 @@ v8 = j0;
 i0 = (j0 == 0);
 i0 = (i0 == 0);
 if (i0) { goto l19; }
-l18:;
+}
 j0 = v17;
 i0 = (j0 == 0);
-if (i0) { goto l22; }
+if (!i0) {
 l23:;
 j0 = v18;
 p7 = read_at(j0, m, 1u);
@@ -36339,7 +37487,7 @@ i0 = load8(p7 + 0);
 v10 = i0;
 i1 = UINT32_C(63);
 i0 = (i0 > i1);
-if (i0) { goto l25; }
+if (!i0) {
 j0 = UINT64_C(1);
 i1 = v10;
 j1 = (uint64_t)i1;
@@ -36348,7 +37496,7 @@ j1 = v13;
 j0 = j0 & j1;
 v1 = j0;
 goto l24;
-l25:;
+}
 i0 = v10;
 i0 = (uint32_t)extend(i0 & 255, 7);
 i1 = UINT32_C(0);
@@ -36380,7 +37528,7 @@ v17 = j0;
 i0 = (j0 == 0);
 i0 = (i0 == 0);
 if (i0) { goto l23; }
-l22:;
+}
 j0 = v15;
 i0 = (uint32_t)j0;
 v10 = i0;
@@ -36388,7 +37536,7 @@ i0 = v16;
 i1 = UINT32_C(1);
 i0 = i0 & i1;
 i0 = (i0 == 0);
-if (i0) { goto l26; }
+if (!i0) {
 j0 = v0;
 j1 = v4;
 i2 = v10;
@@ -36401,7 +37549,7 @@ j6 = UINT64_C(152);
 j5 = j5 + j6;
 j6 = v3;
 fio_log_line_runs_find_marked(m, j0, j1, i2, i3, j4, j5, j6);
-l26:;
+}
 j0 = v0;
 j1 = v4;
 i2 = v10;
@@ -36456,7 +37604,7 @@ j0 = v2;
 i0 = load8(p1 + 208);
 i1 = UINT32_C(1);
 i0 = (i0 != i1);
-if (i0) { goto l27; }
+if (!i0) {
 j0 = v0;
 j1 = UINT64_C(73048);
 j0 = j0 + j1;
@@ -36518,7 +37666,7 @@ l28:;
 i0 = v10;
 i1 = UINT32_C(255);
 i0 = i0 & i1;
-if (i0) { goto l31; }
+if (!i0) {
 j0 = v2;
 j1 = UINT64_C(72);
 j0 = j0 + j1;
@@ -36538,7 +37686,7 @@ j9 = UINT64_C(456);
 j8 = j8 + j9;
 fio_log_found_next_words(m, j0, j1, j2, j3, j4, j5, i6, i7, j8);
 goto l30;
-l31:;
+}
 j0 = v2;
 j1 = UINT64_C(72);
 j0 = j0 + j1;
@@ -36554,7 +37702,7 @@ j0 = v2;
 i0 = load8(p1 + 72);
 i1 = UINT32_C(1);
 i0 = (i0 != i1);
-if (i0) { goto l27; }
+if (!i0) {
 j0 = v2;
 j1 = UINT64_C(120);
 j0 = j0 + j1;
@@ -36580,6 +37728,8 @@ j6 = UINT64_C(152);
 j5 = j5 + j6;
 j6 = v3;
 fio_log_line_runs_keep_run(m, j0, j1, j2, j3, j4, j5, j6);
+}
+}
 l27:;
 j0 = v0;
 j1 = UINT64_C(73048);
@@ -36641,11 +37791,11 @@ store64(p1 + 456, j1);
 j0 = v11;
 j1 = v12;
 i0 = (j0 < j1);
-if (i0) { goto l33; }
+if (!i0) {
 j0 = v0;
 v13 = j0;
 goto l32;
-l33:;
+}
 j0 = v8;
 j1 = v12;
 i0 = (j0 < j1);
@@ -36704,7 +37854,7 @@ i0 = load8(p10 + 0);
 v10 = i0;
 i1 = UINT32_C(95);
 i0 = (i0 == i1);
-if (i0) { goto l39; }
+if (!i0) {
 i0 = v10;
 i1 = UINT32_C(4294967262);
 i0 = i0 + i1;
@@ -36728,19 +37878,19 @@ l40:;
 i0 = v10;
 i1 = UINT32_C(48);
 i0 = (i0 < i1);
-if (i0) { goto l42; }
+if (!i0) {
 i0 = v10;
 i1 = UINT32_C(58);
 i0 = (i0 >= i1);
-if (i0) { goto l43; }
+if (!i0) {
 i0 = v16;
 v19 = i0;
 goto l37;
-l43:;
+}
 i0 = v10;
 i1 = UINT32_C(65);
 i0 = (i0 < i1);
-if (i0) { goto l42; }
+if (!i0) {
 i0 = v10;
 i1 = UINT32_C(91);
 i0 = (i0 < i1);
@@ -36748,13 +37898,15 @@ if (i0) { goto l41; }
 i0 = v10;
 i1 = UINT32_C(97);
 i0 = (i0 < i1);
-if (i0) { goto l42; }
+if (!i0) {
 i0 = v10;
 i0 = (uint32_t)extend(i0 & 255, 7);
 i1 = UINT32_C(123);
 i0 = (SIGNED32(i0) < SIGNED32(i1));
 if (i0) { goto l41; }
-l42:;
+}
+}
+}
 i0 = UINT32_C(1);
 v19 = i0;
 i0 = UINT32_C(0);
@@ -36777,7 +37929,7 @@ v16 = i0;
 i0 = v21;
 if (i0) { goto l37; }
 goto l38;
-l39:;
+}
 i0 = UINT32_C(1);
 v19 = i0;
 i0 = v16;
@@ -36792,7 +37944,7 @@ l38:;
 i0 = v10;
 i1 = UINT32_C(71);
 i0 = (i0 < i1);
-if (i0) { goto l44; }
+if (!i0) {
 i0 = v10;
 i1 = UINT32_C(4294967199);
 i0 = i0 + i1;
@@ -36800,7 +37952,7 @@ i1 = UINT32_C(255);
 i0 = i0 & i1;
 i1 = UINT32_C(6);
 i0 = (i0 < i1);
-if (i0) { goto l44; }
+if (!i0) {
 i0 = v10;
 i1 = UINT32_C(4294967224);
 i0 = i0 + i1;
@@ -36820,7 +37972,8 @@ i0 = (i0 > i1);
 v19 = i0;
 v16 = i0;
 goto l37;
-l44:;
+}
+}
 i0 = UINT32_C(0);
 v16 = i0;
 i0 = UINT32_C(0);
@@ -36868,7 +38021,7 @@ j1 = UINT64_C(96);
 i0 = (j0 <= j1);
 if (i0) { goto l4; }
 goto l3;
-l7:;
+}
 fio2070_trap();
 l6:;
 j0 = v17;
@@ -36894,7 +38047,7 @@ i0 = load8(p12 + 0);
 v10 = i0;
 i1 = UINT32_C(95);
 i0 = (i0 == i1);
-if (i0) { goto l50; }
+if (!i0) {
 i0 = v10;
 i1 = UINT32_C(4294967262);
 i0 = i0 + i1;
@@ -36918,19 +38071,19 @@ l51:;
 i0 = v10;
 i1 = UINT32_C(48);
 i0 = (i0 < i1);
-if (i0) { goto l53; }
+if (!i0) {
 i0 = v10;
 i1 = UINT32_C(58);
 i0 = (i0 >= i1);
-if (i0) { goto l54; }
+if (!i0) {
 i0 = v16;
 v19 = i0;
 goto l48;
-l54:;
+}
 i0 = v10;
 i1 = UINT32_C(65);
 i0 = (i0 < i1);
-if (i0) { goto l53; }
+if (!i0) {
 i0 = v10;
 i1 = UINT32_C(91);
 i0 = (i0 < i1);
@@ -36938,13 +38091,15 @@ if (i0) { goto l52; }
 i0 = v10;
 i1 = UINT32_C(97);
 i0 = (i0 < i1);
-if (i0) { goto l53; }
+if (!i0) {
 i0 = v10;
 i0 = (uint32_t)extend(i0 & 255, 7);
 i1 = UINT32_C(123);
 i0 = (SIGNED32(i0) < SIGNED32(i1));
 if (i0) { goto l52; }
-l53:;
+}
+}
+}
 i0 = UINT32_C(1);
 v19 = i0;
 i0 = UINT32_C(0);
@@ -36967,7 +38122,7 @@ v16 = i0;
 i0 = v21;
 if (i0) { goto l48; }
 goto l49;
-l50:;
+}
 i0 = UINT32_C(1);
 v19 = i0;
 i0 = v16;
@@ -36982,7 +38137,7 @@ l49:;
 i0 = v10;
 i1 = UINT32_C(71);
 i0 = (i0 < i1);
-if (i0) { goto l55; }
+if (!i0) {
 i0 = v10;
 i1 = UINT32_C(4294967199);
 i0 = i0 + i1;
@@ -36990,7 +38145,7 @@ i1 = UINT32_C(255);
 i0 = i0 & i1;
 i1 = UINT32_C(6);
 i0 = (i0 < i1);
-if (i0) { goto l55; }
+if (!i0) {
 i0 = v10;
 i1 = UINT32_C(4294967224);
 i0 = i0 + i1;
@@ -37010,7 +38165,8 @@ i0 = (i0 > i1);
 v19 = i0;
 v16 = i0;
 goto l48;
-l55:;
+}
+}
 j0 = v9;
 i0 = (j0 == 0);
 if (i0) { goto l3; }
@@ -37067,12 +38223,12 @@ i0 = (i0 == i1);
 if (i0) { goto l3; }
 l4:;
 i0 = v20;
-if (i0) { goto l56; }
+if (!i0) {
 j0 = v14;
 j1 = v0;
 j2 = v8;
 copy(m, j0, j1, j2);
-l56:;
+}
 j0 = v2;
 j1 = v8;
 p14 = write_at(j0 + UINT64_C(560), m, 112u);
@@ -37084,10 +38240,10 @@ v1 = j1;
 j0 = j0 - j1;
 j1 = v17;
 i0 = (j0 < j1);
-if (i0) { goto l3; }
+if (!i0) {
 j0 = v17;
 i0 = (j0 == 0);
-if (i0) { goto l57; }
+if (!i0) {
 j0 = v2;
 j1 = UINT64_C(568);
 j0 = j0 + j1;
@@ -37096,7 +38252,7 @@ j0 = j0 + j1;
 j1 = v13;
 j2 = v17;
 copy(m, j0, j1, j2);
-l57:;
+}
 j0 = v2;
 j1 = v1;
 j2 = v17;
@@ -37115,6 +38271,7 @@ j1 = v2;
 j2 = UINT64_C(152);
 j1 = j1 + j2;
 fio_log_patterns_Patterns_set_next(m, j0, j1);
+}
 l3:;
 i0 = UINT32_C(1);
 v10 = i0;
@@ -37125,7 +38282,7 @@ p15 = read_at(j0, m, 1u);
 i0 = load8(p15 + 0);
 i1 = UINT32_C(1);
 i0 = (i0 != i1);
-if (i0) { goto l58; }
+if (!i0) {
 j0 = v0;
 j1 = UINT64_C(74320);
 j0 = j0 + j1;
@@ -37144,13 +38301,13 @@ v17 = j1;
 j2 = UINT64_C(18446744073709551615);
 j1 = j1 ^ j2;
 i0 = (j0 > j1);
-if (i0) { goto l63; }
+if (!i0) {
 j0 = v17;
 j1 = v1;
 j0 = j0 + j1;
 j1 = v5;
 i0 = (j0 != j1);
-if (i0) { goto l63; }
+if (!i0) {
 j0 = v0;
 j1 = UINT64_C(446296);
 j0 = j0 + j1;
@@ -37158,10 +38315,10 @@ p17 = read_at(j0, m, 8u);
 j0 = load64(p17 + 0);
 v14 = j0;
 i0 = v6;
-if (i0) { goto l64; }
+if (!i0) {
 j0 = v4;
 i0 = (j0 == 0);
-if (i0) { goto l65; }
+if (!i0) {
 j0 = v0;
 v1 = j0;
 j0 = v4;
@@ -37193,7 +38350,7 @@ v8 = j0;
 j1 = UINT64_C(0);
 i0 = (j0 != j1);
 if (i0) { goto l66; }
-l65:;
+}
 j0 = v17;
 j1 = UINT64_C(1);
 i0 = (j0 > j1);
@@ -37245,20 +38402,20 @@ j0 = j0 + j1;
 j0 = load64(p16 + 24600);
 v8 = j0;
 i0 = (j0 == 0);
-if (i0) { goto l67; }
+if (!i0) {
 j0 = v8;
 j1 = UINT64_C(2);
 j0 = j0 << (j1 & 63);
 v8 = j0;
 i0 = (j0 == 0);
-if (i0) { goto l68; }
+if (!i0) {
 j0 = v0;
 j1 = UINT64_C(298776);
 j0 = j0 + j1;
 i1 = UINT32_C(0);
 j2 = v8;
 fill(m, j0, i1, j2);
-l68:;
+}
 j0 = v0;
 j1 = UINT64_C(306968);
 j0 = j0 + j1;
@@ -37270,7 +38427,7 @@ j1 = UINT64_C(372512);
 j0 = j0 + j1;
 j0 = load64(p16 + 90144);
 v17 = j0;
-l67:;
+}
 j0 = v1;
 j1 = v17;
 j2 = UINT64_C(2);
@@ -37293,6 +38450,7 @@ j2 = UINT64_C(1);
 j1 = j1 + j2;
 store64(p25 + 0, j1);
 goto l60;
+}
 l64:;
 j0 = v0;
 j1 = UINT64_C(282360);
@@ -37303,7 +38461,7 @@ j1 = UINT64_C(372618);
 j0 = j0 + j1;
 p26 = read_at(j0, m, 1u);
 i0 = load8(p26 + 0);
-if (i0) { goto l69; }
+if (!i0) {
 j0 = v15;
 p27 = read_at(j0, m, 1u);
 j0 = load8(p27 + 0);
@@ -37326,11 +38484,11 @@ l74:;
 j0 = v4;
 i0 = (j0 == 0);
 i0 = (i0 == 0);
-if (i0) { goto l76; }
+if (!i0) {
 i0 = UINT32_C(0);
 v19 = i0;
 goto l75;
-l76:;
+}
 j0 = v0;
 p28 = read_at(j0, m, 1u);
 i0 = load8(p28 + 0);
@@ -37393,7 +38551,7 @@ i1 = v16;
 i2 = UINT32_C(255);
 i1 = i1 & i2;
 i0 = (i0 != i1);
-if (i0) { goto l80; }
+if (!i0) {
 j0 = v8;
 j1 = UINT64_C(66462);
 j0 = j0 + j1;
@@ -37401,7 +38559,7 @@ p32 = read_at(j0, m, 1u);
 i0 = load8(p32 + 0);
 i1 = UINT32_C(1);
 i0 = (i0 != i1);
-if (i0) { goto l80; }
+if (!i0) {
 j0 = v8;
 j1 = UINT64_C(66460);
 j0 = j0 + j1;
@@ -37409,7 +38567,7 @@ p33 = read_at(j0, m, 1u);
 i0 = load8(p33 + 0);
 i1 = UINT32_C(1);
 i0 = (i0 != i1);
-if (i0) { goto l81; }
+if (!i0) {
 j0 = v8;
 j1 = UINT64_C(66376);
 j0 = j0 + j1;
@@ -37422,7 +38580,7 @@ p35 = read_at(j1, m, 8u);
 j1 = load64(p35 + 0);
 i0 = (j0 != j1);
 if (i0) { goto l80; }
-l81:;
+}
 j0 = v8;
 j1 = UINT64_C(66448);
 j0 = j0 + j1;
@@ -37430,7 +38588,7 @@ p36 = read_at(j0, m, 8u);
 j0 = load64(p36 + 0);
 v13 = j0;
 i0 = (j0 == 0);
-if (i0) { goto l82; }
+if (!i0) {
 j0 = v0;
 j1 = UINT64_C(372592);
 j0 = j0 + j1;
@@ -37438,13 +38596,14 @@ p37 = read_at(j0, m, 8u);
 j0 = load64(p37 + 0);
 v4 = j0;
 i0 = (j0 == 0);
-if (i0) { goto l82; }
+if (!i0) {
 j0 = v4;
 j1 = v13;
 j0 = j0 & j1;
 i0 = (j0 == 0);
 if (i0) { goto l80; }
-l82:;
+}
+}
 j0 = v0;
 j1 = UINT64_C(372624);
 j0 = j0 + j1;
@@ -37456,7 +38615,7 @@ j2 = UINT64_C(372608);
 j1 = j1 + j2;
 j1 = load64(p38 + 0);
 i0 = (j0 != j1);
-if (i0) { goto l80; }
+if (!i0) {
 j0 = v8;
 j1 = UINT64_C(66368);
 j0 = j0 + j1;
@@ -37465,11 +38624,15 @@ j0 = load64(p39 + 0);
 v4 = j0;
 j1 = v13;
 i0 = (j0 > j1);
-if (i0) { goto l80; }
+if (!i0) {
 j0 = v12;
 j1 = v4;
 i0 = (j0 < j1);
 if (i0) { goto l78; }
+}
+}
+}
+}
 l80:;
 j0 = v1;
 j1 = UINT64_C(936);
@@ -37558,7 +38721,7 @@ j1 = j1 + j2;
 j1 = load64(p16 + 16400);
 v1 = j1;
 i0 = (j0 == j1);
-if (i0) { goto l83; }
+if (!i0) {
 j0 = v2;
 j0 = load64(p41 + 32);
 v13 = j0;
@@ -37569,13 +38732,13 @@ j0 = v2;
 i0 = load8(p41 + 8);
 i1 = UINT32_C(1);
 i0 = (i0 != i1);
-if (i0) { goto l84; }
+if (!i0) {
 j0 = v2;
 j0 = load64(p41 + 16);
 j1 = v1;
 i0 = (j0 == j1);
 if (i0) { goto l83; }
-l84:;
+}
 i0 = v6;
 i1 = UINT32_C(255);
 i0 = i0 & i1;
@@ -37586,11 +38749,12 @@ j0 = v13;
 j1 = v1;
 i0 = (j0 != j1);
 if (i0) { goto l69; }
+}
 l83:;
 i0 = v16;
 i1 = UINT32_C(1);
 i0 = i0 & i1;
-if (i0) { goto l85; }
+if (!i0) {
 j0 = v0;
 j1 = v14;
 j2 = UINT64_C(144);
@@ -37604,7 +38768,7 @@ store64(p42 + 0, j1);
 j0 = v18;
 fio_log_judge_Judge_close(m, j0);
 goto l59;
-l85:;
+}
 j0 = v8;
 j1 = UINT64_C(11400714819323198485);
 j0 = j0 + j1;
@@ -37662,27 +38826,27 @@ j0 = j0 + j1;
 j0 = load64(p16 + 24600);
 v13 = j0;
 i0 = (j0 == 0);
-if (i0) { goto l86; }
+if (!i0) {
 j0 = v13;
 j1 = UINT64_C(2);
 j0 = j0 << (j1 & 63);
 v13 = j0;
 i0 = (j0 == 0);
-if (i0) { goto l87; }
+if (!i0) {
 j0 = v0;
 j1 = UINT64_C(298776);
 j0 = j0 + j1;
 i1 = UINT32_C(0);
 j2 = v13;
 fill(m, j0, i1, j2);
-l87:;
+}
 j0 = v0;
 j1 = UINT64_C(306968);
 j0 = j0 + j1;
 j1 = UINT64_C(0);
 p45 = write_at(j0, m, 8u);
 store64(p45 + 0, j1);
-l86:;
+}
 j0 = UINT64_C(16384);
 j1 = v1;
 j0 = j0 - j1;
@@ -37701,7 +38865,7 @@ i0 = (uint32_t)j0;
 v16 = i0;
 j0 = v17;
 i0 = (j0 == 0);
-if (i0) { goto l88; }
+if (!i0) {
 j0 = v0;
 j1 = UINT64_C(282384);
 j0 = j0 + j1;
@@ -37712,7 +38876,7 @@ j2 = UINT64_C(456);
 j1 = j1 + j2;
 j2 = v17;
 copy(m, j0, j1, j2);
-l88:;
+}
 j0 = v0;
 j1 = UINT64_C(298768);
 j0 = j0 + j1;
@@ -37764,7 +38928,7 @@ p49 = read_at(j0, m, 8u);
 j0 = load64(p49 + 0);
 v17 = j0;
 i0 = (j0 == 0);
-if (i0) { goto l89; }
+if (!i0) {
 j0 = v3;
 v1 = j0;
 j0 = UINT64_C(0);
@@ -37774,11 +38938,11 @@ j0 = v9;
 v13 = j0;
 j1 = v17;
 i0 = (j0 < j1);
-if (i0) { goto l92; }
+if (!i0) {
 j0 = v13;
 v9 = j0;
 goto l91;
-l92:;
+}
 j0 = v8;
 v9 = j0;
 j0 = v3;
@@ -37799,15 +38963,15 @@ p51 = read_at(j1, m, 8u);
 j1 = load64(p51 + 0);
 v7 = j1;
 i0 = (j0 < j1);
-if (i0) { goto l91; }
+if (!i0) {
 j0 = v7;
 j1 = v4;
 i0 = (j0 == j1);
-if (i0) { goto l93; }
+if (!i0) {
 j0 = v13;
 v9 = j0;
 goto l91;
-l93:;
+}
 j0 = v8;
 j1 = v13;
 j2 = v1;
@@ -37819,6 +38983,7 @@ j3 = load64(p53 + 0);
 i2 = (j2 < j3);
 j0 = i2 ? j0 : j1;
 v9 = j0;
+}
 l91:;
 j0 = v1;
 j1 = UINT64_C(936);
@@ -37831,7 +38996,7 @@ j1 = j1 + j2;
 v8 = j1;
 i0 = (j0 != j1);
 if (i0) { goto l90; }
-l89:;
+}
 j0 = v9;
 j1 = v17;
 i0 = (j0 >= j1);
@@ -37849,7 +39014,7 @@ j0 = load64(p54 + 0);
 v9 = j0;
 j1 = UINT64_C(2);
 i0 = (j0 != j1);
-if (i0) { goto l95; }
+if (!i0) {
 j0 = v0;
 j1 = UINT64_C(298768);
 j0 = j0 + j1;
@@ -37871,14 +39036,14 @@ p55 = read_at(j0, m, 8u);
 j0 = load64(p55 + 0);
 j1 = UINT64_C(3);
 i0 = (j0 < j1);
-if (i0) { goto l97; }
+if (!i0) {
 j0 = v1;
 p56 = read_at(j0, m, 1u);
 i0 = load8(p56 + 0);
 i1 = UINT32_C(2);
 i0 = (i0 == i1);
 if (i0) { goto l95; }
-l97:;
+}
 j0 = v1;
 j1 = UINT64_C(936);
 j0 = j0 + j1;
@@ -37903,6 +39068,7 @@ i1 = load8(p58 + 0);
 i0 = (i0 == i1);
 if (i0) { goto l94; }
 goto l69;
+}
 l95:;
 j0 = v9;
 j1 = UINT64_C(1);
@@ -38013,14 +39179,14 @@ p67 = read_at(j0, m, 8u);
 j0 = load64(p67 + 0);
 j1 = UINT64_C(2);
 i0 = (j0 < j1);
-if (i0) { goto l102; }
+if (!i0) {
 j0 = v1;
 p68 = read_at(j0, m, 1u);
 i0 = load8(p68 + 0);
 i1 = UINT32_C(2);
 i0 = (i0 == i1);
 if (i0) { goto l69; }
-l102:;
+}
 j0 = v1;
 j1 = UINT64_C(936);
 j0 = j0 + j1;
@@ -38045,7 +39211,7 @@ j0 = j0 + j1;
 i0 = load8(p69 + 299560);
 i1 = UINT32_C(1);
 i0 = (i0 != i1);
-if (i0) { goto l106; }
+if (!i0) {
 j0 = v0;
 j1 = UINT64_C(73064);
 j0 = j0 + j1;
@@ -38053,7 +39219,7 @@ p70 = read_at(j0, m, 1u);
 i0 = load8(p70 + 0);
 i1 = UINT32_C(1);
 i0 = (i0 != i1);
-if (i0) { goto l106; }
+if (!i0) {
 j0 = v7;
 j1 = UINT64_C(824);
 j0 = j0 + j1;
@@ -38102,7 +39268,8 @@ i1 = load8(p69 + 299531);
 i0 = (i0 == i1);
 if (i0) { goto l104; }
 goto l69;
-l106:;
+}
+}
 j0 = v7;
 j1 = UINT64_C(816);
 j0 = j0 + j1;
@@ -38195,7 +39362,7 @@ i1 = v16;
 i2 = UINT32_C(255);
 i1 = i1 & i2;
 i0 = (i0 != i1);
-if (i0) { goto l111; }
+if (!i0) {
 j0 = v8;
 j1 = UINT64_C(66462);
 j0 = j0 + j1;
@@ -38203,7 +39370,7 @@ p80 = read_at(j0, m, 1u);
 i0 = load8(p80 + 0);
 i1 = UINT32_C(1);
 i0 = (i0 != i1);
-if (i0) { goto l111; }
+if (!i0) {
 j0 = v8;
 j1 = UINT64_C(66460);
 j0 = j0 + j1;
@@ -38211,7 +39378,7 @@ p81 = read_at(j0, m, 1u);
 i0 = load8(p81 + 0);
 i1 = UINT32_C(1);
 i0 = (i0 != i1);
-if (i0) { goto l112; }
+if (!i0) {
 j0 = v8;
 j1 = UINT64_C(66376);
 j0 = j0 + j1;
@@ -38224,7 +39391,7 @@ p83 = read_at(j1, m, 8u);
 j1 = load64(p83 + 0);
 i0 = (j0 != j1);
 if (i0) { goto l111; }
-l112:;
+}
 j0 = v8;
 j1 = UINT64_C(66448);
 j0 = j0 + j1;
@@ -38232,7 +39399,7 @@ p84 = read_at(j0, m, 8u);
 j0 = load64(p84 + 0);
 v13 = j0;
 i0 = (j0 == 0);
-if (i0) { goto l113; }
+if (!i0) {
 j0 = v0;
 j1 = UINT64_C(372592);
 j0 = j0 + j1;
@@ -38240,13 +39407,14 @@ p85 = read_at(j0, m, 8u);
 j0 = load64(p85 + 0);
 v4 = j0;
 i0 = (j0 == 0);
-if (i0) { goto l113; }
+if (!i0) {
 j0 = v4;
 j1 = v13;
 j0 = j0 & j1;
 i0 = (j0 == 0);
 if (i0) { goto l111; }
-l113:;
+}
+}
 j0 = v0;
 j1 = UINT64_C(372624);
 j0 = j0 + j1;
@@ -38258,7 +39426,7 @@ j2 = UINT64_C(372608);
 j1 = j1 + j2;
 j1 = load64(p86 + 0);
 i0 = (j0 != j1);
-if (i0) { goto l111; }
+if (!i0) {
 j0 = v8;
 j1 = UINT64_C(66368);
 j0 = j0 + j1;
@@ -38267,11 +39435,15 @@ j0 = load64(p87 + 0);
 v4 = j0;
 j1 = v13;
 i0 = (j0 > j1);
-if (i0) { goto l111; }
+if (!i0) {
 j0 = v12;
 j1 = v4;
 i0 = (j0 < j1);
 if (i0) { goto l109; }
+}
+}
+}
+}
 l111:;
 j0 = v1;
 j1 = UINT64_C(936);
@@ -38343,7 +39515,7 @@ p91 = read_at(j0, m, 1u);
 i0 = load8(p91 + 0);
 i1 = UINT32_C(2);
 i0 = (i0 != i1);
-if (i0) { goto l114; }
+if (!i0) {
 j0 = v1;
 j1 = UINT64_C(928);
 j0 = j0 + j1;
@@ -38352,7 +39524,7 @@ i0 = load8(p92 + 0);
 i1 = UINT32_C(1);
 i0 = i0 & i1;
 if (i0) { goto l69; }
-l114:;
+}
 j0 = v15;
 j1 = v1;
 j2 = v0;
@@ -38384,7 +39556,7 @@ l70:;
 j0 = v9;
 j1 = v17;
 i0 = (j0 >= j1);
-if (i0) { goto l69; }
+if (!i0) {
 j0 = v3;
 j1 = v1;
 j0 = j0 + j1;
@@ -38400,7 +39572,7 @@ p96 = read_at(j0, m, 1u);
 i0 = load8(p96 + 0);
 i1 = UINT32_C(1);
 i0 = (i0 != i1);
-if (i0) { goto l115; }
+if (!i0) {
 i0 = v19;
 j1 = v23;
 j2 = UINT64_C(900);
@@ -38417,7 +39589,7 @@ i0 = v16;
 i1 = UINT32_C(1);
 i0 = i0 ^ i1;
 v6 = i0;
-l115:;
+}
 j0 = v23;
 j1 = UINT64_C(808);
 j0 = j0 + j1;
@@ -38454,33 +39626,33 @@ j0 = j0 + j1;
 j0 = load64(p16 + 24600);
 v8 = j0;
 i0 = (j0 == 0);
-if (i0) { goto l116; }
+if (!i0) {
 j0 = v8;
 j1 = UINT64_C(2);
 j0 = j0 << (j1 & 63);
 v8 = j0;
 i0 = (j0 == 0);
-if (i0) { goto l117; }
+if (!i0) {
 j0 = v0;
 j1 = UINT64_C(298776);
 j0 = j0 + j1;
 i1 = UINT32_C(0);
 j2 = v8;
 fill(m, j0, i1, j2);
-l117:;
+}
 j0 = v0;
 j1 = UINT64_C(306968);
 j0 = j0 + j1;
 j1 = UINT64_C(0);
 p101 = write_at(j0, m, 8u);
 store64(p101 + 0, j1);
-l116:;
+}
 j0 = UINT64_C(16384);
 j1 = v24;
 j0 = j0 - j1;
 j1 = v4;
 i0 = (j0 < j1);
-if (i0) { goto l69; }
+if (!i0) {
 j0 = v0;
 j1 = UINT64_C(282384);
 j0 = j0 + j1;
@@ -38495,7 +39667,7 @@ v8 = j1;
 j0 = j0 - j1;
 j1 = v4;
 i0 = (j0 >= j1);
-if (i0) { goto l119; }
+if (!i0) {
 j0 = v4;
 j1 = UINT64_C(3);
 j0 = j0 & j1;
@@ -38505,7 +39677,7 @@ v9 = j0;
 j0 = v4;
 j1 = UINT64_C(4);
 i0 = (j0 < j1);
-if (i0) { goto l120; }
+if (!i0) {
 j0 = v0;
 j1 = v1;
 j0 = j0 + j1;
@@ -38520,7 +39692,7 @@ j0 = j0 & j1;
 v11 = j0;
 j0 = UINT64_C(0);
 v9 = j0;
-l121:;
+for (;;) {
 j0 = v12;
 j1 = v9;
 j0 = j0 + j1;
@@ -38567,11 +39739,12 @@ j2 = UINT64_C(4);
 j1 = j1 + j2;
 v9 = j1;
 i0 = (j0 != j1);
-if (i0) { goto l121; }
+if (!i0) break;
+}
 j0 = v13;
 i0 = (j0 == 0);
 if (i0) { goto l118; }
-l120:;
+}
 j0 = v9;
 j1 = v24;
 j0 = j0 + j1;
@@ -38611,14 +39784,15 @@ j1 = UINT64_C(0);
 i0 = (j0 != j1);
 if (i0) { goto l122; }
 goto l118;
-l119:;
+}
 j0 = v4;
 i0 = (j0 == 0);
-if (i0) { goto l118; }
+if (!i0) {
 j0 = v26;
 j1 = v8;
 j2 = v4;
 copy(m, j0, j1, j2);
+}
 l118:;
 j0 = v0;
 j1 = UINT64_C(298768);
@@ -38641,56 +39815,56 @@ j0 = j0 + j1;
 j0 = load64(p16 + 24600);
 v8 = j0;
 i0 = (j0 == 0);
-if (i0) { goto l123; }
+if (!i0) {
 j0 = v8;
 j1 = UINT64_C(2);
 j0 = j0 << (j1 & 63);
 v8 = j0;
 i0 = (j0 == 0);
-if (i0) { goto l124; }
+if (!i0) {
 j0 = v0;
 j1 = UINT64_C(298776);
 j0 = j0 + j1;
 i1 = UINT32_C(0);
 j2 = v8;
 fill(m, j0, i1, j2);
-l124:;
+}
 j0 = v0;
 j1 = UINT64_C(306968);
 j0 = j0 + j1;
 j1 = UINT64_C(0);
 p107 = write_at(j0, m, 8u);
 store64(p107 + 0, j1);
-l123:;
+}
 j0 = v24;
 j1 = v1;
 i0 = (j0 >= j1);
-if (i0) { goto l125; }
+if (!i0) {
 j0 = v4;
 i0 = (j0 == 0);
-if (i0) { goto l126; }
+if (!i0) {
 j0 = v26;
 i1 = UINT32_C(0);
 j2 = v4;
 fill(m, j0, i1, j2);
-l126:;
+}
 j0 = v0;
 j1 = UINT64_C(298768);
 j0 = j0 + j1;
 j1 = v24;
 store64(p106 + 0, j1);
-l125:;
+}
 j0 = v2;
 i0 = load8(p100 + 0);
 v21 = i0;
 i1 = UINT32_C(255);
 i0 = i0 & i1;
 i0 = (i0 == 0);
-if (i0) { goto l69; }
+if (!i0) {
 i0 = v6;
 i1 = UINT32_C(1);
 i0 = i0 & i1;
-if (i0) { goto l128; }
+if (!i0) {
 j0 = v15;
 j1 = v23;
 i2 = v21;
@@ -38699,7 +39873,7 @@ i0 = fio_log_judge_join_Join_is_other(m, j0, j1, i2, j3);
 i0 = (i0 == 0);
 if (i0) { goto l127; }
 goto l69;
-l128:;
+}
 i0 = v16;
 i1 = UINT32_C(1);
 i0 = i0 & i1;
@@ -38718,7 +39892,7 @@ j3 = j3 + j4;
 j3 = load64(p108 + 8);
 i0 = fio_log_judge_join_Join_add(m, j0, j1, i2, j3);
 i0 = (i0 == 0);
-if (i0) { goto l69; }
+if (!i0) {
 j0 = v0;
 j1 = UINT64_C(372648);
 j0 = j0 + j1;
@@ -38764,6 +39938,11 @@ j1 = load64(p110 + 0);
 i0 = (j0 >= j1);
 if (i0) { goto l60; }
 goto l61;
+}
+}
+}
+}
+}
 l69:;
 j0 = v0;
 j1 = UINT64_C(282368);
@@ -38778,13 +39957,13 @@ v1 = j1;
 j2 = UINT64_C(18446744073709551615);
 j1 = j1 ^ j2;
 i0 = (j0 > j1);
-if (i0) { goto l63; }
+if (!i0) {
 j0 = v1;
 j1 = v8;
 j0 = j0 + j1;
 j1 = v5;
 i0 = (j0 != j1);
-if (i0) { goto l63; }
+if (!i0) {
 j0 = v1;
 j1 = v0;
 j2 = UINT64_C(372618);
@@ -38797,7 +39976,7 @@ j1 = (uint64_t)i1;
 j2 = UINT64_C(3);
 j1 = j1 & j2;
 i0 = (j0 > j1);
-if (i0) { goto l63; }
+if (!i0) {
 j0 = v0;
 j1 = UINT64_C(372648);
 j0 = j0 + j1;
@@ -38805,7 +39984,7 @@ p112 = read_at(j0, m, 1u);
 i0 = load8(p112 + 0);
 i1 = UINT32_C(1);
 i0 = (i0 != i1);
-if (i0) { goto l63; }
+if (!i0) {
 j0 = v0;
 j1 = UINT64_C(372602);
 j0 = j0 + j1;
@@ -38813,7 +39992,7 @@ p113 = read_at(j0, m, 1u);
 i0 = load8(p113 + 0);
 i1 = UINT32_C(1);
 i0 = (i0 != i1);
-if (i0) { goto l63; }
+if (!i0) {
 j0 = v0;
 j1 = UINT64_C(372632);
 j0 = j0 + j1;
@@ -38821,7 +40000,7 @@ p114 = read_at(j0, m, 1u);
 i0 = load8(p114 + 0);
 i1 = UINT32_C(1);
 i0 = (i0 != i1);
-if (i0) { goto l63; }
+if (!i0) {
 j0 = v0;
 j1 = UINT64_C(73064);
 j0 = j0 + j1;
@@ -38829,7 +40008,7 @@ p115 = read_at(j0, m, 1u);
 i0 = load8(p115 + 0);
 i1 = UINT32_C(1);
 i0 = (i0 != i1);
-if (i0) { goto l63; }
+if (!i0) {
 j0 = v0;
 j1 = UINT64_C(73072);
 j0 = j0 + j1;
@@ -38842,7 +40021,7 @@ j1 = j1 + j2;
 j1 = load64(p116 + 299568);
 v8 = j1;
 i0 = (j0 < j1);
-if (i0) { goto l63; }
+if (!i0) {
 j0 = UINT64_C(0);
 j1 = v1;
 j2 = v8;
@@ -38854,7 +40033,7 @@ i2 = (j2 > j3);
 j0 = i2 ? j0 : j1;
 j1 = UINT64_C(1000000);
 i0 = (j0 > j1);
-if (i0) { goto l63; }
+if (!i0) {
 j0 = v0;
 j1 = UINT64_C(73048);
 j0 = j0 + j1;
@@ -38862,7 +40041,7 @@ p117 = read_at(j0, m, 8u);
 j0 = load64(p117 + 0);
 v17 = j0;
 i0 = (j0 == 0);
-if (i0) { goto l63; }
+if (!i0) {
 j0 = v17;
 j1 = UINT64_C(18446744073709551615);
 j0 = j0 + j1;
@@ -38901,7 +40080,7 @@ p118 = read_at(j0, m, 1u);
 i0 = load8(p118 + 0);
 i1 = UINT32_C(1);
 i0 = (i0 != i1);
-if (i0) { goto l133; }
+if (!i0) {
 j0 = v9;
 j1 = UINT64_C(66440);
 j0 = j0 + j1;
@@ -38912,7 +40091,7 @@ j2 = UINT64_C(372584);
 j1 = j1 + j2;
 i1 = load8(p116 + 299512);
 i0 = (i0 != i1);
-if (i0) { goto l133; }
+if (!i0) {
 j0 = v9;
 j1 = UINT64_C(66376);
 j0 = j0 + j1;
@@ -38923,7 +40102,7 @@ j2 = UINT64_C(372520);
 j1 = j1 + j2;
 j1 = load64(p116 + 299448);
 i0 = (j0 != j1);
-if (i0) { goto l133; }
+if (!i0) {
 j0 = v9;
 j1 = UINT64_C(66408);
 j0 = j0 + j1;
@@ -38934,7 +40113,7 @@ j2 = UINT64_C(372552);
 j1 = j1 + j2;
 j1 = load64(p116 + 299480);
 i0 = (j0 != j1);
-if (i0) { goto l133; }
+if (!i0) {
 j0 = v9;
 j1 = UINT64_C(66416);
 j0 = j0 + j1;
@@ -38945,7 +40124,7 @@ j2 = UINT64_C(372560);
 j1 = j1 + j2;
 j1 = load64(p116 + 299488);
 i0 = (j0 != j1);
-if (i0) { goto l133; }
+if (!i0) {
 j0 = v9;
 j1 = UINT64_C(66424);
 j0 = j0 + j1;
@@ -38956,7 +40135,7 @@ j2 = UINT64_C(372568);
 j1 = j1 + j2;
 j1 = load64(p116 + 299496);
 i0 = (j0 != j1);
-if (i0) { goto l133; }
+if (!i0) {
 j0 = v9;
 j1 = UINT64_C(66432);
 j0 = j0 + j1;
@@ -38967,7 +40146,7 @@ j2 = UINT64_C(372576);
 j1 = j1 + j2;
 j1 = load64(p116 + 299504);
 i0 = (j0 != j1);
-if (i0) { goto l133; }
+if (!i0) {
 j0 = v9;
 j1 = UINT64_C(66458);
 j0 = j0 + j1;
@@ -38975,7 +40154,7 @@ p125 = read_at(j0, m, 1u);
 i0 = load8(p125 + 0);
 i1 = UINT32_C(1);
 i0 = (i0 != i1);
-if (i0) { goto l133; }
+if (!i0) {
 j0 = v9;
 j1 = UINT64_C(66459);
 j0 = j0 + j1;
@@ -38986,7 +40165,7 @@ j2 = UINT64_C(372603);
 j1 = j1 + j2;
 i1 = load8(p116 + 299531);
 i0 = (i0 != i1);
-if (i0) { goto l133; }
+if (!i0) {
 j0 = v9;
 j1 = UINT64_C(66448);
 j0 = j0 + j1;
@@ -38994,20 +40173,21 @@ p127 = read_at(j0, m, 8u);
 j0 = load64(p127 + 0);
 v13 = j0;
 i0 = (j0 == 0);
-if (i0) { goto l134; }
+if (!i0) {
 j0 = v0;
 j1 = UINT64_C(372592);
 j0 = j0 + j1;
 j0 = load64(p116 + 299520);
 v22 = j0;
 i0 = (j0 == 0);
-if (i0) { goto l134; }
+if (!i0) {
 j0 = v22;
 j1 = v13;
 j0 = j0 & j1;
 i0 = (j0 == 0);
 if (i0) { goto l133; }
-l134:;
+}
+}
 j0 = v9;
 j1 = UINT64_C(66368);
 j0 = j0 + j1;
@@ -39020,7 +40200,7 @@ j0 = j0 + j1;
 i0 = load8(p128 + 96);
 i1 = UINT32_C(2);
 i0 = (i0 != i1);
-if (i0) { goto l135; }
+if (!i0) {
 j0 = v9;
 j1 = UINT64_C(66488);
 j0 = j0 + j1;
@@ -39031,13 +40211,13 @@ i0 = i0 & i1;
 if (i0) { goto l133; }
 j0 = v13;
 i0 = (j0 == 0);
-if (i0) { goto l135; }
+if (!i0) {
 j0 = v0;
 j1 = UINT64_C(298768);
 j0 = j0 + j1;
 j0 = load64(p16 + 16400);
 i0 = (j0 == 0);
-if (i0) { goto l135; }
+if (!i0) {
 j0 = v12;
 j1 = v13;
 i0 = (j0 >= j1);
@@ -39055,11 +40235,22 @@ i1 = UINT32_C(0);
 i0 = (SIGNED32(i0) >= SIGNED32(i1));
 if (i0) { goto l133; }
 goto l131;
-l135:;
+}
+}
+}
 j0 = v12;
 j1 = v13;
 i0 = (j0 < j1);
 if (i0) { goto l131; }
+}
+}
+}
+}
+}
+}
+}
+}
+}
 l133:;
 j0 = v1;
 j1 = UINT64_C(936);
@@ -39098,7 +40289,7 @@ l130:;
 j0 = v8;
 j1 = v17;
 i0 = (j0 >= j1);
-if (i0) { goto l63; }
+if (!i0) {
 j0 = v3;
 j1 = v1;
 j0 = j0 + j1;
@@ -39132,33 +40323,33 @@ j0 = j0 + j1;
 j0 = load64(p16 + 24600);
 v8 = j0;
 i0 = (j0 == 0);
-if (i0) { goto l136; }
+if (!i0) {
 j0 = v8;
 j1 = UINT64_C(2);
 j0 = j0 << (j1 & 63);
 v8 = j0;
 i0 = (j0 == 0);
-if (i0) { goto l137; }
+if (!i0) {
 j0 = v0;
 j1 = UINT64_C(298776);
 j0 = j0 + j1;
 i1 = UINT32_C(0);
 j2 = v8;
 fill(m, j0, i1, j2);
-l137:;
+}
 j0 = v0;
 j1 = UINT64_C(306968);
 j0 = j0 + j1;
 j1 = UINT64_C(0);
 p133 = write_at(j0, m, 8u);
 store64(p133 + 0, j1);
-l136:;
+}
 j0 = UINT64_C(16384);
 j1 = v22;
 j0 = j0 - j1;
 j1 = v4;
 i0 = (j0 < j1);
-if (i0) { goto l63; }
+if (!i0) {
 j0 = v7;
 j1 = v22;
 j0 = j0 + j1;
@@ -39170,7 +40361,7 @@ v8 = j1;
 j0 = j0 - j1;
 j1 = v4;
 i0 = (j0 >= j1);
-if (i0) { goto l139; }
+if (!i0) {
 j0 = v4;
 j1 = UINT64_C(3);
 j0 = j0 & j1;
@@ -39180,7 +40371,7 @@ v9 = j0;
 j0 = v4;
 j1 = UINT64_C(4);
 i0 = (j0 < j1);
-if (i0) { goto l140; }
+if (!i0) {
 j0 = v0;
 j1 = v1;
 j0 = j0 + j1;
@@ -39195,7 +40386,7 @@ j0 = j0 & j1;
 v11 = j0;
 j0 = UINT64_C(0);
 v9 = j0;
-l141:;
+for (;;) {
 j0 = v12;
 j1 = v9;
 j0 = j0 + j1;
@@ -39242,11 +40433,12 @@ j2 = UINT64_C(4);
 j1 = j1 + j2;
 v9 = j1;
 i0 = (j0 != j1);
-if (i0) { goto l141; }
+if (!i0) break;
+}
 j0 = v13;
 i0 = (j0 == 0);
 if (i0) { goto l138; }
-l140:;
+}
 j0 = v9;
 j1 = v22;
 j0 = j0 + j1;
@@ -39286,14 +40478,15 @@ j1 = UINT64_C(0);
 i0 = (j0 != j1);
 if (i0) { goto l142; }
 goto l138;
-l139:;
+}
 j0 = v4;
 i0 = (j0 == 0);
-if (i0) { goto l138; }
+if (!i0) {
 j0 = v23;
 j1 = v8;
 j2 = v4;
 copy(m, j0, j1, j2);
+}
 l138:;
 j0 = v0;
 j1 = UINT64_C(298768);
@@ -39316,56 +40509,56 @@ j0 = j0 + j1;
 j0 = load64(p16 + 24600);
 v8 = j0;
 i0 = (j0 == 0);
-if (i0) { goto l143; }
+if (!i0) {
 j0 = v8;
 j1 = UINT64_C(2);
 j0 = j0 << (j1 & 63);
 v8 = j0;
 i0 = (j0 == 0);
-if (i0) { goto l144; }
+if (!i0) {
 j0 = v0;
 j1 = UINT64_C(298776);
 j0 = j0 + j1;
 i1 = UINT32_C(0);
 j2 = v8;
 fill(m, j0, i1, j2);
-l144:;
+}
 j0 = v0;
 j1 = UINT64_C(306968);
 j0 = j0 + j1;
 j1 = UINT64_C(0);
 p139 = write_at(j0, m, 8u);
 store64(p139 + 0, j1);
-l143:;
+}
 j0 = v22;
 j1 = v1;
 i0 = (j0 >= j1);
-if (i0) { goto l145; }
+if (!i0) {
 j0 = v4;
 i0 = (j0 == 0);
-if (i0) { goto l146; }
+if (!i0) {
 j0 = v23;
 i1 = UINT32_C(0);
 j2 = v4;
 fill(m, j0, i1, j2);
-l146:;
+}
 j0 = v0;
 j1 = UINT64_C(298768);
 j0 = j0 + j1;
 j1 = v22;
 store64(p138 + 0, j1);
-l145:;
+}
 j0 = v2;
 i0 = load8(p132 + 0);
 i1 = UINT32_C(2);
 i0 = (i0 != i1);
-if (i0) { goto l63; }
+if (!i0) {
 j0 = v2;
 i0 = load8(p132 + 24);
 i1 = UINT32_C(1);
 i0 = i0 & i1;
 i0 = (i0 == 0);
-if (i0) { goto l63; }
+if (!i0) {
 j0 = v15;
 j1 = v24;
 j2 = v0;
@@ -39378,7 +40571,7 @@ j3 = j3 + j4;
 j3 = load64(p116 + 0);
 i0 = fio_log_judge_join_Join_add(m, j0, j1, i2, j3);
 i0 = (i0 == 0);
-if (i0) { goto l63; }
+if (!i0) {
 j0 = v0;
 j1 = UINT64_C(372616);
 j0 = j0 + j1;
@@ -39391,6 +40584,23 @@ j0 = j0 + j1;
 i1 = UINT32_C(0);
 store8(p140 + 0, i1);
 goto l61;
+}
+}
+}
+}
+}
+}
+}
+}
+}
+}
+}
+}
+}
+}
+}
+}
+}
 l63:;
 j0 = v18;
 fio_log_judge_Judge_close(m, j0);
@@ -39430,6 +40640,7 @@ store64(p142 + 0, j1);
 l59:;
 i0 = UINT32_C(0);
 v10 = i0;
+}
 l58:;
 j0 = v0;
 j1 = UINT64_C(451745);
@@ -39442,7 +40653,6 @@ j0 = v2;
 j1 = UINT64_C(1248);
 j0 = j0 + j1;
 m->g0 = j0;
-return;
 }
 static void fio_log_reader_Reader_judge_held(struct machine *m, uint64_t v0)
 {
@@ -39611,7 +40821,7 @@ j0 = v1;
 v2 = j0;
 j1 = UINT64_C(16);
 i0 = (SIGNED64(j0) < SIGNED64(j1));
-if (i0) { goto l5; }
+if (!i0) {
 j0 = v0;
 fio_log_reader_Reader_read_unread(m, j0);
 j0 = v0;
@@ -39686,14 +40896,14 @@ v1 = j0;
 i0 = load8(p3 + 377216);
 i1 = UINT32_C(1);
 i0 = (i0 != i1);
-if (i0) { goto l6; }
+if (!i0) {
 j0 = v0;
 j1 = UINT64_C(442760);
 j0 = j0 + j1;
 j0 = load64(p3 + 377224);
 j1 = v6;
 i0 = (j0 != j1);
-if (i0) { goto l6; }
+if (!i0) {
 j0 = UINT64_C(0);
 v9 = j0;
 j0 = v1;
@@ -39783,7 +40993,8 @@ j2 = UINT64_C(88);
 j1 = j1 + j2;
 j2 = UINT64_C(2720);
 copy(m, j0, j1, j2);
-l6:;
+}
+}
 j0 = v0;
 j1 = UINT64_C(65560);
 j0 = j0 + j1;
@@ -39791,10 +41002,10 @@ v11 = j0;
 i0 = v5;
 i1 = UINT32_C(1);
 i0 = i0 & i1;
-if (i0) { goto l11; }
+if (!i0) {
 j0 = v4;
 i0 = (j0 == 0);
-if (i0) { goto l12; }
+if (!i0) {
 j0 = v0;
 v1 = j0;
 j0 = v4;
@@ -39826,7 +41037,7 @@ v9 = j0;
 j1 = UINT64_C(0);
 i0 = (j0 != j1);
 if (i0) { goto l13; }
-l12:;
+}
 j0 = v2;
 j1 = UINT64_C(0);
 store64(p1 + 80, j1);
@@ -39875,6 +41086,7 @@ j0 = j0 + j1;
 j1 = UINT64_C(0);
 store64(p7 + 16, j1);
 goto l2;
+}
 l11:;
 j0 = v0;
 j1 = UINT64_C(372656);
@@ -40059,24 +41271,24 @@ j0 = j0 + j1;
 j0 = load64(p3 + 380736);
 v1 = j0;
 i0 = (j0 == 0);
-if (i0) { goto l20; }
+if (!i0) {
 j0 = v1;
 j1 = UINT64_C(96);
 j0 = j0 * j1;
 v1 = j0;
 i0 = (j0 == 0);
-if (i0) { goto l21; }
+if (!i0) {
 j0 = v18;
 i1 = UINT32_C(0);
 j2 = v1;
 fill(m, j0, i1, j2);
-l21:;
+}
 j0 = v0;
 j1 = UINT64_C(446272);
 j0 = j0 + j1;
 j1 = UINT64_C(0);
 store64(p3 + 380736, j1);
-l20:;
+}
 j0 = UINT64_C(0);
 v19 = j0;
 j0 = v0;
@@ -40086,13 +41298,13 @@ j0 = load64(p3 + 7512);
 v20 = j0;
 j1 = UINT64_C(0);
 i0 = (j0 != j1);
-if (i0) { goto l23; }
+if (!i0) {
 j0 = v6;
 j1 = UINT64_C(3152);
 j0 = j0 * j1;
 v21 = j0;
 goto l22;
-l23:;
+}
 j0 = v0;
 j1 = UINT64_C(66464);
 j0 = j0 + j1;
@@ -40162,7 +41374,7 @@ j0 = load64(p3 + 380736);
 v9 = j0;
 j1 = UINT64_C(8);
 i0 = (j0 == j1);
-if (i0) { goto l25; }
+if (!i0) {
 j0 = v10;
 j1 = UINT64_C(904);
 j0 = j0 + j1;
@@ -40203,18 +41415,18 @@ store64(p3 + 380736, j1);
 j0 = v31;
 j0 = load64(p10 + 0);
 v13 = j0;
-l25:;
+}
 j0 = v13;
 j1 = UINT64_C(1);
 i0 = (j0 != j1);
-if (i0) { goto l27; }
+if (!i0) {
 j0 = v0;
 j1 = UINT64_C(73048);
 j0 = j0 + j1;
 j0 = load64(p3 + 7512);
 v9 = j0;
 i0 = (j0 == 0);
-if (i0) { goto l27; }
+if (!i0) {
 j0 = v22;
 v1 = j0;
 l28:;
@@ -40225,14 +41437,14 @@ p13 = read_at(j0, m, 8u);
 j0 = load64(p13 + 0);
 j1 = UINT64_C(2);
 i0 = (j0 < j1);
-if (i0) { goto l29; }
+if (!i0) {
 j0 = v1;
 p14 = read_at(j0, m, 1u);
 i0 = load8(p14 + 0);
 i1 = UINT32_C(2);
 i0 = (i0 == i1);
 if (i0) { goto l26; }
-l29:;
+}
 j0 = v1;
 j1 = UINT64_C(936);
 j0 = j0 + j1;
@@ -40244,7 +41456,8 @@ v9 = j0;
 j1 = UINT64_C(0);
 i0 = (j0 != j1);
 if (i0) { goto l28; }
-l27:;
+}
+}
 j0 = v10;
 j1 = UINT64_C(928);
 j0 = j0 + j1;
@@ -40288,7 +41501,7 @@ store32(p1 + 88, i1);
 i0 = v15;
 i1 = UINT32_C(2);
 i0 = (i0 != i1);
-if (i0) { goto l26; }
+if (!i0) {
 j0 = v10;
 j1 = UINT64_C(24);
 j0 = j0 + j1;
@@ -40305,10 +41518,10 @@ j0 = j0 - j1;
 v9 = j0;
 j1 = UINT64_C(773);
 i0 = (j0 > j1);
-if (i0) { goto l30; }
+if (!i0) {
 j0 = v9;
 i0 = (j0 == 0);
-if (i0) { goto l31; }
+if (!i0) {
 j0 = v2;
 j1 = UINT64_C(2904);
 j0 = j0 + j1;
@@ -40317,20 +41530,20 @@ j2 = v1;
 j1 = j1 + j2;
 j2 = v9;
 copy(m, j0, j1, j2);
-l31:;
+}
 j0 = v2;
 j1 = v9;
 store64(p1 + 3680, j1);
-l30:;
+}
 i0 = UINT32_C(0);
 v15 = i0;
 j0 = v13;
 i0 = (j0 == 0);
-if (i0) { goto l32; }
+if (!i0) {
 j0 = v13;
 j1 = UINT64_C(1);
 i0 = (j0 == j1);
-if (i0) { goto l34; }
+if (!i0) {
 j0 = v31;
 i0 = load8(p15 + 24);
 v35 = i0;
@@ -40339,11 +41552,11 @@ i0 = i0 & i1;
 v36 = i0;
 i1 = UINT32_C(59);
 i0 = (i0 == i1);
-if (i0) { goto l34; }
+if (!i0) {
 i0 = v36;
 i1 = UINT32_C(56);
 i0 = (i0 < i1);
-if (i0) { goto l35; }
+if (!i0) {
 i0 = v35;
 i1 = UINT32_C(255);
 i0 = i0 & i1;
@@ -40354,7 +41567,7 @@ if (i0) { goto l34; }
 i0 = v36;
 i1 = UINT32_C(183);
 i0 = (i0 < i1);
-if (i0) { goto l35; }
+if (!i0) {
 i0 = v35;
 i1 = UINT32_C(255);
 i0 = i0 & i1;
@@ -40365,21 +41578,23 @@ if (i0) { goto l34; }
 i0 = v36;
 i1 = UINT32_C(186);
 i0 = (i0 == i1);
-if (i0) { goto l35; }
+if (!i0) {
 i0 = v35;
 i1 = UINT32_C(255);
 i0 = i0 & i1;
 i1 = UINT32_C(189);
 i0 = (i0 < i1);
 if (i0) { goto l34; }
-l35:;
+}
+}
+}
 j0 = v10;
 j1 = UINT64_C(896);
 j0 = j0 + j1;
 i0 = load8(p15 + 896);
 i1 = UINT32_C(1);
 i0 = (i0 != i1);
-if (i0) { goto l34; }
+if (!i0) {
 j0 = v10;
 j1 = UINT64_C(897);
 j0 = j0 + j1;
@@ -40391,6 +41606,9 @@ i2 = UINT32_C(7);
 i1 = i1 >> (i2 & 31);
 i0 = (i0 == i1);
 if (i0) { goto l33; }
+}
+}
+}
 l34:;
 j0 = v10;
 j1 = UINT64_C(900);
@@ -40402,14 +41620,14 @@ j0 = v10;
 j1 = UINT64_C(901);
 j0 = j0 + j1;
 i0 = load8(p15 + 901);
-if (i0) { goto l32; }
+if (!i0) {
 j0 = v10;
 j1 = UINT64_C(880);
 j0 = j0 + j1;
 i0 = load8(p15 + 880);
 i1 = UINT32_C(8);
 i0 = (i0 > i1);
-if (i0) { goto l32; }
+if (!i0) {
 j0 = v10;
 j1 = UINT64_C(888);
 j0 = j0 + j1;
@@ -40423,6 +41641,9 @@ j2 = UINT64_C(0);
 i1 = (j1 != j2);
 i0 = i0 | i1;
 v15 = i0;
+}
+}
+}
 l32:;
 j0 = v30;
 j1 = v14;
@@ -40439,19 +41660,19 @@ copy(m, j0, j1, j2);
 i0 = v16;
 i1 = UINT32_C(1);
 i0 = i0 & i1;
-if (i0) { goto l36; }
+if (!i0) {
 j0 = v0;
 j1 = UINT64_C(73056);
 j0 = j0 + j1;
 i0 = load8(p3 + 7520);
 if (i0) { goto l26; }
-l36:;
+}
 j0 = v23;
 p16 = read_at(j0, m, 8u);
 j0 = load64(p16 + 0);
 j1 = v3;
 i0 = (j0 != j1);
-if (i0) { goto l26; }
+if (!i0) {
 j0 = v23;
 j1 = UINT64_C(3144);
 j0 = j0 + j1;
@@ -40459,7 +41680,7 @@ p17 = read_at(j0, m, 8u);
 j0 = load64(p17 + 0);
 j1 = UINT64_C(0);
 i0 = (j0 != j1);
-if (i0) { goto l26; }
+if (!i0) {
 j0 = v2;
 j1 = UINT64_C(88);
 j0 = j0 + j1;
@@ -40512,7 +41733,7 @@ j0 = load64(p18 + 0);
 v32 = j0;
 j1 = UINT64_C(0);
 i0 = (j0 != j1);
-if (i0) { goto l38; }
+if (!i0) {
 j0 = v2;
 j1 = UINT64_C(3792);
 j0 = j0 + j1;
@@ -40536,7 +41757,7 @@ j0 = v2;
 i1 = UINT32_C(0);
 store32(p1 + 3692, i1);
 goto l37;
-l38:;
+}
 j0 = UINT64_C(66619);
 j1 = v25;
 j2 = v2;
@@ -40597,11 +41818,11 @@ i2 = (j2 > j3);
 j0 = i2 ? j0 : j1;
 j1 = v9;
 i0 = (j0 != j1);
-if (i0) { goto l40; }
+if (!i0) {
 j0 = v1;
 j1 = UINT64_C(3);
 i0 = (j0 > j1);
-if (i0) { goto l43; }
+if (!i0) {
 j0 = UINT64_C(66616);
 j1 = v31;
 j2 = v1;
@@ -40631,7 +41852,7 @@ v1 = j1;
 i0 = (j0 != j1);
 if (i0) { goto l44; }
 goto l41;
-l43:;
+}
 j0 = v31;
 p23 = read_at(j0, m, 1u);
 i0 = load8(p23 + 0);
@@ -40702,6 +41923,7 @@ j0 = load64(p30 + 0);
 j1 = v40;
 i0 = (j0 == j1);
 if (i0) { goto l26; }
+}
 l40:;
 j0 = v14;
 j1 = UINT64_C(1);
@@ -40791,6 +42013,9 @@ j2 = UINT64_C(1);
 j1 = j1 + j2;
 p32 = write_at(j0, m, 8u);
 store64(p32 + 0, j1);
+}
+}
+}
 l26:;
 j0 = v19;
 j1 = UINT64_C(1);
@@ -40811,11 +42036,11 @@ p33 = read_at(j0, m, 8u);
 j0 = load64(p33 + 0);
 j1 = UINT64_C(0);
 i0 = (j0 == j1);
-if (i0) { goto l45; }
+if (!i0) {
 i0 = UINT32_C(0);
 v15 = i0;
 goto l3;
-l45:;
+}
 i0 = UINT32_C(0);
 v15 = i0;
 j0 = v0;
@@ -40839,7 +42064,7 @@ p34 = read_at(j0, m, 1u);
 i0 = load8(p34 + 0);
 i1 = UINT32_C(2);
 i0 = (i0 == i1);
-if (i0) { goto l47; }
+if (!i0) {
 j0 = v2;
 j1 = UINT64_C(16);
 j0 = j0 + j1;
@@ -40856,7 +42081,7 @@ j0 = v2;
 i0 = load8(p1 + 16);
 i1 = UINT32_C(1);
 i0 = (i0 != i1);
-if (i0) { goto l47; }
+if (!i0) {
 i0 = UINT32_C(12);
 v15 = i0;
 j0 = v2;
@@ -40869,7 +42094,8 @@ i0 = (i0 != i1);
 if (i0) { goto l4; }
 i0 = UINT32_C(1);
 v16 = i0;
-l47:;
+}
+}
 j0 = v1;
 j1 = UINT64_C(936);
 j0 = j0 + j1;
@@ -40882,7 +42108,7 @@ j1 = UINT64_C(0);
 i0 = (j0 != j1);
 if (i0) { goto l46; }
 goto l3;
-l5:;
+}
 fio2070_trap();
 l4:;
 i0 = UINT32_C(1);
@@ -40905,7 +42131,7 @@ i0 = v5;
 i1 = UINT32_C(1);
 i0 = i0 & i1;
 i0 = (i0 == 0);
-if (i0) { goto l48; }
+if (!i0) {
 j0 = v7;
 j1 = v6;
 j2 = UINT64_C(144);
@@ -40933,13 +42159,13 @@ j0 = j0 + j1;
 j1 = UINT64_C(0);
 store64(p37 + 16, j1);
 goto l2;
-l48:;
+}
 j0 = v0;
 j1 = UINT64_C(73080);
 j0 = j0 + j1;
 p38 = read_at(j0, m, 1u);
 i0 = load8(p38 + 0);
-if (i0) { goto l51; }
+if (!i0) {
 j0 = v2;
 j1 = UINT64_C(3792);
 j0 = j0 + j1;
@@ -40966,7 +42192,7 @@ p39 = read_at(j0 + UINT64_C(3792), m, 1u);
 i0 = load8(p39 + 0);
 i1 = UINT32_C(1);
 i0 = (i0 != i1);
-if (i0) { goto l51; }
+if (!i0) {
 j0 = v2;
 p40 = read_at(j0 + UINT64_C(3800), m, 64u);
 j0 = load64(p40 + 56);
@@ -40980,7 +42206,7 @@ v15 = i0;
 j0 = v2;
 j0 = load64(p40 + 0);
 i0 = (j0 == 0);
-if (i0) { goto l52; }
+if (!i0) {
 j0 = v2;
 i0 = load8(p40 + 8);
 i1 = UINT32_C(1);
@@ -40989,7 +42215,7 @@ j1 = v2;
 j1 = load64(p40 + 16);
 i1 = (j1 == 0);
 i0 = i0 & i1;
-if (i0) { goto l52; }
+if (!i0) {
 j0 = v2;
 i0 = load8(p40 + 24);
 i1 = UINT32_C(1);
@@ -41000,7 +42226,8 @@ i1 = (j1 == 0);
 i0 = i0 & i1;
 i0 = (i0 == 0);
 if (i0) { goto l51; }
-l52:;
+}
+}
 j0 = v2;
 p41 = read_at(j0 + UINT64_C(8), m, 3865u);
 i0 = load8(p41 + 3864);
@@ -41161,26 +42388,26 @@ j0 = j0 + j1;
 j0 = load64(p42 + 24608);
 v10 = j0;
 i0 = (j0 == 0);
-if (i0) { goto l53; }
+if (!i0) {
 j0 = v10;
 j1 = UINT64_C(2);
 j0 = j0 << (j1 & 63);
 v10 = j0;
 i0 = (j0 == 0);
-if (i0) { goto l54; }
+if (!i0) {
 j0 = v0;
 j1 = UINT64_C(298776);
 j0 = j0 + j1;
 i1 = UINT32_C(0);
 j2 = v10;
 fill(m, j0, i1, j2);
-l54:;
+}
 j0 = v0;
 j1 = UINT64_C(306968);
 j0 = j0 + j1;
 j1 = UINT64_C(0);
 store64(p42 + 24608, j1);
-l53:;
+}
 j0 = v0;
 j1 = UINT64_C(282384);
 j0 = j0 + j1;
@@ -41192,98 +42419,98 @@ j0 = load64(p42 + 16408);
 v10 = j0;
 i0 = (j0 == 0);
 v16 = i0;
-if (i0) { goto l55; }
+if (!i0) {
 i0 = v16;
-if (i0) { goto l56; }
+if (!i0) {
 j0 = v14;
 i1 = UINT32_C(0);
 j2 = v10;
 fill(m, j0, i1, j2);
-l56:;
+}
 j0 = v0;
 j1 = UINT64_C(298768);
 j0 = j0 + j1;
 j1 = UINT64_C(0);
 store64(p42 + 16408, j1);
-l55:;
+}
 j0 = v0;
 j1 = UINT64_C(372512);
 j0 = j0 + j1;
 j0 = load64(p42 + 90152);
 v10 = j0;
 i0 = (j0 == 0);
-if (i0) { goto l57; }
+if (!i0) {
 j0 = v10;
 j1 = UINT64_C(2);
 j0 = j0 << (j1 & 63);
 v10 = j0;
 i0 = (j0 == 0);
-if (i0) { goto l58; }
+if (!i0) {
 j0 = v0;
 j1 = UINT64_C(306976);
 j0 = j0 + j1;
 i1 = UINT32_C(0);
 j2 = v10;
 fill(m, j0, i1, j2);
-l58:;
+}
 j0 = v0;
 j1 = UINT64_C(372512);
 j0 = j0 + j1;
 j1 = UINT64_C(0);
 store64(p42 + 90152, j1);
-l57:;
+}
 i0 = UINT32_C(0);
 v16 = i0;
 i0 = v15;
 i1 = UINT32_C(1);
 i0 = i0 & i1;
 i0 = (i0 == 0);
-if (i0) { goto l59; }
+if (!i0) {
 j0 = v9;
 j1 = v1;
 i0 = (j0 < j1);
-if (i0) { goto l59; }
+if (!i0) {
 j0 = v1;
 j1 = UINT64_C(65535);
 i0 = (j0 > j1);
-if (i0) { goto l59; }
+if (!i0) {
 j0 = v9;
 j1 = v1;
 j0 = j0 - j1;
 v9 = j0;
 j1 = UINT64_C(65535);
 i0 = (j0 > j1);
-if (i0) { goto l59; }
+if (!i0) {
 j0 = v0;
 j1 = UINT64_C(306968);
 j0 = j0 + j1;
 j0 = load64(p42 + 24608);
 v10 = j0;
 i0 = (j0 == 0);
-if (i0) { goto l60; }
+if (!i0) {
 j0 = v10;
 j1 = UINT64_C(2);
 j0 = j0 << (j1 & 63);
 v10 = j0;
 i0 = (j0 == 0);
-if (i0) { goto l61; }
+if (!i0) {
 j0 = v0;
 j1 = UINT64_C(298776);
 j0 = j0 + j1;
 i1 = UINT32_C(0);
 j2 = v10;
 fill(m, j0, i1, j2);
-l61:;
+}
 j0 = v0;
 j1 = UINT64_C(306968);
 j0 = j0 + j1;
 j1 = UINT64_C(0);
 store64(p42 + 24608, j1);
-l60:;
+}
 j0 = v13;
 j1 = UINT64_C(16384);
 i0 = (j0 > j1);
-if (i0) { goto l59; }
+if (!i0) {
 j0 = v0;
 j1 = UINT64_C(306976);
 j0 = j0 + j1;
@@ -41296,14 +42523,14 @@ i0 = (uint32_t)j0;
 v16 = i0;
 j0 = v13;
 i0 = (j0 == 0);
-if (i0) { goto l62; }
+if (!i0) {
 j0 = v14;
 j1 = v2;
 j2 = UINT64_C(88);
 j1 = j1 + j2;
 j2 = v13;
 copy(m, j0, j1, j2);
-l62:;
+}
 j0 = v0;
 j1 = UINT64_C(298768);
 j0 = j0 + j1;
@@ -41333,7 +42560,11 @@ j1 = j1 + j2;
 store64(p42 + 90152, j1);
 i0 = UINT32_C(1);
 v16 = i0;
-l59:;
+}
+}
+}
+}
+}
 j0 = v0;
 j1 = UINT64_C(446304);
 j0 = j0 + j1;
@@ -41342,7 +42573,7 @@ p44 = read_at(j0, m, 1u);
 i0 = load8(p44 + 0);
 i1 = UINT32_C(1);
 i0 = (i0 != i1);
-if (i0) { goto l63; }
+if (!i0) {
 j0 = v7;
 j1 = v0;
 j2 = UINT64_C(446312);
@@ -41360,7 +42591,7 @@ p46 = read_at(j0, m, 1u);
 i0 = load8(p46 + 0);
 i1 = UINT32_C(3);
 i0 = (i0 != i1);
-if (i0) { goto l63; }
+if (!i0) {
 j0 = v9;
 j1 = UINT64_C(16);
 j0 = j0 + j1;
@@ -41380,7 +42611,8 @@ j1 = UINT64_C(24);
 j0 = j0 + j1;
 j1 = UINT64_C(0);
 store64(p47 + 16, j1);
-l63:;
+}
+}
 j0 = v1;
 j1 = UINT64_C(0);
 p48 = write_at(j0, m, 16u);
@@ -41391,6 +42623,8 @@ store64(p48 + 0, j1);
 i0 = v16;
 if (i0) { goto l50; }
 goto l49;
+}
+}
 l51:;
 j0 = UINT64_C(0);
 v13 = j0;
@@ -41401,7 +42635,7 @@ p49 = read_at(j0, m, 8u);
 j0 = load64(p49 + 0);
 v9 = j0;
 i0 = (j0 == 0);
-if (i0) { goto l65; }
+if (!i0) {
 j0 = v0;
 j1 = UINT64_C(65560);
 j0 = j0 + j1;
@@ -41432,14 +42666,14 @@ i0 = load8(p50 + 0);
 v15 = i0;
 i1 = UINT32_C(2);
 i0 = (i0 != i1);
-if (i0) { goto l70; }
+if (!i0) {
 j0 = v1;
 j1 = UINT64_C(928);
 j0 = j0 + j1;
 p51 = read_at(j0, m, 1u);
 i0 = load8(p51 + 0);
 if (i0) { goto l66; }
-l70:;
+}
 j0 = v1;
 j1 = UINT64_C(902);
 j0 = j0 + j1;
@@ -41447,7 +42681,7 @@ p52 = read_at(j0, m, 1u);
 i0 = load8(p52 + 0);
 i1 = UINT32_C(1);
 i0 = (i0 != i1);
-if (i0) { goto l71; }
+if (!i0) {
 j0 = v1;
 j1 = UINT64_C(808);
 j0 = j0 + j1;
@@ -41456,7 +42690,7 @@ j0 = load64(p53 + 0);
 v13 = j0;
 j1 = UINT64_C(8);
 i0 = (j0 < j1);
-if (i0) { goto l71; }
+if (!i0) {
 i0 = v15;
 switch (i0) {
 case 0:
@@ -41481,7 +42715,7 @@ if (i0) { goto l68; }
 i0 = v15;
 i1 = UINT32_C(56);
 i0 = (i0 < i1);
-if (i0) { goto l71; }
+if (!i0) {
 i0 = v15;
 i1 = UINT32_C(58);
 i0 = (i0 < i1);
@@ -41489,7 +42723,7 @@ if (i0) { goto l68; }
 i0 = v15;
 i1 = UINT32_C(183);
 i0 = (i0 < i1);
-if (i0) { goto l71; }
+if (!i0) {
 i0 = v15;
 i1 = UINT32_C(186);
 i0 = (i0 < i1);
@@ -41497,11 +42731,16 @@ if (i0) { goto l68; }
 i0 = v15;
 i1 = UINT32_C(186);
 i0 = (i0 == i1);
-if (i0) { goto l71; }
+if (!i0) {
 i0 = v15;
 i1 = UINT32_C(189);
 i0 = (i0 < i1);
 if (i0) { goto l68; }
+}
+}
+}
+}
+}
 l71:;
 j0 = v1;
 j1 = UINT64_C(936);
@@ -41530,7 +42769,7 @@ i0 = v16;
 i1 = UINT32_C(1);
 i0 = i0 & i1;
 i0 = (i0 == 0);
-if (i0) { goto l73; }
+if (!i0) {
 j0 = v14;
 j1 = UINT64_C(808);
 j0 = j0 + j1;
@@ -41607,7 +42846,7 @@ j2 = v32;
 i0 = core_cmp_slices_groups_equal_i8_31_core_cmp_numbers_U8PartialEq(m, j0, j1, j2);
 i0 = (i0 == 0);
 if (i0) { goto l66; }
-l73:;
+}
 j0 = v10;
 j1 = UINT64_C(1);
 j0 = j0 + j1;
@@ -41626,25 +42865,25 @@ l66:;
 j0 = v9;
 j1 = UINT64_C(1);
 i0 = (j0 != j1);
-if (i0) { goto l74; }
+if (!i0) {
 j0 = v0;
 j1 = UINT64_C(66460);
 j0 = j0 + j1;
 p64 = read_at(j0, m, 1u);
 i0 = load8(p64 + 0);
-if (i0) { goto l74; }
+if (!i0) {
 j0 = v0;
 j1 = UINT64_C(66461);
 j0 = j0 + j1;
 p65 = read_at(j0, m, 1u);
 i0 = load8(p65 + 0);
-if (i0) { goto l74; }
+if (!i0) {
 j0 = v0;
 j1 = UINT64_C(66440);
 j0 = j0 + j1;
 p66 = read_at(j0, m, 1u);
 i0 = load8(p66 + 0);
-if (i0) { goto l74; }
+if (!i0) {
 j0 = v0;
 j1 = UINT64_C(66368);
 j0 = j0 + j1;
@@ -41653,13 +42892,13 @@ j0 = load64(p67 + 0);
 v13 = j0;
 j1 = UINT64_C(8);
 i0 = (j0 < j1);
-if (i0) { goto l74; }
+if (!i0) {
 j0 = v0;
 j1 = UINT64_C(66464);
 j0 = j0 + j1;
 p68 = read_at(j0, m, 1u);
 i0 = load8(p68 + 0);
-if (i0) { goto l74; }
+if (!i0) {
 j0 = v2;
 j1 = UINT64_C(0);
 p69 = write_at(j0 + UINT64_C(88), m, 32u);
@@ -41682,11 +42921,11 @@ i0 = load8(p70 + 0);
 v15 = i0;
 i1 = UINT32_C(59);
 i0 = (i0 == i1);
-if (i0) { goto l74; }
+if (!i0) {
 i0 = v15;
 i1 = UINT32_C(56);
 i0 = (i0 < i1);
-if (i0) { goto l75; }
+if (!i0) {
 i0 = v15;
 i1 = UINT32_C(58);
 i0 = (i0 < i1);
@@ -41694,7 +42933,7 @@ if (i0) { goto l74; }
 i0 = v15;
 i1 = UINT32_C(183);
 i0 = (i0 < i1);
-if (i0) { goto l75; }
+if (!i0) {
 i0 = v15;
 i1 = UINT32_C(186);
 i0 = (i0 < i1);
@@ -41702,12 +42941,14 @@ if (i0) { goto l74; }
 i0 = v15;
 i1 = UINT32_C(186);
 i0 = (i0 == i1);
-if (i0) { goto l75; }
+if (!i0) {
 i0 = v15;
 i1 = UINT32_C(189);
 i0 = (i0 < i1);
 if (i0) { goto l74; }
-l75:;
+}
+}
+}
 j0 = UINT64_C(1);
 v1 = j0;
 i0 = UINT32_C(0);
@@ -41757,6 +42998,13 @@ v14 = j0;
 i0 = UINT32_C(1);
 v17 = i0;
 goto l64;
+}
+}
+}
+}
+}
+}
+}
 l74:;
 j0 = UINT64_C(0);
 v13 = j0;
@@ -41769,11 +43017,11 @@ j0 = v13;
 v14 = j0;
 j1 = v9;
 i0 = (j0 < j1);
-if (i0) { goto l80; }
+if (!i0) {
 j0 = v14;
 v13 = j0;
 goto l79;
-l80:;
+}
 j0 = v10;
 v13 = j0;
 j0 = v11;
@@ -41794,15 +43042,15 @@ p72 = read_at(j1, m, 8u);
 j1 = load64(p72 + 0);
 v31 = j1;
 i0 = (j0 < j1);
-if (i0) { goto l79; }
+if (!i0) {
 j0 = v31;
 j1 = v19;
 i0 = (j0 == j1);
-if (i0) { goto l81; }
+if (!i0) {
 j0 = v14;
 v13 = j0;
 goto l79;
-l81:;
+}
 j0 = v10;
 j1 = v14;
 j2 = v1;
@@ -41814,6 +43062,7 @@ j3 = load64(p74 + 0);
 i2 = (j2 < j3);
 j0 = i2 ? j0 : j1;
 v13 = j0;
+}
 l79:;
 j0 = v1;
 j1 = UINT64_C(936);
@@ -41826,7 +43075,7 @@ j1 = j1 + j2;
 v10 = j1;
 i0 = (j0 != j1);
 if (i0) { goto l78; }
-l65:;
+}
 j0 = v13;
 j1 = v9;
 i0 = (j0 >= j1);
@@ -41850,7 +43099,7 @@ p75 = read_at(j0, m, 8u);
 j0 = load64(p75 + 0);
 j1 = UINT64_C(1);
 i0 = (j0 != j1);
-if (i0) { goto l82; }
+if (!i0) {
 j0 = v31;
 j1 = UINT64_C(832);
 j0 = j0 + j1;
@@ -41938,14 +43187,14 @@ p82 = read_at(j0, m, 8u);
 j0 = load64(p82 + 0);
 j1 = UINT64_C(2);
 i0 = (j0 < j1);
-if (i0) { goto l87; }
+if (!i0) {
 j0 = v1;
 p83 = read_at(j0, m, 1u);
 i0 = load8(p83 + 0);
 i1 = UINT32_C(2);
 i0 = (i0 == i1);
 if (i0) { goto l82; }
-l87:;
+}
 j0 = v1;
 j1 = UINT64_C(936);
 j0 = j0 + j1;
@@ -41962,6 +43211,7 @@ v17 = i0;
 i0 = UINT32_C(0);
 v15 = i0;
 goto l64;
+}
 l82:;
 j0 = v31;
 j1 = UINT64_C(904);
@@ -42010,13 +43260,13 @@ j0 = j0 + j1;
 v9 = j0;
 i0 = (j0 == 0);
 i0 = (i0 == 0);
-if (i0) { goto l89; }
+if (!i0) {
 i0 = UINT32_C(4);
 v17 = i0;
 i0 = UINT32_C(0);
 v15 = i0;
 goto l64;
-l89:;
+}
 j0 = v1;
 p88 = read_at(j0, m, 1u);
 i0 = load8(p88 + 0);
@@ -42039,7 +43289,7 @@ p89 = read_at(j0, m, 1u);
 i0 = load8(p89 + 0);
 i1 = UINT32_C(1);
 i0 = (i0 != i1);
-if (i0) { goto l90; }
+if (!i0) {
 j0 = v7;
 j1 = v0;
 j2 = UINT64_C(446312);
@@ -42057,7 +43307,7 @@ p91 = read_at(j0, m, 1u);
 i0 = load8(p91 + 0);
 i1 = UINT32_C(3);
 i0 = (i0 != i1);
-if (i0) { goto l90; }
+if (!i0) {
 j0 = v9;
 j1 = UINT64_C(16);
 j0 = j0 + j1;
@@ -42077,7 +43327,8 @@ j1 = UINT64_C(24);
 j0 = j0 + j1;
 j1 = UINT64_C(0);
 store64(p92 + 16, j1);
-l90:;
+}
+}
 j0 = v1;
 j1 = UINT64_C(0);
 p93 = write_at(j0, m, 16u);
@@ -42166,12 +43417,12 @@ i1 = (i1 == i2);
 store8(p94 + 299584, i1);
 i0 = v15;
 i0 = (i0 == 0);
-if (i0) { goto l91; }
+if (!i0) {
 j0 = v13;
 j0 = load64(p95 + 0);
 j1 = UINT64_C(780);
 i0 = (j0 != j1);
-if (i0) { goto l91; }
+if (!i0) {
 j0 = v14;
 j1 = UINT64_C(8);
 j0 = j0 + j1;
@@ -42197,26 +43448,26 @@ j0 = j0 + j1;
 j0 = load64(p94 + 233904);
 v9 = j0;
 i0 = (j0 == 0);
-if (i0) { goto l92; }
+if (!i0) {
 j0 = v9;
 j1 = UINT64_C(2);
 j0 = j0 << (j1 & 63);
 v9 = j0;
 i0 = (j0 == 0);
-if (i0) { goto l93; }
+if (!i0) {
 j0 = v0;
 j1 = UINT64_C(298776);
 j0 = j0 + j1;
 i1 = UINT32_C(0);
 j2 = v9;
 fill(m, j0, i1, j2);
-l93:;
+}
 j0 = v0;
 j1 = UINT64_C(306968);
 j0 = j0 + j1;
 j1 = UINT64_C(0);
 store64(p94 + 233904, j1);
-l92:;
+}
 j0 = v0;
 j1 = UINT64_C(282384);
 j0 = j0 + j1;
@@ -42228,46 +43479,46 @@ j0 = load64(p94 + 225704);
 v9 = j0;
 i0 = (j0 == 0);
 v15 = i0;
-if (i0) { goto l94; }
+if (!i0) {
 i0 = v15;
-if (i0) { goto l95; }
+if (!i0) {
 j0 = v14;
 i1 = UINT32_C(0);
 j2 = v9;
 fill(m, j0, i1, j2);
-l95:;
+}
 j0 = v0;
 j1 = UINT64_C(298768);
 j0 = j0 + j1;
 j1 = UINT64_C(0);
 store64(p94 + 225704, j1);
-l94:;
+}
 j0 = v0;
 j1 = UINT64_C(372512);
 j0 = j0 + j1;
 j0 = load64(p94 + 299448);
 v9 = j0;
 i0 = (j0 == 0);
-if (i0) { goto l96; }
+if (!i0) {
 j0 = v9;
 j1 = UINT64_C(2);
 j0 = j0 << (j1 & 63);
 v9 = j0;
 i0 = (j0 == 0);
-if (i0) { goto l97; }
+if (!i0) {
 j0 = v0;
 j1 = UINT64_C(306976);
 j0 = j0 + j1;
 i1 = UINT32_C(0);
 j2 = v9;
 fill(m, j0, i1, j2);
-l97:;
+}
 j0 = v0;
 j1 = UINT64_C(372512);
 j0 = j0 + j1;
 j1 = UINT64_C(0);
 store64(p94 + 299448, j1);
-l96:;
+}
 j0 = v1;
 j1 = v10;
 i0 = (j0 < j1);
@@ -42293,30 +43544,30 @@ j0 = j0 + j1;
 j0 = load64(p94 + 233904);
 v9 = j0;
 i0 = (j0 == 0);
-if (i0) { goto l98; }
+if (!i0) {
 j0 = v9;
 j1 = UINT64_C(2);
 j0 = j0 << (j1 & 63);
 v9 = j0;
 i0 = (j0 == 0);
-if (i0) { goto l99; }
+if (!i0) {
 j0 = v0;
 j1 = UINT64_C(298776);
 j0 = j0 + j1;
 i1 = UINT32_C(0);
 j2 = v9;
 fill(m, j0, i1, j2);
-l99:;
+}
 j0 = v0;
 j1 = UINT64_C(306968);
 j0 = j0 + j1;
 j1 = UINT64_C(0);
 store64(p94 + 233904, j1);
-l98:;
+}
 j0 = v1;
 j1 = v10;
 i0 = (j0 == j1);
-if (i0) { goto l100; }
+if (!i0) {
 j0 = v0;
 j1 = v10;
 j0 = j0 + j1;
@@ -42342,11 +43593,11 @@ i0 = load8(p97 + 0);
 v17 = i0;
 i1 = UINT32_C(48);
 i0 = (i0 < i1);
-if (i0) { goto l102; }
+if (!i0) {
 i0 = v17;
 i1 = UINT32_C(57);
 i0 = (i0 > i1);
-if (i0) { goto l103; }
+if (!i0) {
 i0 = v17;
 i1 = UINT32_C(4294967248);
 i0 = i0 + i1;
@@ -42354,7 +43605,7 @@ v5 = i0;
 i0 = UINT32_C(1);
 v15 = i0;
 goto l102;
-l103:;
+}
 i0 = UINT32_C(0);
 v5 = i0;
 i0 = UINT32_C(0);
@@ -42362,11 +43613,11 @@ v15 = i0;
 i0 = v17;
 i1 = UINT32_C(65);
 i0 = (i0 < i1);
-if (i0) { goto l102; }
+if (!i0) {
 i0 = v17;
 i1 = UINT32_C(70);
 i0 = (i0 > i1);
-if (i0) { goto l104; }
+if (!i0) {
 i0 = v17;
 i1 = UINT32_C(4294967241);
 i0 = i0 + i1;
@@ -42374,7 +43625,7 @@ v5 = i0;
 i0 = UINT32_C(1);
 v15 = i0;
 goto l102;
-l104:;
+}
 i0 = v17;
 i1 = UINT32_C(4294967209);
 i0 = i0 + i1;
@@ -42389,18 +43640,20 @@ i2 = (i2 < i3);
 v15 = i2;
 i0 = i2 ? i0 : i1;
 v5 = i0;
+}
+}
 l102:;
 i0 = v16;
 i1 = UINT32_C(1);
 i0 = i0 & i1;
-if (i0) { goto l106; }
+if (!i0) {
 i0 = v5;
 v35 = i0;
 goto l105;
-l106:;
+}
 i0 = v15;
 i0 = (i0 == 0);
-if (i0) { goto l109; }
+if (!i0) {
 i0 = v5;
 i1 = v35;
 i2 = UINT32_C(4);
@@ -42408,7 +43661,7 @@ i1 = i1 << (i2 & 31);
 i0 = i0 + i1;
 v35 = i0;
 goto l108;
-l109:;
+}
 i0 = v17;
 i1 = UINT32_C(32);
 i0 = i0 | i1;
@@ -42419,11 +43672,11 @@ l108:;
 j0 = v13;
 j1 = UINT64_C(16384);
 i0 = (j0 != j1);
-if (i0) { goto l110; }
+if (!i0) {
 j0 = UINT64_C(16384);
 v13 = j0;
 goto l107;
-l110:;
+}
 j0 = v14;
 j1 = v13;
 j0 = j0 + j1;
@@ -42468,7 +43721,7 @@ i1 = (j1 != j2);
 i0 = i0 & i1;
 i1 = UINT32_C(1);
 i0 = (i0 != i1);
-if (i0) { goto l111; }
+if (!i0) {
 j0 = v14;
 j1 = v19;
 j0 = j0 + j1;
@@ -42483,55 +43736,56 @@ j2 = UINT64_C(1);
 j1 = j1 + j2;
 v19 = j1;
 store64(p94 + 225704, j1);
-l111:;
+}
 j0 = v19;
 j1 = UINT64_C(16384);
 i0 = (j0 != j1);
-if (i0) { goto l100; }
+if (!i0) {
 j0 = v0;
 j1 = UINT64_C(306968);
 j0 = j0 + j1;
 j0 = load64(p94 + 233904);
 v1 = j0;
 i0 = (j0 == 0);
-if (i0) { goto l112; }
+if (!i0) {
 j0 = v1;
 j1 = UINT64_C(2);
 j0 = j0 << (j1 & 63);
 v1 = j0;
 i0 = (j0 == 0);
-if (i0) { goto l113; }
+if (!i0) {
 j0 = v0;
 j1 = UINT64_C(298776);
 j0 = j0 + j1;
 i1 = UINT32_C(0);
 j2 = v1;
 fill(m, j0, i1, j2);
-l113:;
+}
 j0 = v0;
 j1 = UINT64_C(306968);
 j0 = j0 + j1;
 j1 = UINT64_C(0);
 store64(p94 + 233904, j1);
-l112:;
+}
 j0 = v19;
 i0 = (j0 == 0);
 v15 = i0;
 if (i0) { goto l49; }
 i0 = v15;
-if (i0) { goto l114; }
+if (!i0) {
 j0 = v14;
 i1 = UINT32_C(0);
 j2 = v19;
 fill(m, j0, i1, j2);
-l114:;
+}
 j0 = v0;
 j1 = UINT64_C(298768);
 j0 = j0 + j1;
 j1 = UINT64_C(0);
 store64(p94 + 225704, j1);
 goto l49;
-l100:;
+}
+}
 j0 = v0;
 j1 = v0;
 j2 = UINT64_C(372512);
@@ -42559,7 +43813,8 @@ j2 = UINT64_C(1);
 j1 = j1 + j2;
 store64(p94 + 299448, j1);
 goto l50;
-l91:;
+}
+}
 j0 = v0;
 j1 = UINT64_C(282376);
 j0 = j0 + j1;
@@ -42580,26 +43835,26 @@ j0 = j0 + j1;
 j0 = load64(p94 + 233904);
 v1 = j0;
 i0 = (j0 == 0);
-if (i0) { goto l115; }
+if (!i0) {
 j0 = v1;
 j1 = UINT64_C(2);
 j0 = j0 << (j1 & 63);
 v1 = j0;
 i0 = (j0 == 0);
-if (i0) { goto l116; }
+if (!i0) {
 j0 = v0;
 j1 = UINT64_C(298776);
 j0 = j0 + j1;
 i1 = UINT32_C(0);
 j2 = v1;
 fill(m, j0, i1, j2);
-l116:;
+}
 j0 = v0;
 j1 = UINT64_C(306968);
 j0 = j0 + j1;
 j1 = UINT64_C(0);
 store64(p94 + 233904, j1);
-l115:;
+}
 j0 = v0;
 j1 = UINT64_C(298768);
 j0 = j0 + j1;
@@ -42607,48 +43862,48 @@ j0 = load64(p94 + 225704);
 v1 = j0;
 i0 = (j0 == 0);
 v15 = i0;
-if (i0) { goto l117; }
+if (!i0) {
 i0 = v15;
-if (i0) { goto l118; }
+if (!i0) {
 j0 = v0;
 j1 = UINT64_C(282384);
 j0 = j0 + j1;
 i1 = UINT32_C(0);
 j2 = v1;
 fill(m, j0, i1, j2);
-l118:;
+}
 j0 = v0;
 j1 = UINT64_C(298768);
 j0 = j0 + j1;
 j1 = UINT64_C(0);
 store64(p94 + 225704, j1);
-l117:;
+}
 j0 = v0;
 j1 = UINT64_C(372512);
 j0 = j0 + j1;
 j0 = load64(p94 + 299448);
 v1 = j0;
 i0 = (j0 == 0);
-if (i0) { goto l119; }
+if (!i0) {
 j0 = v1;
 j1 = UINT64_C(2);
 j0 = j0 << (j1 & 63);
 v1 = j0;
 i0 = (j0 == 0);
-if (i0) { goto l120; }
+if (!i0) {
 j0 = v0;
 j1 = UINT64_C(306976);
 j0 = j0 + j1;
 i1 = UINT32_C(0);
 j2 = v1;
 fill(m, j0, i1, j2);
-l120:;
+}
 j0 = v0;
 j1 = UINT64_C(372512);
 j0 = j0 + j1;
 j1 = UINT64_C(0);
 store64(p94 + 299448, j1);
-l119:;
+}
 j0 = v10;
 j1 = v14;
 i2 = v16;
@@ -42679,7 +43934,6 @@ j0 = v2;
 j1 = UINT64_C(4576);
 j0 = j0 + j1;
 m->g0 = j0;
-return;
 }
 static void fio_log_judge_decide_Decider_give_up(struct machine *m, uint64_t v0, uint64_t v1, uint64_t v2)
 {
@@ -42734,7 +43988,7 @@ j0 = m->g0;
 v3 = j0;
 j1 = UINT64_C(16);
 i0 = (SIGNED64(j0) < SIGNED64(j1));
-if (i0) { goto l3; }
+if (!i0) {
 j0 = v0;
 j1 = v2;
 j2 = UINT64_C(144);
@@ -42745,7 +43999,7 @@ j1 = UINT64_C(43144);
 j0 = j0 + j1;
 p1 = read_at(j0, m, 1u);
 i0 = load8(p1 + 0);
-if (i0) { goto l4; }
+if (!i0) {
 j0 = v1;
 j1 = v2;
 j2 = UINT64_C(3152);
@@ -42774,7 +44028,7 @@ p4 = read_at(j0, m, 1u);
 i0 = load8(p4 + 0);
 i1 = UINT32_C(1);
 i0 = (i0 != i1);
-if (i0) { goto l6; }
+if (!i0) {
 j0 = v5;
 j1 = UINT64_C(856);
 j0 = j0 + j1;
@@ -42851,7 +44105,7 @@ i0 = load32(p11 + 0);
 i0 = (i0 == 0);
 if (i0) { goto l5; }
 goto l2;
-l6:;
+}
 j0 = v0;
 j1 = UINT64_C(73672);
 j0 = j0 + j1;
@@ -42944,7 +44198,7 @@ i0 = load8(p19 + 0);
 i1 = UINT32_C(1);
 i0 = i0 & i1;
 i0 = (i0 == 0);
-if (i0) { goto l9; }
+if (!i0) {
 j0 = v0;
 j1 = UINT64_C(20480);
 j0 = j0 + j1;
@@ -42958,6 +44212,7 @@ j3 = UINT64_C(872);
 j2 = j2 + j3;
 i0 = fio_log_sources_Sources_is_another(m, j0, j1, j2);
 if (i0) { goto l2; }
+}
 l9:;
 j0 = v5;
 j1 = UINT64_C(922);
@@ -42966,7 +44221,7 @@ p21 = read_at(j0, m, 1u);
 i0 = load8(p21 + 0);
 i1 = UINT32_C(1);
 i0 = (i0 != i1);
-if (i0) { goto l12; }
+if (!i0) {
 j0 = v0;
 j1 = UINT64_C(34828);
 j0 = j0 + j1;
@@ -42996,7 +44251,7 @@ i1 = load8(p24 + 0);
 i2 = UINT32_C(7);
 i1 = i1 >> (i2 & 31);
 i0 = (i0 != i1);
-if (i0) { goto l13; }
+if (!i0) {
 i0 = v12;
 if (i0) { goto l12; }
 i0 = v11;
@@ -43004,14 +44259,16 @@ i1 = UINT32_C(7);
 i0 = (i0 > i1);
 if (i0) { goto l2; }
 goto l12;
-l13:;
+}
 i0 = v12;
 i1 = UINT32_C(8);
 i0 = (i0 < i1);
-if (i0) { goto l12; }
+if (!i0) {
 i0 = v11;
 i0 = (i0 == 0);
 if (i0) { goto l2; }
+}
+}
 l12:;
 j0 = UINT64_C(0);
 v4 = j0;
@@ -43069,7 +44326,7 @@ j0 = j0 + j1;
 j0 = load64(p27 + 0);
 v2 = j0;
 i0 = (j0 == 0);
-if (i0) { goto l15; }
+if (!i0) {
 j0 = v2;
 j1 = UINT64_C(66);
 j2 = v2;
@@ -43103,7 +44360,7 @@ j0 = j0 + j1;
 i0 = load8(p27 + 3544);
 i1 = UINT32_C(1);
 i0 = (i0 != i1);
-if (i0) { goto l18; }
+if (!i0) {
 j0 = v9;
 j1 = v0;
 j2 = UINT64_C(73640);
@@ -43111,7 +44368,7 @@ j1 = j1 + j2;
 j1 = load64(p27 + 3552);
 i0 = (j0 == j1);
 if (i0) { goto l17; }
-l18:;
+}
 j0 = v0;
 j1 = v1;
 j2 = v9;
@@ -43128,7 +44385,7 @@ j1 = j1 + j2;
 v2 = j1;
 i0 = (j0 != j1);
 if (i0) { goto l16; }
-l15:;
+}
 j0 = v4;
 j1 = UINT64_C(1);
 j0 = j0 + j1;
@@ -43136,11 +44393,12 @@ v4 = j0;
 j1 = UINT64_C(66);
 i0 = (j0 != j1);
 if (i0) { goto l14; }
+}
 l4:;
 j0 = v3;
 m->g0 = j0;
 return;
-l3:;
+}
 fio2070_trap();
 l2:;
 j0 = v0;
@@ -43149,7 +44407,6 @@ j2 = v2;
 fio_log_judge_decide_Decider_pass_over(m, j0, j1, j2);
 j0 = v3;
 m->g0 = j0;
-return;
 }
 static void fio_log_judge_Judge_close(struct machine *m, uint64_t v0)
 {
@@ -43318,7 +44575,7 @@ j0 = v1;
 v1 = j0;
 j1 = UINT64_C(16);
 i0 = (SIGNED64(j0) < SIGNED64(j1));
-if (i0) { goto l8; }
+if (!i0) {
 j0 = v0;
 j1 = UINT64_C(371968);
 j0 = j0 + j1;
@@ -43396,7 +44653,7 @@ i0 = UINT32_C(0);
 v10 = i0;
 i0 = v7;
 i0 = (i0 == 0);
-if (i0) { goto l12; }
+if (!i0) {
 j0 = v0;
 j1 = UINT64_C(298281);
 j0 = j0 + j1;
@@ -43407,7 +44664,7 @@ j1 = UINT64_C(298280);
 j0 = j0 + j1;
 i0 = load8(p3 + 90240);
 v9 = i0;
-l12:;
+}
 j0 = v1;
 j1 = v0;
 j2 = UINT64_C(298208);
@@ -43653,7 +44910,7 @@ i1 = UINT32_C(255);
 i0 = i0 & i1;
 i1 = UINT32_C(3);
 i0 = (i0 == i1);
-if (i0) { goto l15; }
+if (!i0) {
 j0 = v1;
 j1 = v0;
 j2 = UINT64_C(298232);
@@ -43761,7 +45018,7 @@ j0 = j0 + j1;
 j0 = load64(p3 + 90160);
 v17 = j0;
 goto l4;
-l15:;
+}
 j0 = v8;
 i0 = (j0 == 0);
 if (i0) { goto l6; }
@@ -43779,7 +45036,7 @@ i0 = load8(p3 + 24);
 v7 = i0;
 i1 = UINT32_C(59);
 i0 = (i0 == i1);
-if (i0) { goto l17; }
+if (!i0) {
 i0 = v7;
 i1 = UINT32_C(56);
 i0 = (i0 < i1);
@@ -43787,7 +45044,7 @@ if (i0) { goto l6; }
 i0 = v7;
 i1 = UINT32_C(58);
 i0 = (i0 < i1);
-if (i0) { goto l17; }
+if (!i0) {
 i0 = v7;
 i1 = UINT32_C(183);
 i0 = (i0 < i1);
@@ -43795,7 +45052,7 @@ if (i0) { goto l6; }
 i0 = v7;
 i1 = UINT32_C(186);
 i0 = (i0 < i1);
-if (i0) { goto l17; }
+if (!i0) {
 j0 = v8;
 j1 = UINT64_C(2);
 i0 = (j0 < j1);
@@ -43809,7 +45066,9 @@ i1 = UINT32_C(189);
 i0 = (i0 < i1);
 if (i0) { goto l16; }
 goto l6;
-l17:;
+}
+}
+}
 j0 = v8;
 j1 = UINT64_C(2);
 i0 = (j0 < j1);
@@ -43833,7 +45092,7 @@ j2 = UINT64_C(1);
 j1 = j1 + j2;
 v2 = j1;
 i0 = (j0 < j1);
-if (i0) { goto l19; }
+if (!i0) {
 j0 = v1;
 j1 = UINT64_C(0);
 store64(p1 + 1768, j1);
@@ -43849,7 +45108,7 @@ store64(p1 + 1744, j1);
 j0 = v8;
 j1 = v2;
 i0 = (j0 <= j1);
-if (i0) { goto l19; }
+if (!i0) {
 j0 = v12;
 j1 = v11;
 j0 = j0 + j1;
@@ -43859,11 +45118,11 @@ i0 = load8(p9 + 0);
 v7 = i0;
 i1 = UINT32_C(59);
 i0 = (i0 == i1);
-if (i0) { goto l19; }
+if (!i0) {
 i0 = v7;
 i1 = UINT32_C(56);
 i0 = (i0 < i1);
-if (i0) { goto l20; }
+if (!i0) {
 i0 = v7;
 i1 = UINT32_C(58);
 i0 = (i0 < i1);
@@ -43871,7 +45130,7 @@ if (i0) { goto l19; }
 i0 = v7;
 i1 = UINT32_C(183);
 i0 = (i0 < i1);
-if (i0) { goto l20; }
+if (!i0) {
 i0 = v7;
 i1 = UINT32_C(186);
 i0 = (i0 < i1);
@@ -43879,12 +45138,14 @@ if (i0) { goto l19; }
 i0 = v7;
 i1 = UINT32_C(186);
 i0 = (i0 == i1);
-if (i0) { goto l20; }
+if (!i0) {
 i0 = v7;
 i1 = UINT32_C(189);
 i0 = (i0 < i1);
 if (i0) { goto l19; }
-l20:;
+}
+}
+}
 j0 = v1;
 j1 = UINT64_C(1744);
 j0 = j0 + j1;
@@ -43904,6 +45165,9 @@ i0 = load8(p1 + 1744);
 i1 = UINT32_C(2);
 i0 = (i0 == i1);
 if (i0) { goto l7; }
+}
+}
+}
 l19:;
 j0 = v18;
 j1 = v2;
@@ -43916,7 +45180,7 @@ j0 = v1;
 i1 = UINT32_C(0);
 store32(p1 + 960, i1);
 goto l5;
-l8:;
+}
 fio2070_trap();
 l7:;
 j0 = v0;
@@ -43971,7 +45235,7 @@ i0 = UINT32_C(0);
 v10 = i0;
 i0 = v7;
 i0 = (i0 == 0);
-if (i0) { goto l21; }
+if (!i0) {
 j0 = v0;
 j1 = UINT64_C(298281);
 j0 = j0 + j1;
@@ -43983,7 +45247,7 @@ j1 = UINT64_C(298280);
 j0 = j0 + j1;
 i0 = load8(p13 + 0);
 v9 = i0;
-l21:;
+}
 j0 = v1;
 j1 = v0;
 j2 = UINT64_C(298232);
@@ -44106,7 +45370,7 @@ v13 = i0;
 j0 = v5;
 j1 = UINT64_C(99);
 i0 = (j0 < j1);
-if (i0) { goto l23; }
+if (!i0) {
 i0 = UINT32_C(0);
 v25 = i0;
 j0 = v1;
@@ -44183,14 +45447,14 @@ v41 = i0;
 i0 = UINT32_C(0);
 v42 = i0;
 goto l22;
-l23:;
+}
 i0 = v13;
 i1 = UINT32_C(255);
 i0 = i0 & i1;
 v14 = i0;
 i1 = UINT32_C(2);
 i0 = (i0 != i1);
-if (i0) { goto l28; }
+if (!i0) {
 j0 = v1;
 j0 = load64(p16 + 56);
 v43 = j0;
@@ -44217,10 +45481,10 @@ j0 = j0 - j1;
 v43 = j0;
 j1 = UINT64_C(773);
 i0 = (j0 > j1);
-if (i0) { goto l29; }
+if (!i0) {
 j0 = v43;
 i0 = (j0 == 0);
-if (i0) { goto l30; }
+if (!i0) {
 j0 = v1;
 j1 = UINT64_C(1744);
 j0 = j0 + j1;
@@ -44229,12 +45493,12 @@ j2 = v5;
 j1 = j1 + j2;
 j2 = v43;
 copy(m, j0, j1, j2);
-l30:;
+}
 j0 = v1;
 j1 = v43;
 p19 = write_at(j0 + UINT64_C(2520), m, 8u);
 store64(p19 + 0, j1);
-l29:;
+}
 j0 = v8;
 i0 = (j0 == 0);
 if (i0) { goto l25; }
@@ -44255,7 +45519,7 @@ if (i0) { goto l27; }
 i0 = v25;
 i1 = UINT32_C(56);
 i0 = (i0 < i1);
-if (i0) { goto l32; }
+if (!i0) {
 i0 = v29;
 i1 = UINT32_C(255);
 i0 = i0 & i1;
@@ -44266,7 +45530,7 @@ if (i0) { goto l27; }
 i0 = v25;
 i1 = UINT32_C(183);
 i0 = (i0 < i1);
-if (i0) { goto l32; }
+if (!i0) {
 i0 = v29;
 i1 = UINT32_C(255);
 i0 = i0 & i1;
@@ -44289,7 +45553,8 @@ i1 = UINT32_C(1);
 i0 = (i0 == i1);
 if (i0) { goto l31; }
 goto l27;
-l32:;
+}
+}
 i0 = v9;
 i1 = UINT32_C(255);
 i0 = i0 & i1;
@@ -44320,7 +45585,7 @@ i1 = UINT32_C(8);
 i0 = (i0 > i1);
 if (i0) { goto l25; }
 goto l26;
-l28:;
+}
 i0 = UINT32_C(0);
 v25 = i0;
 j0 = v1;
@@ -44575,18 +45840,19 @@ p24 = read_at(j0, m, 8u);
 j0 = load64(p24 + 0);
 v44 = j0;
 i0 = (j0 == 0);
-if (i0) { goto l33; }
+if (!i0) {
 j0 = v44;
 j1 = UINT64_C(96);
 j0 = j0 * j1;
 v44 = j0;
 i0 = (j0 == 0);
-if (i0) { goto l33; }
+if (!i0) {
 j0 = v5;
 i1 = UINT32_C(0);
 j2 = v44;
 fill(m, j0, i1, j2);
-l33:;
+}
+}
 j0 = v0;
 j1 = UINT64_C(371208);
 j0 = j0 + j1;
@@ -44733,7 +45999,7 @@ store64(p26 + 0, j1);
 i0 = v9;
 i1 = UINT32_C(2);
 i0 = (i0 == i1);
-if (i0) { goto l35; }
+if (!i0) {
 j0 = v1;
 j1 = v19;
 j2 = v8;
@@ -44747,7 +46013,7 @@ i1 = load16(p27 + 0);
 p28 = write_at(j0, m, 2u);
 store16(p28 + 0, i1);
 goto l34;
-l35:;
+}
 j0 = v0;
 j1 = UINT64_C(371960);
 j0 = j0 + j1;
@@ -44757,13 +46023,13 @@ store16(p29 + 0, i1);
 i0 = v10;
 i1 = UINT32_C(2);
 i0 = (i0 != i1);
-if (i0) { goto l36; }
+if (!i0) {
 i0 = v7;
 i1 = UINT32_C(255);
 i0 = i0 & i1;
 i1 = UINT32_C(10);
 i0 = (i0 > i1);
-if (i0) { goto l36; }
+if (!i0) {
 j0 = v0;
 i1 = v7;
 j1 = (uint64_t)i1;
@@ -44775,7 +46041,8 @@ j0 = j0 + j1;
 i1 = UINT32_C(1);
 p30 = write_at(j0, m, 1u);
 store8(p30 + 0, i1);
-l36:;
+}
+}
 j0 = v0;
 j1 = UINT64_C(298297);
 j0 = j0 + j1;
@@ -44783,12 +46050,12 @@ p31 = read_at(j0, m, 1u);
 i0 = load8(p31 + 0);
 i1 = UINT32_C(1);
 i0 = (i0 != i1);
-if (i0) { goto l34; }
+if (!i0) {
 i0 = v24;
 i1 = UINT32_C(1);
 i0 = i0 & i1;
 i0 = (i0 == 0);
-if (i0) { goto l34; }
+if (!i0) {
 j0 = v0;
 j1 = UINT64_C(298288);
 j0 = j0 + j1;
@@ -44969,6 +46236,8 @@ j1 = UINT64_C(8);
 j0 = j0 + j1;
 i1 = UINT32_C(1);
 store8(p42 + 8, i1);
+}
+}
 l34:;
 j0 = v0;
 j1 = v4;
@@ -44999,24 +46268,24 @@ j0 = j0 + j1;
 j0 = load64(p44 + 2744);
 v2 = j0;
 i0 = (j0 == 0);
-if (i0) { goto l42; }
+if (!i0) {
 j0 = v2;
 j1 = UINT64_C(904);
 j0 = j0 * j1;
 v2 = j0;
 i0 = (j0 == 0);
-if (i0) { goto l43; }
+if (!i0) {
 j0 = v12;
 i1 = UINT32_C(0);
 j2 = v2;
 fill(m, j0, i1, j2);
-l43:;
+}
 j0 = v8;
 j1 = UINT64_C(2744);
 j0 = j0 + j1;
 j1 = UINT64_C(0);
 store64(p44 + 2744, j1);
-l42:;
+}
 j0 = v8;
 j1 = UINT64_C(2752);
 j0 = j0 + j1;
@@ -45028,28 +46297,28 @@ p45 = read_at(j0, m, 8u);
 j0 = load64(p45 + 0);
 v2 = j0;
 i0 = (j0 == 0);
-if (i0) { goto l44; }
+if (!i0) {
 j0 = v2;
 j1 = UINT64_C(2);
 j0 = j0 << (j1 & 63);
 v2 = j0;
 i0 = (j0 == 0);
-if (i0) { goto l45; }
+if (!i0) {
 j0 = v5;
 i1 = UINT32_C(0);
 j2 = v2;
 fill(m, j0, i1, j2);
-l45:;
+}
 j0 = v8;
 j1 = UINT64_C(3144);
 j0 = j0 + j1;
 j1 = UINT64_C(0);
 p46 = write_at(j0, m, 8u);
 store64(p46 + 0, j1);
-l44:;
+}
 i0 = v14;
 i0 = (i0 == 0);
-if (i0) { goto l46; }
+if (!i0) {
 j0 = v0;
 j1 = UINT64_C(298192);
 j0 = j0 + j1;
@@ -45082,7 +46351,7 @@ j2 = UINT64_C(2);
 j1 = j1 << (j2 & 63);
 v2 = j1;
 i0 = (j0 >= j1);
-if (i0) { goto l48; }
+if (!i0) {
 j0 = v17;
 j1 = UINT64_C(3);
 j0 = j0 & j1;
@@ -45092,7 +46361,7 @@ v44 = j0;
 j0 = v17;
 j1 = UINT64_C(4);
 i0 = (j0 < j1);
-if (i0) { goto l50; }
+if (!i0) {
 j0 = v17;
 j1 = UINT64_C(2);
 j0 = j0 >> (j1 & 63);
@@ -45108,7 +46377,7 @@ j0 = j0 << (j1 & 63);
 v43 = j0;
 j0 = UINT64_C(0);
 v2 = j0;
-l51:;
+for (;;) {
 j0 = v8;
 j1 = v2;
 j0 = j0 + j1;
@@ -45139,11 +46408,12 @@ j2 = UINT64_C(16);
 j1 = j1 + j2;
 v2 = j1;
 i0 = (j0 != j1);
-if (i0) { goto l51; }
+if (!i0) break;
+}
 j0 = v5;
 i0 = (j0 == 0);
 if (i0) { goto l49; }
-l50:;
+}
 j0 = v44;
 j1 = UINT64_C(2);
 j0 = j0 << (j1 & 63);
@@ -45153,7 +46423,7 @@ j1 = UINT64_C(232656);
 j0 = j0 + j1;
 v2 = j0;
 p51 = read_at(v2 + UINT64_C(0), m, run(4u, 4u, turns(v5, UINT64_C(0), 1u)));
-l52:;
+for (;;) {
 j0 = v2;
 j1 = v11;
 j0 = j0 + j1;
@@ -45173,7 +46443,9 @@ j0 = j0 + j1;
 v5 = j0;
 j1 = UINT64_C(0);
 i0 = (j0 != j1);
-if (i0) { p51 += 4; goto l52; }
+if (!i0) break;
+p51 += 4;
+}
 l49:;
 j0 = v8;
 j1 = UINT64_C(3144);
@@ -45190,17 +46462,17 @@ j1 = UINT64_C(3);
 i0 = (j0 == j1);
 if (i0) { goto l3; }
 goto l47;
-l48:;
+}
 j0 = v2;
 i0 = (j0 == 0);
-if (i0) { goto l53; }
+if (!i0) {
 j0 = v5;
 j1 = v0;
 j2 = UINT64_C(232656);
 j1 = j1 + j2;
 j2 = v2;
 copy(m, j0, j1, j2);
-l53:;
+}
 j0 = v8;
 j1 = UINT64_C(3144);
 j0 = j0 + j1;
@@ -45325,14 +46597,14 @@ j2 = UINT64_C(1);
 j1 = j1 + j2;
 store64(p44 + 2744, j1);
 goto l3;
-l46:;
+}
 i0 = v6;
 i1 = UINT32_C(255);
 i0 = i0 & i1;
 i0 = (i0 == 0);
 i1 = v14;
 i0 = i0 | i1;
-if (i0) { goto l3; }
+if (!i0) {
 i0 = UINT32_C(0);
 v10 = i0;
 j0 = v1;
@@ -45350,7 +46622,7 @@ i0 = load8(p58 + 0);
 v6 = i0;
 i1 = UINT32_C(3);
 i0 = (i0 == i1);
-if (i0) { goto l55; }
+if (!i0) {
 j0 = v1;
 j1 = v0;
 j2 = UINT64_C(298232);
@@ -45459,7 +46731,7 @@ j0 = j0 + j1;
 j0 = load64(p59 + 72);
 v37 = j0;
 goto l54;
-l55:;
+}
 j0 = v0;
 j1 = UINT64_C(298264);
 j0 = j0 + j1;
@@ -45472,7 +46744,7 @@ i0 = UINT32_C(0);
 v14 = i0;
 i0 = v13;
 i0 = (i0 == 0);
-if (i0) { goto l56; }
+if (!i0) {
 j0 = v0;
 j1 = UINT64_C(298281);
 j0 = j0 + j1;
@@ -45484,7 +46756,7 @@ j1 = UINT64_C(298280);
 j0 = j0 + j1;
 i0 = load8(p61 + 0);
 v10 = i0;
-l56:;
+}
 j0 = v1;
 j1 = v0;
 j2 = UINT64_C(298232);
@@ -45640,7 +46912,7 @@ v20 = i0;
 i0 = v6;
 i1 = UINT32_C(1);
 i0 = (i0 != i1);
-if (i0) { goto l57; }
+if (!i0) {
 j0 = v0;
 j1 = UINT64_C(298192);
 j0 = j0 + j1;
@@ -45649,7 +46921,7 @@ j0 = load64(p64 + 0);
 j1 = UINT64_C(1);
 i0 = (j0 > j1);
 v20 = i0;
-l57:;
+}
 j0 = v0;
 j1 = UINT64_C(224456);
 j0 = j0 + j1;
@@ -45661,25 +46933,25 @@ p65 = read_at(j0, m, 8u);
 j0 = load64(p65 + 0);
 v2 = j0;
 i0 = (j0 == 0);
-if (i0) { goto l58; }
+if (!i0) {
 j0 = v2;
 j1 = UINT64_C(2);
 j0 = j0 << (j1 & 63);
 v2 = j0;
 i0 = (j0 == 0);
-if (i0) { goto l59; }
+if (!i0) {
 j0 = v45;
 i1 = UINT32_C(0);
 j2 = v2;
 fill(m, j0, i1, j2);
-l59:;
+}
 j0 = v0;
 j1 = UINT64_C(232648);
 j0 = j0 + j1;
 j1 = UINT64_C(0);
 p66 = write_at(j0, m, 8u);
 store64(p66 + 0, j1);
-l58:;
+}
 j0 = v0;
 j1 = UINT64_C(224448);
 j0 = j0 + j1;
@@ -45687,7 +46959,7 @@ p67 = read_at(j0, m, 8u);
 j0 = load64(p67 + 0);
 v17 = j0;
 i0 = (j0 == 0);
-if (i0) { goto l3; }
+if (!i0) {
 j0 = v1;
 j1 = UINT64_C(1776);
 j0 = j0 + j1;
@@ -45712,7 +46984,7 @@ i0 = load8(p68 + 0);
 v7 = i0;
 i1 = UINT32_C(126);
 i0 = (i0 == i1);
-if (i0) { goto l71; }
+if (!i0) {
 j0 = v1;
 j1 = UINT64_C(0);
 store64(p16 + 120, j1);
@@ -45732,7 +47004,7 @@ if (i0) { goto l60; }
 i0 = v7;
 i1 = UINT32_C(56);
 i0 = (i0 < i1);
-if (i0) { goto l72; }
+if (!i0) {
 i0 = v7;
 i1 = UINT32_C(58);
 i0 = (i0 < i1);
@@ -45740,7 +47012,7 @@ if (i0) { goto l60; }
 i0 = v7;
 i1 = UINT32_C(183);
 i0 = (i0 < i1);
-if (i0) { goto l72; }
+if (!i0) {
 i0 = v7;
 i1 = UINT32_C(186);
 i0 = (i0 < i1);
@@ -45748,12 +47020,14 @@ if (i0) { goto l60; }
 i0 = v7;
 i1 = UINT32_C(186);
 i0 = (i0 == i1);
-if (i0) { goto l72; }
+if (!i0) {
 i0 = v7;
 i1 = UINT32_C(189);
 i0 = (i0 < i1);
 if (i0) { goto l60; }
-l72:;
+}
+}
+}
 j0 = v17;
 j1 = v11;
 j0 = j0 - j1;
@@ -45843,11 +47117,11 @@ if (i0) { goto l60; }
 i0 = v7;
 i1 = UINT32_C(182);
 i0 = (i0 != i1);
-if (i0) { goto l75; }
+if (!i0) {
 i0 = UINT32_C(1);
 v6 = i0;
 goto l69;
-l75:;
+}
 i0 = v7;
 i1 = UINT32_C(51);
 i0 = (i0 != i1);
@@ -45857,7 +47131,7 @@ j1 = UINT64_C(2);
 i0 = (j0 > j1);
 v6 = i0;
 goto l69;
-l71:;
+}
 j0 = UINT64_C(0);
 v2 = j0;
 j0 = v1;
@@ -45892,7 +47166,7 @@ i3 = (j3 < j4);
 j1 = i3 ? j1 : j2;
 v18 = j1;
 i0 = (j0 >= j1);
-if (i0) { goto l76; }
+if (!i0) {
 j0 = v47;
 j1 = v11;
 j0 = j0 + j1;
@@ -45920,7 +47194,7 @@ p70 = read_at(j0, m, 1u);
 i0 = load8(p70 + 0);
 i1 = UINT32_C(126);
 i0 = (i0 != i1);
-if (i0) { goto l78; }
+if (!i0) {
 j0 = v1;
 j1 = UINT64_C(2528);
 j0 = j0 + j1;
@@ -45933,18 +47207,18 @@ j0 = v1;
 i0 = load8(p57 + 0);
 i1 = UINT32_C(2);
 i0 = (i0 != i1);
-if (i0) { goto l78; }
+if (!i0) {
 j0 = v1;
 j0 = load64(p69 + 8);
 j1 = UINT64_C(2);
 i0 = (j0 != j1);
-if (i0) { goto l78; }
+if (!i0) {
 j0 = v1;
 i0 = load8(p69 + 24);
 i1 = UINT32_C(1);
 i0 = i0 & i1;
 i0 = (i0 == 0);
-if (i0) { goto l78; }
+if (!i0) {
 j0 = v1;
 j0 = load64(p69 + 16);
 v12 = j0;
@@ -45966,11 +47240,11 @@ j0 = j0 + j1;
 v12 = j0;
 j1 = v11;
 i0 = (j0 < j1);
-if (i0) { goto l78; }
+if (!i0) {
 j0 = v17;
 j1 = v12;
 i0 = (j0 < j1);
-if (i0) { goto l78; }
+if (!i0) {
 j0 = v1;
 j1 = UINT64_C(960);
 j0 = j0 + j1;
@@ -45984,14 +47258,20 @@ j1 = v11;
 j0 = j0 | j1;
 j1 = UINT64_C(65535);
 i0 = (j0 > j1);
-if (i0) { goto l78; }
+if (!i0) {
 j0 = v1;
 i0 = load8(p16 + 96);
 i1 = UINT32_C(255);
 i0 = i0 & i1;
 i0 = (i0 == 0);
 if (i0) { goto l68; }
-l78:;
+}
+}
+}
+}
+}
+}
+}
 j0 = v18;
 j1 = v2;
 j2 = UINT64_C(1);
@@ -46001,7 +47281,7 @@ j0 = j0 + j1;
 i0 = (j0 == 0);
 i0 = (i0 == 0);
 if (i0) { goto l77; }
-l76:;
+}
 i0 = UINT32_C(0);
 v6 = i0;
 j0 = v44;
@@ -46117,7 +47397,7 @@ if (i0) { goto l63; }
 i0 = v7;
 i1 = UINT32_C(56);
 i0 = (i0 < i1);
-if (i0) { goto l80; }
+if (!i0) {
 i0 = v20;
 i1 = UINT32_C(255);
 i0 = i0 & i1;
@@ -46128,7 +47408,7 @@ if (i0) { goto l63; }
 i0 = v7;
 i1 = UINT32_C(183);
 i0 = (i0 < i1);
-if (i0) { goto l80; }
+if (!i0) {
 i0 = v20;
 i1 = UINT32_C(255);
 i0 = i0 & i1;
@@ -46151,7 +47431,8 @@ i1 = UINT32_C(1);
 i0 = (i0 == i1);
 if (i0) { goto l79; }
 goto l63;
-l80:;
+}
+}
 i0 = v10;
 i1 = UINT32_C(255);
 i0 = i0 & i1;
@@ -46297,20 +47578,22 @@ i0 = load8(p80 + 0);
 i1 = UINT32_C(1);
 i0 = i0 & i1;
 i0 = (i0 == 0);
-if (i0) { goto l81; }
+if (!i0) {
 j0 = v0;
 j1 = UINT64_C(318816);
 j0 = j0 + j1;
 j1 = v28;
 j2 = v46;
 i0 = fio_log_sources_Sources_is_another(m, j0, j1, j2);
-if (i0) { goto l81; }
+if (!i0) {
 j0 = v3;
 j1 = v1;
 j2 = UINT64_C(1744);
 j1 = j1 + j2;
 i0 = fio_log_judge_shapes_Shapes_is_mostly_good(m, j0, j1);
 v10 = i0;
+}
+}
 l81:;
 i0 = v6;
 i1 = UINT32_C(1);
@@ -46326,14 +47609,14 @@ v6 = i0;
 i0 = v10;
 i1 = UINT32_C(1);
 i0 = i0 & i1;
-if (i0) { goto l84; }
+if (!i0) {
 i0 = v7;
-if (i0) { goto l84; }
+if (!i0) {
 i0 = v15;
 i1 = UINT32_C(1);
 i0 = i0 & i1;
 i0 = (i0 == 0);
-if (i0) { goto l85; }
+if (!i0) {
 j0 = UINT64_C(0);
 v5 = j0;
 l87:;
@@ -46406,18 +47689,18 @@ i1 = (i1 == 0);
 i0 = i0 & i1;
 v6 = i0;
 goto l84;
-l85:;
+}
 j0 = v0;
 j1 = UINT64_C(372008);
 j0 = j0 + j1;
 p86 = read_at(j0, m, 1u);
 i0 = load8(p86 + 0);
 i0 = (i0 == 0);
-if (i0) { goto l88; }
+if (!i0) {
 i0 = UINT32_C(0);
 v6 = i0;
 goto l84;
-l88:;
+}
 j0 = v0;
 j1 = UINT64_C(333168);
 j0 = j0 + j1;
@@ -46426,6 +47709,8 @@ i0 = load8(p87 + 0);
 i1 = UINT32_C(1);
 i0 = i0 ^ i1;
 v6 = i0;
+}
+}
 l84:;
 j0 = v0;
 j1 = UINT64_C(368432);
@@ -46453,30 +47738,30 @@ j0 = j0 + j1;
 j0 = load64(p88 + 2728);
 v2 = j0;
 i0 = (j0 == 0);
-if (i0) { goto l89; }
+if (!i0) {
 j0 = v2;
 j1 = UINT64_C(904);
 j0 = j0 * j1;
 v2 = j0;
 i0 = (j0 == 0);
-if (i0) { goto l90; }
+if (!i0) {
 j0 = v0;
 j1 = UINT64_C(368448);
 j0 = j0 + j1;
 i1 = UINT32_C(0);
 j2 = v2;
 fill(m, j0, i1, j2);
-l90:;
+}
 j0 = v0;
 j1 = UINT64_C(371160);
 j0 = j0 + j1;
 j1 = UINT64_C(0);
 store64(p88 + 2728, j1);
-l89:;
+}
 i0 = v6;
 i1 = UINT32_C(1);
 i0 = i0 & i1;
-if (i0) { goto l91; }
+if (!i0) {
 j0 = v0;
 j1 = v4;
 j2 = UINT64_C(144);
@@ -46504,7 +47789,7 @@ j0 = j0 + j1;
 j1 = UINT64_C(0);
 store64(p89 + 16, j1);
 goto l2;
-l91:;
+}
 j0 = v0;
 j1 = UINT64_C(372000);
 j0 = j0 + j1;
@@ -46524,7 +47809,7 @@ i0 = v9;
 i1 = UINT32_C(1);
 i0 = i0 & i1;
 i0 = (i0 == 0);
-if (i0) { goto l92; }
+if (!i0) {
 j0 = v0;
 j1 = UINT64_C(372009);
 j0 = j0 + j1;
@@ -46539,7 +47824,7 @@ p91 = write_at(j2, m, 1u);
 i2 = load8(p91 + 0);
 i1 = i1 | i2;
 store8(p91 + 0, i1);
-l92:;
+}
 j0 = UINT64_C(0);
 v5 = j0;
 j0 = v0;
@@ -46602,7 +47887,7 @@ i1 = UINT32_C(0);
 store8(p93 + 3585, i1);
 j0 = v2;
 i0 = (j0 == 0);
-if (i0) { goto l95; }
+if (!i0) {
 j0 = v2;
 j1 = UINT64_C(66);
 j2 = v2;
@@ -46636,7 +47921,7 @@ j0 = j0 + j1;
 i0 = load8(p93 + 3544);
 i1 = UINT32_C(1);
 i0 = (i0 != i1);
-if (i0) { goto l98; }
+if (!i0) {
 j0 = v8;
 j1 = v0;
 j2 = UINT64_C(371976);
@@ -46644,7 +47929,7 @@ j1 = j1 + j2;
 j1 = load64(p93 + 3552);
 i0 = (j0 == j1);
 if (i0) { goto l97; }
-l98:;
+}
 j0 = v3;
 j1 = v0;
 j2 = v8;
@@ -46661,7 +47946,7 @@ j1 = j1 + j2;
 v2 = j1;
 i0 = (j0 != j1);
 if (i0) { goto l96; }
-l95:;
+}
 j0 = v5;
 j1 = UINT64_C(1);
 j0 = j0 + j1;
@@ -46711,7 +47996,7 @@ j0 = j0 + j1;
 i0 = load8(p93 + 3544);
 i1 = UINT32_C(1);
 i0 = (i0 != i1);
-if (i0) { goto l101; }
+if (!i0) {
 j0 = v8;
 j1 = v0;
 j2 = UINT64_C(371976);
@@ -46719,7 +48004,7 @@ j1 = j1 + j2;
 j1 = load64(p93 + 3552);
 i0 = (j0 == j1);
 if (i0) { goto l100; }
-l101:;
+}
 j0 = v3;
 j1 = v0;
 j2 = v8;
@@ -46736,24 +48021,27 @@ goto l99;
 l60:;
 j0 = v26;
 i0 = (j0 == 0);
-if (i0) { goto l3; }
+if (!i0) {
 j0 = v26;
 j1 = UINT64_C(2);
 j0 = j0 << (j1 & 63);
 v2 = j0;
 i0 = (j0 == 0);
-if (i0) { goto l102; }
+if (!i0) {
 j0 = v45;
 i1 = UINT32_C(0);
 j2 = v2;
 fill(m, j0, i1, j2);
-l102:;
+}
 j0 = v0;
 j1 = UINT64_C(232648);
 j0 = j0 + j1;
 j1 = UINT64_C(0);
 p96 = write_at(j0, m, 8u);
 store64(p96 + 0, j1);
+}
+}
+}
 l3:;
 j0 = v3;
 j1 = v0;
@@ -46764,7 +48052,6 @@ j0 = v1;
 j1 = UINT64_C(2560);
 j0 = j0 + j1;
 m->g0 = j0;
-return;
 }
 static uint32_t fio_log_patterns_Patterns_read(struct machine *m, uint64_t v0, uint64_t v1, uint64_t v2, uint64_t v3, uint64_t v4, uint64_t v5)
 {
@@ -46794,7 +48081,7 @@ uint64_t j3;
 uint64_t j4;
 uint64_t j5;
 uint64_t j6;
-uint32_t r;
+uint32_t r = 0;
 uint8_t *p1;
 uint8_t *p2;
 uint8_t *p3;
@@ -46813,7 +48100,7 @@ j0 = v6;
 v6 = j0;
 j1 = UINT64_C(16);
 i0 = (SIGNED64(j0) < SIGNED64(j1));
-if (i0) { goto l2; }
+if (!i0) {
 j0 = v0;
 j1 = UINT64_C(1216);
 j0 = j0 + j1;
@@ -46822,11 +48109,11 @@ j0 = load64(p2 + 0);
 v7 = j0;
 i0 = (j0 == 0);
 i0 = (i0 == 0);
-if (i0) { goto l4; }
+if (!i0) {
 i0 = UINT32_C(0);
 v8 = i0;
 goto l3;
-l4:;
+}
 l6:;
 j0 = v6;
 j1 = UINT64_C(0);
@@ -46858,7 +48145,7 @@ v9 = i1;
 i0 = i0 ^ i1;
 i1 = UINT32_C(1);
 i0 = i0 & i1;
-if (i0) { goto l7; }
+if (!i0) {
 j0 = v6;
 j1 = UINT64_C(40);
 j0 = j0 + j1;
@@ -46882,12 +48169,12 @@ i0 = load8(p1 + 40);
 v11 = i0;
 i1 = UINT32_C(1);
 i0 = (i0 != i1);
-if (i0) { goto l9; }
+if (!i0) {
 i0 = v9;
 i1 = UINT32_C(1);
 i0 = i0 & i1;
 i0 = (i0 == 0);
-if (i0) { goto l9; }
+if (!i0) {
 j0 = v10;
 j1 = v3;
 i0 = (j0 != j1);
@@ -46916,7 +48203,8 @@ j0 = v6;
 j0 = load64(p1 + 32);
 v10 = j0;
 goto l8;
-l9:;
+}
+}
 i0 = v11;
 i1 = UINT32_C(1);
 i0 = (i0 != i1);
@@ -46945,7 +48233,7 @@ j0 = v6;
 i0 = load8(p1 + 8);
 i1 = UINT32_C(1);
 i0 = (i0 != i1);
-if (i0) { goto l7; }
+if (!i0) {
 j0 = v6;
 j0 = load64(p1 + 16);
 v12 = j0;
@@ -46963,7 +48251,7 @@ j0 = v6;
 i0 = load8(p1 + 888);
 i1 = UINT32_C(2);
 i0 = (i0 != i1);
-if (i0) { goto l7; }
+if (!i0) {
 j0 = v13;
 j1 = UINT64_C(2);
 i0 = (j0 < j1);
@@ -46973,7 +48261,7 @@ i0 = load8(p1 + 920);
 v9 = i0;
 i1 = UINT32_C(59);
 i0 = (i0 == i1);
-if (i0) { goto l7; }
+if (!i0) {
 i0 = v9;
 i1 = UINT32_C(56);
 i0 = (i0 < i1);
@@ -46981,7 +48269,7 @@ if (i0) { goto l5; }
 i0 = v9;
 i1 = UINT32_C(58);
 i0 = (i0 < i1);
-if (i0) { goto l7; }
+if (!i0) {
 i0 = v9;
 i1 = UINT32_C(183);
 i0 = (i0 < i1);
@@ -46989,7 +48277,7 @@ if (i0) { goto l5; }
 i0 = v9;
 i1 = UINT32_C(186);
 i0 = (i0 < i1);
-if (i0) { goto l7; }
+if (!i0) {
 i0 = v9;
 i1 = UINT32_C(186);
 i0 = (i0 == i1);
@@ -46998,6 +48286,12 @@ i0 = v9;
 i1 = UINT32_C(189);
 i0 = (i0 >= i1);
 if (i0) { goto l5; }
+}
+}
+}
+}
+}
+}
 l7:;
 j0 = v0;
 j1 = UINT64_C(304);
@@ -47219,7 +48513,7 @@ m->g0 = j0;
 i0 = v8;
 r = i0;
 return r;
-l2:;
+}
 fio2070_trap();
 return r;
 }
@@ -47337,10 +48631,10 @@ j0 = m->g0;
 v3 = j0;
 j1 = UINT64_C(16);
 i0 = (SIGNED64(j0) < SIGNED64(j1));
-if (i0) { goto l2; }
+if (!i0) {
 j0 = v2;
 i0 = (j0 == 0);
-if (i0) { goto l3; }
+if (!i0) {
 j0 = v2;
 j1 = UINT64_C(200);
 j2 = v2;
@@ -47372,7 +48666,7 @@ i0 = v8;
 i1 = UINT32_C(1);
 i0 = i0 & i1;
 i0 = (i0 == 0);
-if (i0) { goto l5; }
+if (!i0) {
 i0 = v10;
 i1 = UINT32_C(4294967248);
 i0 = i0 + i1;
@@ -47381,7 +48675,7 @@ i1 = UINT32_C(255);
 i0 = i0 & i1;
 i1 = UINT32_C(9);
 i0 = (i0 > i1);
-if (i0) { goto l7; }
+if (!i0) {
 j0 = UINT64_C(0);
 v12 = j0;
 l9:;
@@ -47396,13 +48690,13 @@ i1 = UINT32_C(255);
 i0 = i0 & i1;
 i1 = UINT32_C(10);
 i0 = (i0 < i1);
-if (i0) { goto l10; }
+if (!i0) {
 j0 = v7;
 j1 = v12;
 j0 = j0 + j1;
 v13 = j0;
 goto l8;
-l10:;
+}
 j0 = v12;
 j1 = UINT64_C(1);
 j0 = j0 + j1;
@@ -47424,7 +48718,7 @@ j0 = j0 + j1;
 v12 = j0;
 j1 = UINT64_C(3);
 i0 = (j0 > j1);
-if (i0) { goto l11; }
+if (!i0) {
 j0 = v12;
 i0 = (uint32_t)j0;
 switch (i0) {
@@ -47438,6 +48732,7 @@ case 3:
 goto l6;
 default:
 goto l6;
+}
 }
 l11:;
 j0 = v13;
@@ -47462,7 +48757,7 @@ j1 = UINT64_C(0);
 i0 = (j0 == j1);
 if (i0) { goto l5; }
 goto l6;
-l7:;
+}
 i0 = v10;
 i1 = UINT32_C(32);
 i0 = i0 + i1;
@@ -47483,14 +48778,14 @@ i0 = i0 + i1;
 v8 = i0;
 i1 = UINT32_C(18);
 i0 = (i0 > i1);
-if (i0) { goto l12; }
+if (!i0) {
 i0 = UINT32_C(1);
 i1 = v8;
 i0 = i0 << (i1 & 31);
 i1 = UINT32_C(262697);
 i0 = i0 & i1;
 if (i0) { goto l6; }
-l12:;
+}
 i0 = v14;
 i1 = UINT32_C(4294967187);
 i0 = i0 + i1;
@@ -47531,7 +48826,7 @@ p4 = read_at(j0, m, 8u);
 j0 = load64(p4 + 0);
 v20 = j0;
 i0 = (j0 == 0);
-if (i0) { goto l18; }
+if (!i0) {
 j0 = v12;
 j1 = UINT64_C(66080);
 j0 = j0 + j1;
@@ -47551,7 +48846,7 @@ i1 = UINT32_C(230);
 i0 = (i0 >= i1);
 if (i0) { goto l16; }
 goto l14;
-l18:;
+}
 i0 = v18;
 i1 = UINT32_C(255);
 i0 = i0 & i1;
@@ -47585,15 +48880,15 @@ if (i0) { goto l14; }
 j0 = v20;
 j1 = UINT64_C(1);
 i0 = (j0 == j1);
-if (i0) { goto l16; }
+if (!i0) {
 i0 = v8;
 i1 = UINT32_C(89);
 i0 = (i0 != i1);
-if (i0) { goto l16; }
+if (!i0) {
 j0 = v17;
 j1 = UINT64_C(19);
 i0 = (j0 < j1);
-if (i0) { goto l16; }
+if (!i0) {
 j0 = v21;
 p7 = read_at(j0 + UINT64_C(1), m, 1u);
 i0 = load8(p7 + 0);
@@ -47601,37 +48896,37 @@ i1 = UINT32_C(255);
 i0 = i0 & i1;
 i1 = UINT32_C(45);
 i0 = (i0 != i1);
-if (i0) { goto l16; }
+if (!i0) {
 j0 = v9;
 p8 = read_at(j0 + UINT64_C(4), m, 1u);
 i0 = load8(p8 + 0);
 i1 = UINT32_C(45);
 i0 = (i0 != i1);
-if (i0) { goto l16; }
+if (!i0) {
 j0 = v9;
 p9 = read_at(j0 + UINT64_C(7), m, 1u);
 i0 = load8(p9 + 0);
 i1 = UINT32_C(45);
 i0 = (i0 != i1);
-if (i0) { goto l16; }
+if (!i0) {
 j0 = v9;
 p10 = read_at(j0 + UINT64_C(13), m, 1u);
 i0 = load8(p10 + 0);
 i1 = UINT32_C(58);
 i0 = (i0 != i1);
-if (i0) { goto l16; }
+if (!i0) {
 j0 = v9;
 p11 = read_at(j0 + UINT64_C(16), m, 1u);
 i0 = load8(p11 + 0);
 i1 = UINT32_C(58);
 i0 = (i0 != i1);
-if (i0) { goto l16; }
+if (!i0) {
 i0 = v11;
 i1 = UINT32_C(255);
 i0 = i0 & i1;
 i1 = UINT32_C(9);
 i0 = (i0 > i1);
-if (i0) { goto l16; }
+if (!i0) {
 j0 = v9;
 p12 = read_at(j0 + UINT64_C(1), m, 1u);
 i0 = load8(p12 + 0);
@@ -47642,7 +48937,7 @@ i1 = UINT32_C(255);
 i0 = i0 & i1;
 i1 = UINT32_C(9);
 i0 = (i0 > i1);
-if (i0) { goto l16; }
+if (!i0) {
 j0 = v9;
 p13 = read_at(j0 + UINT64_C(2), m, 1u);
 i0 = load8(p13 + 0);
@@ -47653,7 +48948,7 @@ i1 = UINT32_C(255);
 i0 = i0 & i1;
 i1 = UINT32_C(9);
 i0 = (i0 > i1);
-if (i0) { goto l16; }
+if (!i0) {
 j0 = v9;
 p14 = read_at(j0 + UINT64_C(3), m, 1u);
 i0 = load8(p14 + 0);
@@ -47664,7 +48959,7 @@ i1 = UINT32_C(255);
 i0 = i0 & i1;
 i1 = UINT32_C(9);
 i0 = (i0 > i1);
-if (i0) { goto l16; }
+if (!i0) {
 j0 = v9;
 p15 = read_at(j0 + UINT64_C(5), m, 1u);
 i0 = load8(p15 + 0);
@@ -47675,7 +48970,7 @@ i1 = UINT32_C(255);
 i0 = i0 & i1;
 i1 = UINT32_C(9);
 i0 = (i0 > i1);
-if (i0) { goto l16; }
+if (!i0) {
 j0 = v9;
 p16 = read_at(j0 + UINT64_C(6), m, 1u);
 i0 = load8(p16 + 0);
@@ -47686,7 +48981,7 @@ i1 = UINT32_C(255);
 i0 = i0 & i1;
 i1 = UINT32_C(9);
 i0 = (i0 > i1);
-if (i0) { goto l16; }
+if (!i0) {
 j0 = v9;
 p17 = read_at(j0 + UINT64_C(8), m, 1u);
 i0 = load8(p17 + 0);
@@ -47697,7 +48992,7 @@ i1 = UINT32_C(255);
 i0 = i0 & i1;
 i1 = UINT32_C(9);
 i0 = (i0 > i1);
-if (i0) { goto l16; }
+if (!i0) {
 j0 = v9;
 p18 = read_at(j0 + UINT64_C(9), m, 1u);
 i0 = load8(p18 + 0);
@@ -47708,7 +49003,7 @@ i1 = UINT32_C(255);
 i0 = i0 & i1;
 i1 = UINT32_C(9);
 i0 = (i0 > i1);
-if (i0) { goto l16; }
+if (!i0) {
 j0 = v9;
 p19 = read_at(j0 + UINT64_C(11), m, 1u);
 i0 = load8(p19 + 0);
@@ -47719,7 +49014,7 @@ i1 = UINT32_C(255);
 i0 = i0 & i1;
 i1 = UINT32_C(9);
 i0 = (i0 > i1);
-if (i0) { goto l16; }
+if (!i0) {
 j0 = v9;
 p20 = read_at(j0 + UINT64_C(12), m, 1u);
 i0 = load8(p20 + 0);
@@ -47730,7 +49025,7 @@ i1 = UINT32_C(255);
 i0 = i0 & i1;
 i1 = UINT32_C(9);
 i0 = (i0 > i1);
-if (i0) { goto l16; }
+if (!i0) {
 j0 = v9;
 p21 = read_at(j0 + UINT64_C(14), m, 1u);
 i0 = load8(p21 + 0);
@@ -47741,7 +49036,7 @@ i1 = UINT32_C(255);
 i0 = i0 & i1;
 i1 = UINT32_C(9);
 i0 = (i0 > i1);
-if (i0) { goto l16; }
+if (!i0) {
 j0 = v9;
 p22 = read_at(j0 + UINT64_C(15), m, 1u);
 i0 = load8(p22 + 0);
@@ -47752,7 +49047,7 @@ i1 = UINT32_C(255);
 i0 = i0 & i1;
 i1 = UINT32_C(9);
 i0 = (i0 > i1);
-if (i0) { goto l16; }
+if (!i0) {
 j0 = v9;
 p23 = read_at(j0 + UINT64_C(17), m, 1u);
 i0 = load8(p23 + 0);
@@ -47763,7 +49058,7 @@ i1 = UINT32_C(255);
 i0 = i0 & i1;
 i1 = UINT32_C(9);
 i0 = (i0 > i1);
-if (i0) { goto l16; }
+if (!i0) {
 j0 = v9;
 p24 = read_at(j0 + UINT64_C(18), m, 1u);
 i0 = load8(p24 + 0);
@@ -47774,13 +49069,13 @@ i1 = UINT32_C(255);
 i0 = i0 & i1;
 i1 = UINT32_C(9);
 i0 = (i0 > i1);
-if (i0) { goto l16; }
+if (!i0) {
 j0 = v9;
 p25 = read_at(j0 + UINT64_C(10), m, 1u);
 i0 = load8(p25 + 0);
 i0 = fio_log_clock_is_gap(m, i0);
 i0 = (i0 == 0);
-if (i0) { goto l16; }
+if (!i0) {
 i0 = v30;
 i1 = UINT32_C(10);
 i0 = i0 * i1;
@@ -47849,6 +49144,29 @@ v28 = j0;
 j0 = v15;
 v13 = j0;
 goto l15;
+}
+}
+}
+}
+}
+}
+}
+}
+}
+}
+}
+}
+}
+}
+}
+}
+}
+}
+}
+}
+}
+}
+}
 l16:;
 j0 = UINT64_C(0);
 v22 = j0;
@@ -47985,7 +49303,7 @@ v13 = j0;
 j0 = v2;
 j1 = v40;
 i0 = (j0 <= j1);
-if (i0) { goto l28; }
+if (!i0) {
 j0 = v40;
 v13 = j0;
 l29:;
@@ -47997,7 +49315,7 @@ i0 = load8(p27 + 0);
 v8 = i0;
 i1 = UINT32_C(59);
 i0 = (i0 > i1);
-if (i0) { goto l31; }
+if (!i0) {
 j0 = UINT64_C(1);
 i1 = v8;
 j1 = (uint64_t)i1;
@@ -48007,7 +49325,7 @@ j0 = j0 & j1;
 j1 = UINT64_C(0);
 i0 = (j0 != j1);
 if (i0) { goto l30; }
-l31:;
+}
 i0 = v8;
 i1 = UINT32_C(4294967212);
 i0 = i0 + i1;
@@ -48056,6 +49374,7 @@ i0 = (j0 != j1);
 if (i0) { goto l29; }
 j0 = v2;
 v13 = j0;
+}
 l28:;
 j0 = v40;
 j1 = v13;
@@ -48072,14 +49391,14 @@ v8 = i0;
 j0 = v2;
 j1 = v40;
 i0 = (j0 <= j1);
-if (i0) { goto l33; }
+if (!i0) {
 j0 = v1;
 j1 = v40;
 j0 = j0 + j1;
 p28 = read_at(j0, m, 1u);
 i0 = load8(p28 + 0);
 v8 = i0;
-l33:;
+}
 i0 = v8;
 i1 = UINT32_C(255);
 i0 = i0 & i1;
@@ -48113,7 +49432,7 @@ j0 = v2;
 j1 = v40;
 i0 = (j0 <= j1);
 v29 = i0;
-if (i0) { goto l34; }
+if (!i0) {
 j0 = v1;
 j1 = v40;
 j0 = j0 + j1;
@@ -48165,6 +49484,7 @@ j0 = v40;
 j1 = v12;
 j0 = j0 + j1;
 v13 = j0;
+}
 l34:;
 j0 = v13;
 j1 = v40;
@@ -48367,11 +49687,11 @@ l37:;
 j0 = v12;
 j1 = UINT64_C(13);
 i0 = (j0 == j1);
-if (i0) { goto l45; }
+if (!i0) {
 j0 = v43;
 v12 = j0;
 goto l44;
-l45:;
+}
 j0 = v43;
 j1 = v43;
 j2 = UINT64_C(1000);
@@ -48626,7 +49946,7 @@ i0 = i0 & i1;
 v8 = i0;
 i1 = UINT32_C(117);
 i0 = (i0 == i1);
-if (i0) { goto l61; }
+if (!i0) {
 i0 = v8;
 i1 = UINT32_C(97);
 i0 = (i0 != i1);
@@ -48640,7 +49960,7 @@ if (i0) { goto l14; }
 j0 = UINT64_C(1);
 v22 = j0;
 goto l52;
-l61:;
+}
 j0 = UINT64_C(6);
 v22 = j0;
 i0 = v29;
@@ -48838,11 +50158,11 @@ l15:;
 j0 = v13;
 j1 = v2;
 i0 = (j0 != j1);
-if (i0) { goto l67; }
+if (!i0) {
 j0 = v2;
 v13 = j0;
 goto l66;
-l67:;
+}
 j0 = v1;
 j1 = v13;
 j0 = j0 + j1;
@@ -48851,7 +50171,7 @@ i0 = load8(p34 + 0);
 v14 = i0;
 i1 = UINT32_C(58);
 i0 = (i0 > i1);
-if (i0) { goto l68; }
+if (!i0) {
 j0 = UINT64_C(0);
 v40 = j0;
 j0 = UINT64_C(1);
@@ -48862,14 +50182,14 @@ j1 = UINT64_C(288318337081933824);
 j0 = j0 & j1;
 j1 = UINT64_C(0);
 i0 = (j0 == j1);
-if (i0) { goto l68; }
+if (!i0) {
 j0 = v13;
 j1 = UINT64_C(1);
 j0 = j0 + j1;
 v43 = j0;
 j1 = v2;
 i0 = (j0 >= j1);
-if (i0) { goto l69; }
+if (!i0) {
 j0 = v5;
 j1 = v13;
 j0 = j0 + j1;
@@ -48912,14 +50232,14 @@ j1 = UINT64_C(2);
 j0 = j0 + j1;
 j1 = v2;
 i0 = (j0 >= j1);
-if (i0) { goto l72; }
+if (!i0) {
 j0 = v43;
 v12 = j0;
 j0 = v43;
 j1 = UINT64_C(9);
 i0 = (j0 < j1);
 if (i0) { goto l71; }
-l72:;
+}
 j0 = v13;
 j1 = v43;
 j0 = j0 + j1;
@@ -48934,6 +50254,7 @@ j0 = j0 + j1;
 j1 = UINT64_C(1);
 j0 = j0 + j1;
 v43 = j0;
+}
 l69:;
 j0 = v43;
 j1 = v13;
@@ -48942,23 +50263,23 @@ j1 = j1 ^ j2;
 j0 = j0 + j1;
 v12 = j0;
 i0 = (j0 == 0);
-if (i0) { goto l68; }
+if (!i0) {
 i0 = v14;
 i1 = UINT32_C(58);
 i0 = (i0 != i1);
-if (i0) { goto l73; }
+if (!i0) {
 j0 = v12;
 j1 = UINT64_C(3);
 i0 = (j0 != j1);
 if (i0) { goto l68; }
-l73:;
+}
 j0 = v12;
 j1 = UINT64_C(18446744073709551615);
 j0 = j0 + j1;
 v12 = j0;
 j1 = UINT64_C(8);
 i0 = (j0 > j1);
-if (i0) { goto l74; }
+if (!i0) {
 j0 = v12;
 i0 = (uint32_t)j0;
 switch (i0) {
@@ -49030,17 +50351,18 @@ j0 = v40;
 j1 = UINT64_C(1000);
 j0 = divide64(j0, j1);
 v40 = j0;
+}
 l74:;
 j0 = v43;
 j1 = v2;
 i0 = (j0 < j1);
-if (i0) { goto l83; }
+if (!i0) {
 j0 = v40;
 v28 = j0;
 j0 = v43;
 v13 = j0;
 goto l68;
-l83:;
+}
 j0 = v1;
 j1 = v43;
 j0 = j0 + j1;
@@ -49083,6 +50405,9 @@ v13 = j0;
 l84:;
 j0 = v40;
 v28 = j0;
+}
+}
+}
 l68:;
 j0 = v2;
 j1 = v13;
@@ -49091,7 +50416,7 @@ v43 = j0;
 j0 = v2;
 j1 = v13;
 i0 = (j0 == j1);
-if (i0) { goto l87; }
+if (!i0) {
 j0 = v1;
 j1 = v13;
 j0 = j0 + j1;
@@ -49102,7 +50427,7 @@ v8 = i0;
 j0 = v43;
 j1 = UINT64_C(1);
 i0 = (j0 > j1);
-if (i0) { goto l93; }
+if (!i0) {
 i0 = v8;
 i1 = UINT32_C(4294967206);
 i0 = i0 + i1;
@@ -49122,7 +50447,7 @@ goto l14;
 default:
 goto l92;
 }
-l93:;
+}
 i0 = v8;
 i1 = UINT32_C(4294967264);
 i0 = i0 + i1;
@@ -49256,7 +50581,7 @@ j0 = j0 + j1;
 v40 = j0;
 j1 = UINT64_C(1);
 i0 = (j0 > j1);
-if (i0) { goto l98; }
+if (!i0) {
 j0 = v40;
 i0 = (uint32_t)j0;
 switch (i0) {
@@ -49295,7 +50620,7 @@ i1 = UINT32_C(115);
 i0 = (i0 != i1);
 if (i0) { goto l87; }
 goto l14;
-l98:;
+}
 j0 = v12;
 j1 = UINT64_C(1);
 j0 = j0 + j1;
@@ -49305,7 +50630,7 @@ v8 = i0;
 j0 = v43;
 j1 = UINT64_C(4);
 i0 = (j0 > j1);
-if (i0) { goto l101; }
+if (!i0) {
 i0 = v8;
 i1 = UINT32_C(4294967102);
 i0 = i0 + i1;
@@ -49375,7 +50700,7 @@ i1 = UINT32_C(115);
 i0 = (i0 != i1);
 if (i0) { goto l87; }
 goto l14;
-l101:;
+}
 i0 = v8;
 i1 = UINT32_C(4294967102);
 i0 = i0 + i1;
@@ -49532,7 +50857,7 @@ i0 = load8(p52 + 0);
 v8 = i0;
 i1 = UINT32_C(95);
 i0 = (i0 == i1);
-if (i0) { goto l87; }
+if (!i0) {
 i0 = v8;
 i1 = UINT32_C(48);
 i0 = (i0 < i1);
@@ -49540,7 +50865,7 @@ if (i0) { goto l14; }
 i0 = v8;
 i1 = UINT32_C(58);
 i0 = (i0 < i1);
-if (i0) { goto l87; }
+if (!i0) {
 i0 = v8;
 i1 = UINT32_C(65);
 i0 = (i0 < i1);
@@ -49548,7 +50873,7 @@ if (i0) { goto l14; }
 i0 = v8;
 i1 = UINT32_C(91);
 i0 = (i0 < i1);
-if (i0) { goto l87; }
+if (!i0) {
 i0 = v8;
 i1 = UINT32_C(97);
 i0 = (i0 < i1);
@@ -49558,13 +50883,17 @@ i0 = (uint32_t)extend(i0 & 255, 7);
 i1 = UINT32_C(122);
 i0 = (SIGNED32(i0) > SIGNED32(i1));
 if (i0) { goto l14; }
+}
+}
+}
+}
 l87:;
 j0 = v13;
 v12 = j0;
 j0 = v2;
 j1 = v13;
 i0 = (j0 <= j1);
-if (i0) { goto l109; }
+if (!i0) {
 j0 = v13;
 v12 = j0;
 l111:;
@@ -49590,11 +50919,11 @@ j0 = v2;
 j1 = v12;
 j0 = j0 - j1;
 v43 = j0;
-l109:;
+}
 j0 = v43;
 j1 = UINT64_C(2);
 i0 = (j0 < j1);
-if (i0) { goto l66; }
+if (!i0) {
 j0 = v1;
 j1 = v12;
 j0 = j0 + j1;
@@ -49605,11 +50934,11 @@ i1 = UINT32_C(32);
 i0 = i0 | i1;
 i1 = UINT32_C(109);
 i0 = (i0 != i1);
-if (i0) { goto l66; }
+if (!i0) {
 j0 = v43;
 j1 = UINT64_C(2);
 i0 = (j0 == j1);
-if (i0) { goto l112; }
+if (!i0) {
 j0 = v40;
 j1 = UINT64_C(2);
 j0 = j0 + j1;
@@ -49622,7 +50951,7 @@ if (i0) { goto l66; }
 i0 = v8;
 i1 = UINT32_C(48);
 i0 = (i0 < i1);
-if (i0) { goto l112; }
+if (!i0) {
 i0 = v8;
 i1 = UINT32_C(58);
 i0 = (i0 < i1);
@@ -49630,7 +50959,7 @@ if (i0) { goto l66; }
 i0 = v8;
 i1 = UINT32_C(65);
 i0 = (i0 < i1);
-if (i0) { goto l112; }
+if (!i0) {
 i0 = v8;
 i1 = UINT32_C(91);
 i0 = (i0 < i1);
@@ -49638,13 +50967,16 @@ if (i0) { goto l66; }
 i0 = v8;
 i1 = UINT32_C(97);
 i0 = (i0 < i1);
-if (i0) { goto l112; }
+if (!i0) {
 i0 = v8;
 i0 = (uint32_t)extend(i0 & 255, 7);
 i1 = UINT32_C(123);
 i0 = (SIGNED32(i0) < SIGNED32(i1));
 if (i0) { goto l66; }
-l112:;
+}
+}
+}
+}
 j0 = v40;
 p56 = read_at(j0, m, 1u);
 i0 = load8(p56 + 0);
@@ -49745,6 +51077,8 @@ j0 = v12;
 j1 = UINT64_C(2);
 j0 = j0 + j1;
 v13 = j0;
+}
+}
 l66:;
 j0 = v25;
 j1 = UINT64_C(24);
@@ -49761,15 +51095,15 @@ v8 = i0;
 j0 = v24;
 i0 = (j0 == 0);
 i0 = (i0 == 0);
-if (i0) { goto l118; }
+if (!i0) {
 j0 = UINT64_C(0);
 v12 = j0;
 goto l117;
-l118:;
+}
 j0 = v22;
 j1 = UINT64_C(2);
 i0 = (j0 > j1);
-if (i0) { goto l120; }
+if (!i0) {
 j0 = v22;
 j1 = UINT64_C(9);
 j0 = j0 + j1;
@@ -49782,7 +51116,7 @@ j1 = (uint64_t)i1;
 j0 = j0 - j1;
 v23 = j0;
 goto l119;
-l120:;
+}
 j0 = v22;
 j1 = UINT64_C(18446744073709551613);
 j0 = j0 + j1;
@@ -49828,7 +51162,7 @@ v12 = j0;
 l117:;
 i0 = v8;
 i0 = (i0 == 0);
-if (i0) { goto l14; }
+if (!i0) {
 j0 = v0;
 j1 = UINT64_C(1);
 p57 = write_at(j0, m, 32u);
@@ -49865,6 +51199,7 @@ store64(p57 + 24, j1);
 j0 = v3;
 m->g0 = j0;
 return;
+}
 l14:;
 j0 = v19;
 j1 = UINT64_C(1);
@@ -49873,6 +51208,7 @@ v19 = j0;
 j1 = UINT64_C(9);
 i0 = (j0 != j1);
 if (i0) { goto l13; }
+}
 l5:;
 i0 = v10;
 i1 = UINT32_C(255);
@@ -49880,11 +51216,11 @@ i0 = i0 & i1;
 v8 = i0;
 i1 = UINT32_C(95);
 i0 = (i0 == i1);
-if (i0) { goto l122; }
+if (!i0) {
 i0 = v8;
 i1 = UINT32_C(48);
 i0 = (i0 < i1);
-if (i0) { goto l124; }
+if (!i0) {
 i0 = v10;
 i1 = UINT32_C(255);
 i0 = i0 & i1;
@@ -49895,7 +51231,7 @@ if (i0) { goto l122; }
 i0 = v8;
 i1 = UINT32_C(65);
 i0 = (i0 < i1);
-if (i0) { goto l125; }
+if (!i0) {
 i0 = v10;
 i1 = UINT32_C(255);
 i0 = i0 & i1;
@@ -49915,7 +51251,7 @@ i1 = UINT32_C(122);
 i0 = (SIGNED32(i0) > SIGNED32(i1));
 if (i0) { goto l121; }
 goto l122;
-l125:;
+}
 i0 = v10;
 i1 = UINT32_C(255);
 i0 = i0 & i1;
@@ -49923,7 +51259,7 @@ i1 = UINT32_C(58);
 i0 = (i0 == i1);
 if (i0) { goto l122; }
 goto l123;
-l124:;
+}
 i0 = v10;
 i1 = UINT32_C(255);
 i0 = i0 & i1;
@@ -49934,6 +51270,7 @@ l123:;
 i0 = UINT32_C(1);
 v8 = i0;
 goto l121;
+}
 l122:;
 i0 = UINT32_C(0);
 v8 = i0;
@@ -49945,7 +51282,7 @@ v7 = j0;
 j1 = v4;
 i0 = (j0 != j1);
 if (i0) { goto l4; }
-l3:;
+}
 j0 = v0;
 j1 = UINT64_C(0);
 p58 = write_at(j0, m, 32u);
@@ -49962,9 +51299,8 @@ store64(p58 + 0, j1);
 j0 = v3;
 m->g0 = j0;
 return;
-l2:;
+}
 fio2070_trap();
-return;
 }
 static void fio_log_glance_Glance_of(struct machine *m, uint64_t v0, uint64_t v1, uint64_t v2)
 {
@@ -49991,11 +51327,11 @@ uint8_t *p6;
 j0 = m->g0;
 j1 = UINT64_C(16);
 i0 = (SIGNED64(j0) < SIGNED64(j1));
-if (i0) { goto l5; }
+if (!i0) {
 j0 = v2;
 i0 = (j0 == 0);
 i0 = (i0 == 0);
-if (i0) { goto l6; }
+if (!i0) {
 j0 = UINT64_C(0);
 v3 = j0;
 i0 = UINT32_C(0);
@@ -50003,25 +51339,25 @@ v4 = i0;
 j0 = UINT64_C(0);
 v5 = j0;
 goto l2;
-l6:;
+}
 j0 = v1;
 p1 = read_at(j0, m, 1u);
 i0 = load8(p1 + 0);
 v6 = i0;
 i1 = UINT32_C(64);
 i0 = (i0 < i1);
-if (i0) { goto l8; }
+if (!i0) {
 j0 = UINT64_C(0);
 v5 = j0;
 i0 = v6;
 i0 = (uint32_t)extend(i0 & 255, 7);
 i1 = UINT32_C(0);
 i0 = (SIGNED32(i0) >= SIGNED32(i1));
-if (i0) { goto l9; }
+if (!i0) {
 j0 = UINT64_C(0);
 v3 = j0;
 goto l4;
-l9:;
+}
 j0 = UINT64_C(1);
 i1 = v6;
 i2 = UINT32_C(4294967232);
@@ -50050,7 +51386,7 @@ i1 = UINT32_C(6);
 i0 = (i0 < i1);
 if (i0) { goto l7; }
 goto l4;
-l8:;
+}
 j0 = UINT64_C(1);
 i1 = v6;
 j1 = (uint64_t)i1;
@@ -50070,11 +51406,11 @@ l7:;
 j0 = v2;
 j1 = UINT64_C(1);
 i0 = (j0 != j1);
-if (i0) { goto l10; }
+if (!i0) {
 i0 = UINT32_C(1);
 v4 = i0;
 goto l2;
-l10:;
+}
 j0 = v1;
 j1 = UINT64_C(1);
 j0 = j0 + j1;
@@ -50083,7 +51419,7 @@ i0 = load8(p2 + 0);
 v6 = i0;
 i1 = UINT32_C(95);
 i0 = (i0 == i1);
-if (i0) { goto l11; }
+if (!i0) {
 i0 = UINT32_C(1);
 v4 = i0;
 i0 = v6;
@@ -50093,7 +51429,7 @@ if (i0) { goto l3; }
 i0 = v6;
 i1 = UINT32_C(58);
 i0 = (i0 < i1);
-if (i0) { goto l11; }
+if (!i0) {
 i0 = v6;
 i1 = UINT32_C(65);
 i0 = (i0 < i1);
@@ -50101,7 +51437,7 @@ if (i0) { goto l3; }
 i0 = v6;
 i1 = UINT32_C(91);
 i0 = (i0 < i1);
-if (i0) { goto l11; }
+if (!i0) {
 i0 = v6;
 i1 = UINT32_C(97);
 i0 = (i0 < i1);
@@ -50111,7 +51447,9 @@ i0 = (uint32_t)extend(i0 & 255, 7);
 i1 = UINT32_C(122);
 i0 = (SIGNED32(i0) > SIGNED32(i1));
 if (i0) { goto l3; }
-l11:;
+}
+}
+}
 i0 = v6;
 i1 = UINT32_C(4294967224);
 i0 = i0 + i1;
@@ -50120,7 +51458,7 @@ i0 = i0 & i1;
 i0 = (i0 == 0);
 v4 = i0;
 goto l3;
-l5:;
+}
 fio2070_trap();
 l4:;
 i0 = UINT32_C(0);
@@ -50148,7 +51486,7 @@ i0 = load8(p3 + 0);
 v6 = i0;
 i1 = UINT32_C(64);
 i0 = (i0 < i1);
-if (i0) { goto l15; }
+if (!i0) {
 i0 = UINT32_C(0);
 v10 = i0;
 i0 = v6;
@@ -50184,7 +51522,7 @@ i1 = UINT32_C(5);
 i0 = (i0 > i1);
 if (i0) { goto l13; }
 goto l14;
-l15:;
+}
 j0 = UINT64_C(1);
 i1 = v6;
 j1 = (uint64_t)i1;
@@ -50199,10 +51537,11 @@ i1 = UINT32_C(255);
 i0 = i0 & i1;
 i1 = UINT32_C(10);
 i0 = (i0 < i1);
-if (i0) { goto l14; }
+if (!i0) {
 i0 = UINT32_C(0);
 v10 = i0;
 goto l13;
+}
 l14:;
 j0 = v9;
 p4 = read_at(j0, m, 1u);
@@ -50210,7 +51549,7 @@ i0 = load8(p4 + 0);
 v6 = i0;
 i1 = UINT32_C(95);
 i0 = (i0 == i1);
-if (i0) { goto l17; }
+if (!i0) {
 i0 = UINT32_C(1);
 v10 = i0;
 i0 = v6;
@@ -50220,7 +51559,7 @@ if (i0) { goto l16; }
 i0 = v6;
 i1 = UINT32_C(58);
 i0 = (i0 < i1);
-if (i0) { goto l17; }
+if (!i0) {
 i0 = v6;
 i1 = UINT32_C(65);
 i0 = (i0 < i1);
@@ -50228,7 +51567,7 @@ if (i0) { goto l16; }
 i0 = v6;
 i1 = UINT32_C(91);
 i0 = (i0 < i1);
-if (i0) { goto l17; }
+if (!i0) {
 i0 = v6;
 i1 = UINT32_C(97);
 i0 = (i0 < i1);
@@ -50238,7 +51577,9 @@ i0 = (uint32_t)extend(i0 & 255, 7);
 i1 = UINT32_C(122);
 i0 = (SIGNED32(i0) > SIGNED32(i1));
 if (i0) { goto l16; }
-l17:;
+}
+}
+}
 i0 = v6;
 i1 = UINT32_C(4294967208);
 i0 = i0 + i1;
@@ -50252,13 +51593,13 @@ j1 = UINT64_C(2);
 j0 = j0 + j1;
 j1 = v2;
 i0 = (j0 >= j1);
-if (i0) { goto l21; }
+if (!i0) {
 i0 = v10;
 if (i0) { goto l20; }
 i0 = UINT32_C(0);
 v10 = i0;
 goto l13;
-l21:;
+}
 i0 = v10;
 if (i0) { goto l19; }
 i0 = UINT32_C(0);
@@ -50280,7 +51621,7 @@ if (i0) { goto l18; }
 i0 = v10;
 i1 = UINT32_C(48);
 i0 = (i0 < i1);
-if (i0) { goto l19; }
+if (!i0) {
 i0 = v6;
 i1 = UINT32_C(255);
 i0 = i0 & i1;
@@ -50291,7 +51632,7 @@ if (i0) { goto l18; }
 i0 = v10;
 i1 = UINT32_C(65);
 i0 = (i0 < i1);
-if (i0) { goto l19; }
+if (!i0) {
 i0 = v6;
 i1 = UINT32_C(255);
 i0 = i0 & i1;
@@ -50302,12 +51643,15 @@ if (i0) { goto l18; }
 i0 = v10;
 i1 = UINT32_C(97);
 i0 = (i0 < i1);
-if (i0) { goto l19; }
+if (!i0) {
 i0 = v6;
 i0 = (uint32_t)extend(i0 & 255, 7);
 i1 = UINT32_C(123);
 i0 = (SIGNED32(i0) < SIGNED32(i1));
 if (i0) { goto l18; }
+}
+}
+}
 l19:;
 i0 = UINT32_C(1);
 v10 = i0;
@@ -50351,7 +51695,6 @@ i1 = v4;
 i2 = UINT32_C(1);
 i1 = i1 & i2;
 store8(p6 + 16, i1);
-return;
 }
 static void fio_log_found_bracketed_at(struct machine *m, uint64_t v0, uint64_t v1, uint64_t v2, uint64_t v3, uint64_t v4)
 {
@@ -50441,7 +51784,7 @@ j0 = v5;
 v6 = j0;
 j1 = UINT64_C(16);
 i0 = (SIGNED64(j0) < SIGNED64(j1));
-if (i0) { goto l9; }
+if (!i0) {
 i0 = UINT32_C(0);
 v7 = i0;
 j0 = v6;
@@ -50453,7 +51796,7 @@ store32(p1 + 56, i1);
 j0 = v3;
 j1 = v2;
 i0 = (j0 >= j1);
-if (i0) { goto l14; }
+if (!i0) {
 j0 = UINT64_C(1);
 v5 = j0;
 j0 = UINT64_C(0);
@@ -50545,7 +51888,7 @@ v15 = j0;
 j0 = UINT64_C(1);
 v9 = j0;
 goto l6;
-l14:;
+}
 j0 = v0;
 j1 = UINT64_C(0);
 p3 = write_at(j0, m, 48u);
@@ -50575,21 +51918,21 @@ j0 = load64(p4 + 0);
 v5 = j0;
 i0 = (j0 == 0);
 v7 = i0;
-if (i0) { goto l16; }
+if (!i0) {
 i0 = v7;
-if (i0) { goto l17; }
+if (!i0) {
 j0 = v4;
 i1 = UINT32_C(0);
 j2 = v5;
 fill(m, j0, i1, j2);
-l17:;
+}
 j0 = v4;
 j1 = UINT64_C(784);
 j0 = j0 + j1;
 j1 = UINT64_C(0);
 p5 = write_at(j0, m, 8u);
 store64(p5 + 0, j1);
-l16:;
+}
 j0 = v3;
 j1 = UINT64_C(1);
 j0 = j0 + j1;
@@ -50598,7 +51941,7 @@ i0 = UINT32_C(0);
 v16 = i0;
 j0 = v3;
 i0 = (j0 == 0);
-if (i0) { goto l18; }
+if (!i0) {
 j0 = v13;
 j1 = UINT64_C(18446744073709551615);
 j0 = j0 + j1;
@@ -50608,13 +51951,13 @@ i1 = UINT32_C(4294967230);
 i0 = i0 + i1;
 i1 = UINT32_C(223);
 i0 = i0 & i1;
-if (i0) { goto l18; }
+if (!i0) {
 i0 = UINT32_C(1);
 v16 = i0;
 j0 = v3;
 j1 = UINT64_C(1);
 i0 = (j0 == j1);
-if (i0) { goto l18; }
+if (!i0) {
 j0 = v13;
 j1 = UINT64_C(18446744073709551614);
 j0 = j0 + j1;
@@ -50623,7 +51966,7 @@ i0 = load8(p7 + 0);
 v7 = i0;
 i1 = UINT32_C(95);
 i0 = (i0 == i1);
-if (i0) { goto l19; }
+if (!i0) {
 i0 = v7;
 i1 = UINT32_C(48);
 i0 = (i0 < i1);
@@ -50631,7 +51974,7 @@ if (i0) { goto l18; }
 i0 = v7;
 i1 = UINT32_C(58);
 i0 = (i0 < i1);
-if (i0) { goto l19; }
+if (!i0) {
 i0 = v7;
 i1 = UINT32_C(65);
 i0 = (i0 < i1);
@@ -50639,7 +51982,7 @@ if (i0) { goto l18; }
 i0 = v7;
 i1 = UINT32_C(91);
 i0 = (i0 < i1);
-if (i0) { goto l19; }
+if (!i0) {
 i0 = v7;
 i1 = UINT32_C(97);
 i0 = (i0 < i1);
@@ -50649,9 +51992,14 @@ i0 = (uint32_t)extend(i0 & 255, 7);
 i1 = UINT32_C(122);
 i0 = (SIGNED32(i0) > SIGNED32(i1));
 if (i0) { goto l18; }
-l19:;
+}
+}
+}
 i0 = UINT32_C(0);
 v16 = i0;
+}
+}
+}
 l18:;
 j0 = v5;
 j1 = v2;
@@ -50679,7 +52027,7 @@ i0 = (uint32_t)extend(i0 & 255, 7);
 v7 = i0;
 i1 = UINT32_C(92);
 i0 = (i0 != i1);
-if (i0) { goto l24; }
+if (!i0) {
 i0 = UINT32_C(0);
 v19 = i0;
 i0 = UINT32_C(0);
@@ -50690,21 +52038,21 @@ j0 = j0 + j1;
 v9 = j0;
 j1 = v2;
 i0 = (j0 >= j1);
-if (i0) { goto l25; }
+if (!i0) {
 j0 = v1;
 j1 = v9;
 j0 = j0 + j1;
 p9 = read_at(j0, m, 1u);
 i0 = load8(p9 + 0);
 v11 = i0;
-l25:;
+}
 j0 = v5;
 j1 = UINT64_C(2);
 j0 = j0 + j1;
 v9 = j0;
 j1 = v2;
 i0 = (j0 >= j1);
-if (i0) { goto l26; }
+if (!i0) {
 j0 = v1;
 j1 = v9;
 j0 = j0 + j1;
@@ -50715,7 +52063,7 @@ i0 = i0 & i1;
 i1 = UINT32_C(48);
 i0 = (i0 == i1);
 v19 = i0;
-l26:;
+}
 j0 = UINT64_C(3);
 v9 = j0;
 j0 = v5;
@@ -50724,7 +52072,7 @@ j0 = j0 + j1;
 v12 = j0;
 j1 = v2;
 i0 = (j0 >= j1);
-if (i0) { goto l27; }
+if (!i0) {
 j0 = UINT64_C(4);
 j1 = UINT64_C(3);
 j2 = v1;
@@ -50738,7 +52086,7 @@ i3 = UINT32_C(48);
 i2 = (i2 == i3);
 j0 = i2 ? j0 : j1;
 v9 = j0;
-l27:;
+}
 j0 = UINT64_C(4);
 v12 = j0;
 i0 = v11;
@@ -50788,7 +52136,7 @@ j1 = v9;
 i0 = (j0 >= j1);
 if (i0) { goto l23; }
 goto l3;
-l24:;
+}
 j0 = v2;
 j1 = v5;
 i0 = (j0 <= j1);
@@ -50810,7 +52158,7 @@ l23:;
 j0 = v12;
 j1 = UINT64_C(2);
 i0 = (j0 > j1);
-if (i0) { goto l33; }
+if (!i0) {
 i0 = UINT32_C(11);
 v11 = i0;
 j0 = v13;
@@ -51031,11 +52379,11 @@ i1 = UINT32_C(4294967248);
 i0 = i0 + i1;
 v11 = i0;
 goto l31;
-l33:;
+}
 j0 = v12;
 j1 = UINT64_C(3);
 i0 = (j0 != j1);
-if (i0) { goto l41; }
+if (!i0) {
 j0 = v13;
 p13 = read_at(j0 + UINT64_C(1), m, 1u);
 i0 = load8(p13 + 0);
@@ -51065,7 +52413,7 @@ i1 = UINT32_C(4294967248);
 i0 = i0 + i1;
 v11 = i0;
 goto l31;
-l41:;
+}
 j0 = v13;
 p15 = read_at(j0 + UINT64_C(1), m, 1u);
 i0 = load8(p15 + 0);
@@ -51073,7 +52421,7 @@ v20 = i0;
 j0 = v12;
 j1 = UINT64_C(4);
 i0 = (j0 > j1);
-if (i0) { goto l43; }
+if (!i0) {
 i0 = UINT32_C(120);
 v19 = i0;
 i0 = v20;
@@ -51081,7 +52429,7 @@ i1 = UINT32_C(255);
 i0 = i0 & i1;
 i1 = UINT32_C(120);
 i0 = (i0 != i1);
-if (i0) { goto l44; }
+if (!i0) {
 j0 = v13;
 j1 = UINT64_C(3);
 j0 = j0 + j1;
@@ -51091,7 +52439,7 @@ j1 = UINT64_C(2);
 j0 = j0 + j1;
 v12 = j0;
 goto l42;
-l44:;
+}
 i0 = v20;
 i1 = UINT32_C(248);
 i0 = i0 & i1;
@@ -51144,7 +52492,7 @@ v11 = i0;
 i0 = v20;
 v19 = i0;
 goto l31;
-l43:;
+}
 i0 = v20;
 i1 = UINT32_C(255);
 i0 = i0 & i1;
@@ -51214,11 +52562,11 @@ i1 = UINT32_C(255);
 i0 = i0 & i1;
 i1 = UINT32_C(94);
 i0 = (i0 <= i1);
-if (i0) { goto l46; }
+if (!i0) {
 i0 = UINT32_C(0);
 v20 = i0;
 goto l45;
-l46:;
+}
 i0 = v11;
 i1 = UINT32_C(4294967262);
 i0 = i0 + i1;
@@ -51227,11 +52575,11 @@ i1 = UINT32_C(255);
 i0 = i0 & i1;
 i1 = UINT32_C(58);
 i0 = (i0 <= i1);
-if (i0) { goto l47; }
+if (!i0) {
 i0 = UINT32_C(1);
 v20 = i0;
 goto l45;
-l47:;
+}
 j0 = UINT64_C(288230376151711710);
 i1 = v20;
 j1 = (uint64_t)i1;
@@ -51358,7 +52706,7 @@ i1 = UINT32_C(123);
 i0 = (i0 == i1);
 if (i0) { goto l8; }
 goto l5;
-l9:;
+}
 fio2070_trap();
 l8:;
 j0 = UINT64_C(66298);
@@ -51396,21 +52744,21 @@ j0 = load64(p26 + 0);
 v5 = j0;
 i0 = (j0 == 0);
 v7 = i0;
-if (i0) { goto l48; }
+if (!i0) {
 i0 = v7;
-if (i0) { goto l49; }
+if (!i0) {
 j0 = v4;
 i1 = UINT32_C(0);
 j2 = v5;
 fill(m, j0, i1, j2);
-l49:;
+}
 j0 = v4;
 j1 = UINT64_C(784);
 j0 = j0 + j1;
 j1 = UINT64_C(0);
 p27 = write_at(j0, m, 8u);
 store64(p27 + 0, j1);
-l48:;
+}
 j0 = v10;
 j1 = v2;
 i0 = (j0 >= j1);
@@ -51448,7 +52796,7 @@ j0 = j0 + j1;
 v5 = j0;
 j1 = v2;
 i0 = (j0 >= j1);
-if (i0) { goto l51; }
+if (!i0) {
 l52:;
 j0 = v1;
 j1 = v5;
@@ -51471,6 +52819,7 @@ i0 = (j0 < j1);
 if (i0) { goto l52; }
 j0 = v2;
 v5 = j0;
+}
 l51:;
 j0 = v5;
 j1 = v10;
@@ -51479,11 +52828,11 @@ v13 = j0;
 i0 = v7;
 i1 = UINT32_C(45);
 i0 = (i0 != i1);
-if (i0) { goto l54; }
+if (!i0) {
 j0 = v5;
 j1 = v10;
 i0 = (j0 == j1);
-if (i0) { goto l54; }
+if (!i0) {
 j0 = v6;
 j1 = UINT64_C(24);
 j0 = j0 + j1;
@@ -51522,7 +52871,8 @@ i1 = UINT32_C(0);
 i0 = (i0 != i1);
 v17 = i0;
 goto l53;
-l54:;
+}
+}
 j0 = v6;
 j1 = UINT64_C(32);
 j0 = j0 + j1;
@@ -51594,7 +52944,7 @@ p37 = read_at(j0 + UINT64_C(8), m, 1u);
 i0 = load8(p37 + 0);
 i1 = UINT32_C(1);
 i0 = (i0 == i1);
-if (i0) { goto l55; }
+if (!i0) {
 i0 = UINT32_C(0);
 v7 = i0;
 i0 = UINT32_C(0);
@@ -51602,7 +52952,7 @@ v11 = i0;
 j0 = v5;
 j1 = v2;
 i0 = (j0 >= j1);
-if (i0) { goto l56; }
+if (!i0) {
 j0 = v1;
 j1 = v5;
 j0 = j0 + j1;
@@ -51611,14 +52961,14 @@ i0 = load8(p38 + 0);
 i1 = UINT32_C(44);
 i0 = (i0 == i1);
 v11 = i0;
-l56:;
+}
 j0 = v5;
 j1 = UINT64_C(1);
 j0 = j0 + j1;
 v10 = j0;
 j1 = v2;
 i0 = (j0 >= j1);
-if (i0) { goto l57; }
+if (!i0) {
 j0 = v1;
 j1 = v10;
 j0 = j0 + j1;
@@ -51627,7 +52977,7 @@ i0 = load8(p39 + 0);
 i1 = UINT32_C(32);
 i0 = (i0 == i1);
 v7 = i0;
-l57:;
+}
 j0 = v5;
 j1 = UINT64_C(2);
 j0 = j0 + j1;
@@ -51655,7 +53005,7 @@ j0 = j0 - j1;
 v5 = j0;
 j1 = UINT64_C(1);
 i0 = (j0 > j1);
-if (i0) { goto l59; }
+if (!i0) {
 j0 = v5;
 i0 = (uint32_t)j0;
 switch (i0) {
@@ -51666,7 +53016,7 @@ goto l58;
 default:
 goto l4;
 }
-l59:;
+}
 j0 = v5;
 j1 = UINT64_C(2);
 i0 = (j0 > j1);
@@ -51740,7 +53090,7 @@ j1 = UINT64_C(780);
 i0 = (j0 != j1);
 if (i0) { goto l50; }
 goto l4;
-l55:;
+}
 j0 = v15;
 j1 = v9;
 i0 = (j0 > j1);
@@ -51879,7 +53229,6 @@ j0 = v6;
 j1 = UINT64_C(64);
 j0 = j0 + j1;
 m->g0 = j0;
-return;
 }
 static void fio_log_line_runs_keep(struct machine *m, uint64_t v0, uint64_t v1, uint64_t v2, uint64_t v3, uint64_t v4, uint64_t v5)
 {
@@ -51917,7 +53266,7 @@ j0 = v6;
 v6 = j0;
 j1 = UINT64_C(16);
 i0 = (SIGNED64(j0) < SIGNED64(j1));
-if (i0) { goto l2; }
+if (!i0) {
 j0 = v2;
 p2 = read_at(j0, m, 40u);
 j0 = load64(p2 + 8);
@@ -51966,7 +53315,7 @@ fio_log_sayings_read_saying(m, j0, j1, j2);
 j0 = v9;
 j1 = UINT64_C(1);
 i0 = (j0 > j1);
-if (i0) { goto l5; }
+if (!i0) {
 j0 = v5;
 j1 = UINT64_C(7488);
 j0 = j0 + j1;
@@ -51974,7 +53323,7 @@ p4 = read_at(j0, m, 8u);
 j0 = load64(p4 + 0);
 j1 = UINT64_C(3);
 i0 = (j0 > j1);
-if (i0) { goto l6; }
+if (!i0) {
 j0 = v6;
 i0 = load8(p1 + 72);
 i1 = UINT32_C(255);
@@ -51982,7 +53331,7 @@ i0 = i0 & i1;
 i1 = UINT32_C(2);
 i0 = (i0 == i1);
 if (i0) { goto l4; }
-l6:;
+}
 j0 = v4;
 j1 = UINT64_C(56);
 j0 = j0 + j1;
@@ -51991,7 +53340,7 @@ p5 = read_at(j0, m, 1u);
 i0 = load8(p5 + 0);
 i1 = UINT32_C(1);
 i0 = (i0 != i1);
-if (i0) { goto l7; }
+if (!i0) {
 j0 = v4;
 j1 = UINT64_C(72);
 j0 = j0 + j1;
@@ -52000,7 +53349,7 @@ j0 = load64(p6 + 0);
 v3 = j0;
 j1 = v7;
 i0 = (j0 < j1);
-if (i0) { goto l7; }
+if (!i0) {
 j0 = v7;
 j1 = v3;
 i0 = (j0 == j1);
@@ -52014,7 +53363,8 @@ i1 = (j1 < j2);
 i0 = i0 & i1;
 i0 = (i0 == 0);
 if (i0) { goto l3; }
-l7:;
+}
+}
 j0 = v2;
 j0 = load64(p2 + 32);
 v3 = j0;
@@ -52061,7 +53411,7 @@ j0 = v6;
 j1 = v2;
 store64(p1 + 8, j1);
 goto l3;
-l5:;
+}
 j0 = v8;
 j1 = v4;
 j2 = UINT64_C(8);
@@ -52069,7 +53419,7 @@ j1 = j1 + j2;
 p10 = read_at(j1, m, 8u);
 j1 = load64(p10 + 0);
 i0 = (j0 >= j1);
-if (i0) { goto l4; }
+if (!i0) {
 j0 = v5;
 j1 = UINT64_C(7512);
 j0 = j0 + j1;
@@ -52081,6 +53431,7 @@ j1 = UINT64_C(7504);
 j0 = j0 + j1;
 j1 = UINT64_C(0);
 store64(p11 + 0, j1);
+}
 l4:;
 j0 = v6;
 j1 = v7;
@@ -52118,9 +53469,8 @@ j1 = UINT64_C(128);
 j0 = j0 + j1;
 m->g0 = j0;
 return;
-l2:;
+}
 fio2070_trap();
-return;
 }
 static void fio_log_line_runs_find_marked(struct machine *m, uint64_t v0, uint64_t v1, uint32_t v2, uint32_t v3, uint64_t v4, uint64_t v5, uint64_t v6)
 {
@@ -52180,7 +53530,7 @@ j0 = v7;
 v8 = j0;
 j1 = UINT64_C(16);
 i0 = (SIGNED64(j0) < SIGNED64(j1));
-if (i0) { goto l2; }
+if (!i0) {
 j0 = v8;
 j1 = UINT64_C(0);
 store64(p1 + 40, j1);
@@ -52216,7 +53566,7 @@ j0 = v8;
 i0 = load8(p1 + 0);
 i1 = UINT32_C(1);
 i0 = (i0 != i1);
-if (i0) { goto l3; }
+if (!i0) {
 j0 = v4;
 j1 = UINT64_C(1);
 j0 = j0 + j1;
@@ -52240,7 +53590,7 @@ j1 = v8;
 j1 = load64(p1 + 8);
 v13 = j1;
 i0 = (j0 < j1);
-if (i0) { goto l8; }
+if (!i0) {
 j0 = v1;
 j1 = v8;
 j1 = load64(p1 + 16);
@@ -52252,7 +53602,7 @@ i1 = (j1 >= j2);
 i0 = i0 & i1;
 v15 = i0;
 i0 = (i0 == 0);
-if (i0) { goto l8; }
+if (!i0) {
 j0 = v0;
 j1 = v13;
 j0 = j0 + j1;
@@ -52272,7 +53622,7 @@ i2 = v15;
 j0 = i2 ? j0 : j1;
 v19 = j0;
 i0 = (j0 == 0);
-if (i0) { goto l9; }
+if (!i0) {
 l10:;
 j0 = v16;
 j1 = v7;
@@ -52286,7 +53636,7 @@ if (i0) { goto l9; }
 i0 = v15;
 i1 = UINT32_C(58);
 i0 = (i0 < i1);
-if (i0) { goto l11; }
+if (!i0) {
 i0 = v15;
 i1 = UINT32_C(65);
 i0 = (i0 < i1);
@@ -52294,7 +53644,7 @@ if (i0) { goto l9; }
 i0 = v15;
 i1 = UINT32_C(71);
 i0 = (i0 < i1);
-if (i0) { goto l11; }
+if (!i0) {
 i0 = v15;
 i1 = UINT32_C(4294967199);
 i0 = i0 + i1;
@@ -52303,7 +53653,8 @@ i0 = i0 & i1;
 i1 = UINT32_C(5);
 i0 = (i0 > i1);
 if (i0) { goto l9; }
-l11:;
+}
+}
 j0 = v19;
 j1 = v7;
 j2 = UINT64_C(1);
@@ -52313,6 +53664,7 @@ i0 = (j0 != j1);
 if (i0) { goto l10; }
 j0 = v18;
 v7 = j0;
+}
 l9:;
 j0 = v17;
 p4 = read_at(j0, m, 8u);
@@ -52331,19 +53683,19 @@ j1 = UINT64_C(18446744073709551615);
 j0 = j0 + j1;
 j1 = v1;
 i0 = (j0 >= j1);
-if (i0) { goto l12; }
+if (!i0) {
 i0 = v22;
 i1 = UINT32_C(255);
 i0 = i0 & i1;
-if (i0) { goto l12; }
+if (!i0) {
 i0 = v21;
 i1 = UINT32_C(1);
 i0 = i0 & i1;
-if (i0) { goto l12; }
+if (!i0) {
 j0 = v7;
 j1 = v19;
 i0 = (j0 >= j1);
-if (i0) { goto l12; }
+if (!i0) {
 j0 = UINT64_C(0);
 j1 = v1;
 j2 = v14;
@@ -52378,7 +53730,7 @@ if (i0) { goto l13; }
 i0 = v15;
 i1 = UINT32_C(48);
 i0 = (i0 < i1);
-if (i0) { goto l15; }
+if (!i0) {
 i0 = v15;
 i1 = UINT32_C(58);
 i0 = (i0 < i1);
@@ -52386,7 +53738,7 @@ if (i0) { goto l13; }
 i0 = v15;
 i1 = UINT32_C(65);
 i0 = (i0 < i1);
-if (i0) { goto l15; }
+if (!i0) {
 i0 = v15;
 i1 = UINT32_C(91);
 i0 = (i0 < i1);
@@ -52394,13 +53746,15 @@ if (i0) { goto l13; }
 i0 = v15;
 i1 = UINT32_C(97);
 i0 = (i0 < i1);
-if (i0) { goto l15; }
+if (!i0) {
 i0 = v15;
 i0 = (uint32_t)extend(i0 & 255, 7);
 i1 = UINT32_C(123);
 i0 = (SIGNED32(i0) < SIGNED32(i1));
 if (i0) { goto l13; }
-l15:;
+}
+}
+}
 j0 = v17;
 j1 = UINT64_C(1);
 j0 = j0 + j1;
@@ -52417,7 +53771,7 @@ l13:;
 j0 = v1;
 j1 = v14;
 i0 = (j0 <= j1);
-if (i0) { goto l16; }
+if (!i0) {
 l17:;
 j0 = v18;
 p6 = read_at(j0, m, 1u);
@@ -52445,18 +53799,22 @@ v24 = j0;
 j1 = UINT64_C(0);
 i0 = (j0 != j1);
 if (i0) { goto l17; }
-l16:;
+}
 i0 = UINT32_C(1);
 v23 = i0;
+}
+}
+}
+}
 l12:;
 j0 = v19;
 j1 = v7;
 i0 = (j0 < j1);
 v26 = i0;
-if (i0) { goto l8; }
+if (!i0) {
 j0 = v20;
 i0 = (j0 == 0);
-if (i0) { goto l21; }
+if (!i0) {
 j0 = v8;
 j1 = UINT64_C(0);
 store64(p1 + 72, j1);
@@ -52514,7 +53872,7 @@ i1 = i1 & i2;
 i0 = i0 & i1;
 if (i0) { goto l19; }
 goto l8;
-l21:;
+}
 i0 = v23;
 if (i0) { goto l18; }
 goto l8;
@@ -52525,7 +53883,7 @@ if (i0) { goto l8; }
 l19:;
 j0 = v7;
 i0 = (j0 == 0);
-if (i0) { goto l23; }
+if (!i0) {
 j0 = v16;
 j1 = v7;
 j2 = UINT64_C(18446744073709551615);
@@ -52539,7 +53897,7 @@ i0 = i0 | i1;
 i1 = UINT32_C(98);
 i0 = (i0 == i1);
 if (i0) { goto l22; }
-l23:;
+}
 j0 = v7;
 v25 = j0;
 l22:;
@@ -52547,7 +53905,7 @@ j0 = UINT64_C(0);
 v17 = j0;
 j0 = v25;
 i0 = (j0 == 0);
-if (i0) { goto l24; }
+if (!i0) {
 j0 = v16;
 v18 = j0;
 l25:;
@@ -52594,14 +53952,14 @@ v25 = j0;
 j1 = UINT64_C(0);
 i0 = (j0 != j1);
 if (i0) { goto l25; }
-l24:;
+}
 j0 = v17;
 j1 = v20;
 j2 = UINT64_C(18446744073709551615);
 j1 = j1 + j2;
 v18 = j1;
 i0 = (j0 != j1);
-if (i0) { goto l18; }
+if (!i0) {
 j0 = v8;
 j1 = UINT64_C(0);
 store64(p1 + 72, j1);
@@ -52625,6 +53983,7 @@ i0 = load8(p1 + 48);
 i1 = UINT32_C(2);
 i0 = (i0 == i1);
 if (i0) { goto l6; }
+}
 l18:;
 j0 = UINT64_C(0);
 j1 = v7;
@@ -52685,6 +54044,9 @@ i0 = load8(p1 + 48);
 i1 = UINT32_C(2);
 i0 = (i0 != i1);
 if (i0) { goto l7; }
+}
+}
+}
 l8:;
 j0 = v0;
 j1 = v1;
@@ -52748,12 +54110,12 @@ j0 = v8;
 i0 = load8(p1 + 48);
 i1 = UINT32_C(1);
 i0 = (i0 != i1);
-if (i0) { goto l5; }
+if (!i0) {
 j0 = v8;
 j0 = load64(p1 + 56);
 j1 = v12;
 i0 = (j0 >= j1);
-if (i0) { goto l5; }
+if (!i0) {
 j0 = v4;
 j1 = UINT64_C(784);
 j0 = j0 + j1;
@@ -52762,7 +54124,7 @@ j0 = load64(p11 + 0);
 v7 = j0;
 j1 = UINT64_C(2);
 i0 = (j0 < j1);
-if (i0) { goto l5; }
+if (!i0) {
 j0 = v8;
 j1 = UINT64_C(0);
 store64(p1 + 120, j1);
@@ -52785,7 +54147,7 @@ j0 = v8;
 i0 = load8(p1 + 96);
 i1 = UINT32_C(2);
 i0 = (i0 != i1);
-if (i0) { goto l5; }
+if (!i0) {
 j0 = v0;
 j1 = v1;
 j2 = v10;
@@ -52793,6 +54155,10 @@ j3 = v4;
 j4 = v5;
 j5 = v6;
 fio_log_line_runs_keep(m, j0, j1, j2, j3, j4, j5);
+}
+}
+}
+}
 l5:;
 j0 = v8;
 j1 = v0;
@@ -52811,15 +54177,14 @@ i0 = load8(p1 + 0);
 i1 = UINT32_C(1);
 i0 = (i0 == i1);
 if (i0) { goto l4; }
-l3:;
+}
 j0 = v8;
 j1 = UINT64_C(128);
 j0 = j0 + j1;
 m->g0 = j0;
 return;
-l2:;
+}
 fio2070_trap();
-return;
 }
 static void fio_log_found_next_words(struct machine *m, uint64_t v0, uint64_t v1, uint64_t v2, uint64_t v3, uint64_t v4, uint64_t v5, uint32_t v6, uint32_t v7, uint64_t v8)
 {
@@ -52850,7 +54215,7 @@ j0 = v9;
 v9 = j0;
 j1 = UINT64_C(16);
 i0 = (SIGNED64(j0) < SIGNED64(j1));
-if (i0) { goto l3; }
+if (!i0) {
 j0 = v9;
 j1 = UINT64_C(0);
 store64(p1 + 48, j1);
@@ -52877,7 +54242,7 @@ i1 = UINT32_C(255);
 i0 = i0 & i1;
 i1 = UINT32_C(8);
 i0 = (i0 > i1);
-if (i0) { goto l5; }
+if (!i0) {
 j0 = v9;
 j1 = UINT64_C(0);
 store64(p1 + 152, j1);
@@ -53015,7 +54380,7 @@ j0 = j0 + j1;
 j1 = v4;
 store64(p2 + 40, j1);
 goto l2;
-l5:;
+}
 j0 = v0;
 j1 = UINT64_C(0);
 p3 = write_at(j0, m, 48u);
@@ -53054,7 +54419,7 @@ j0 = v9;
 i0 = load8(p1 + 0);
 i1 = UINT32_C(1);
 i0 = (i0 != i1);
-if (i0) { goto l6; }
+if (!i0) {
 j0 = v9;
 j0 = load64(p1 + 8);
 v3 = j0;
@@ -53119,7 +54484,7 @@ j0 = j0 + j1;
 j1 = v4;
 store64(p4 + 40, j1);
 goto l2;
-l6:;
+}
 j0 = v0;
 j1 = UINT64_C(0);
 p5 = write_at(j0, m, 48u);
@@ -53140,14 +54505,13 @@ j0 = v0;
 j1 = UINT64_C(0);
 store64(p5 + 0, j1);
 goto l2;
-l3:;
+}
 fio2070_trap();
 l2:;
 j0 = v9;
 j1 = UINT64_C(160);
 j0 = j0 + j1;
 m->g0 = j0;
-return;
 }
 static void fio_log_sayings_read_saying(struct machine *m, uint64_t v0, uint64_t v1, uint64_t v2)
 {
@@ -53193,7 +54557,7 @@ j0 = v3;
 v4 = j0;
 j1 = UINT64_C(16);
 i0 = (SIGNED64(j0) < SIGNED64(j1));
-if (i0) { goto l3; }
+if (!i0) {
 j0 = UINT64_C(0);
 v5 = j0;
 j0 = v4;
@@ -53211,7 +54575,7 @@ store64(p1 + 0, j1);
 j0 = v2;
 i0 = (j0 == 0);
 v6 = i0;
-if (i0) { goto l4; }
+if (!i0) {
 j0 = UINT64_C(0);
 v5 = j0;
 l5:;
@@ -53232,6 +54596,7 @@ i0 = (j0 != j1);
 if (i0) { goto l5; }
 j0 = v2;
 v5 = j0;
+}
 l4:;
 j0 = v5;
 j1 = UINT64_C(4);
@@ -53265,7 +54630,7 @@ store64(p1 + 32, j1);
 j0 = v10;
 j1 = v7;
 i0 = (j0 <= j1);
-if (i0) { goto l10; }
+if (!i0) {
 j0 = v4;
 j1 = UINT64_C(32);
 j0 = j0 + j1;
@@ -53279,7 +54644,7 @@ j2 = j2 - j3;
 fio_log_sayings_spelled(m, j0, j1, j2);
 j0 = v4;
 i0 = load8(p1 + 32);
-if (i0) { goto l10; }
+if (!i0) {
 j0 = v1;
 j1 = v10;
 j0 = j0 + j1;
@@ -53301,7 +54666,7 @@ v13 = i0;
 j0 = v11;
 j1 = v5;
 i0 = (j0 == j1);
-if (i0) { goto l11; }
+if (!i0) {
 j0 = v10;
 j1 = UINT64_C(18446744073709551614);
 j0 = j0 + j1;
@@ -53310,7 +54675,7 @@ i0 = UINT32_C(65535);
 v13 = i0;
 j0 = v5;
 v3 = j0;
-l12:;
+for (;;) {
 i0 = v13;
 i1 = UINT32_C(255);
 i0 = i0 & i1;
@@ -53351,12 +54716,13 @@ j2 = UINT64_C(1);
 j1 = j1 + j2;
 v3 = j1;
 i0 = (j0 != j1);
-if (i0) { goto l12; }
+if (!i0) break;
+}
 i0 = v13;
 i1 = UINT32_C(4294967295);
 i0 = i0 ^ i1;
 v13 = i0;
-l11:;
+}
 i0 = v12;
 i1 = UINT32_C(65535);
 i0 = i0 & i1;
@@ -53365,7 +54731,8 @@ i2 = UINT32_C(65535);
 i1 = i1 & i2;
 i0 = (i0 == i1);
 if (i0) { goto l7; }
-l10:;
+}
+}
 j0 = v1;
 j1 = v10;
 j2 = UINT64_C(18446744073709551615);
@@ -53391,7 +54758,7 @@ j0 = v4;
 i0 = load8(p1 + 8);
 i1 = UINT32_C(3);
 i0 = (i0 != i1);
-if (i0) { goto l14; }
+if (!i0) {
 j0 = UINT64_C(1);
 v3 = j0;
 j0 = v4;
@@ -53400,7 +54767,7 @@ v1 = j0;
 j1 = v2;
 i0 = (j0 > j1);
 if (i0) { goto l13; }
-l14:;
+}
 j0 = v2;
 j1 = UINT64_C(1);
 j0 = j0 + j1;
@@ -53462,28 +54829,29 @@ store64(p8 + 8, j1);
 goto l2;
 l6:;
 i0 = v6;
-if (i0) { goto l16; }
+if (!i0) {
 j0 = v1;
 p9 = read_at(j0, m, 1u);
 i0 = load8(p9 + 0);
 v13 = i0;
 i1 = UINT32_C(182);
 i0 = (i0 != i1);
-if (i0) { goto l17; }
+if (!i0) {
 i0 = UINT32_C(1);
 v13 = i0;
 goto l15;
-l17:;
+}
 i0 = v13;
 i1 = UINT32_C(51);
 i0 = (i0 != i1);
-if (i0) { goto l16; }
+if (!i0) {
 j0 = v2;
 j1 = UINT64_C(2);
 i0 = (j0 > j1);
 v13 = i0;
 goto l15;
-l16:;
+}
+}
 i0 = UINT32_C(0);
 v13 = i0;
 l15:;
@@ -53507,14 +54875,13 @@ j0 = j0 + j1;
 j1 = UINT64_C(0);
 store64(p10 + 8, j1);
 goto l2;
-l3:;
+}
 fio2070_trap();
 l2:;
 j0 = v4;
 j1 = UINT64_C(64);
 j0 = j0 + j1;
 m->g0 = j0;
-return;
 }
 static void fio_log_line_runs_keep_run(struct machine *m, uint64_t v0, uint64_t v1, uint64_t v2, uint64_t v3, uint64_t v4, uint64_t v5, uint64_t v6)
 {
@@ -53636,7 +55003,7 @@ j0 = v7;
 v8 = j0;
 j1 = UINT64_C(16);
 i0 = (SIGNED64(j0) < SIGNED64(j1));
-if (i0) { goto l5; }
+if (!i0) {
 j0 = v2;
 p2 = read_at(j0, m, 40u);
 i0 = load8(p2 + 25);
@@ -53705,14 +55072,14 @@ p4 = read_at(j0, m, 8u);
 j0 = load64(p4 + 0);
 j1 = UINT64_C(8);
 i0 = (j0 != j1);
-if (i0) { goto l6; }
+if (!i0) {
 j0 = v6;
 p5 = read_at(j0, m, 8u);
 j0 = load64(p5 + 0);
 v2 = j0;
 j1 = v17;
 i0 = (j0 < j1);
-if (i0) { goto l7; }
+if (!i0) {
 j0 = v16;
 j1 = v6;
 j2 = UINT64_C(8);
@@ -53721,11 +55088,11 @@ p6 = read_at(j1, m, 8u);
 j1 = load64(p6 + 0);
 i0 = (j0 >= j1);
 v18 = i0;
-l7:;
+}
 j0 = v2;
 j1 = v17;
 i0 = (j0 > j1);
-if (i0) { goto l9; }
+if (!i0) {
 i0 = v18;
 i1 = UINT32_C(4294967295);
 i0 = i0 ^ i1;
@@ -53738,11 +55105,12 @@ j2 = load64(p7 + 0);
 i1 = (j1 <= j2);
 i0 = i0 & i1;
 i0 = (i0 == 0);
-if (i0) { goto l9; }
+if (!i0) {
 i0 = UINT32_C(0);
 v18 = i0;
 goto l8;
-l9:;
+}
+}
 i0 = UINT32_C(0);
 v18 = i0;
 j0 = v6;
@@ -53753,7 +55121,7 @@ j0 = load64(p8 + 0);
 v2 = j0;
 j1 = v17;
 i0 = (j0 < j1);
-if (i0) { goto l10; }
+if (!i0) {
 j0 = v16;
 j1 = v6;
 j2 = UINT64_C(944);
@@ -53762,11 +55130,11 @@ p9 = read_at(j1, m, 8u);
 j1 = load64(p9 + 0);
 i0 = (j0 >= j1);
 v18 = i0;
-l10:;
+}
 j0 = v2;
 j1 = v17;
 i0 = (j0 > j1);
-if (i0) { goto l11; }
+if (!i0) {
 i0 = v18;
 i1 = UINT32_C(4294967295);
 i0 = i0 ^ i1;
@@ -53779,11 +55147,12 @@ j2 = load64(p10 + 0);
 i1 = (j1 <= j2);
 i0 = i0 & i1;
 i0 = (i0 == 0);
-if (i0) { goto l11; }
+if (!i0) {
 i0 = UINT32_C(0);
 v18 = i0;
 goto l8;
-l11:;
+}
+}
 i0 = UINT32_C(0);
 v18 = i0;
 j0 = v6;
@@ -53794,7 +55163,7 @@ j0 = load64(p11 + 0);
 v2 = j0;
 j1 = v17;
 i0 = (j0 < j1);
-if (i0) { goto l12; }
+if (!i0) {
 j0 = v16;
 j1 = v6;
 j2 = UINT64_C(1880);
@@ -53803,11 +55172,11 @@ p12 = read_at(j1, m, 8u);
 j1 = load64(p12 + 0);
 i0 = (j0 >= j1);
 v18 = i0;
-l12:;
+}
 j0 = v2;
 j1 = v17;
 i0 = (j0 > j1);
-if (i0) { goto l13; }
+if (!i0) {
 i0 = v18;
 i1 = UINT32_C(4294967295);
 i0 = i0 ^ i1;
@@ -53820,11 +55189,12 @@ j2 = load64(p13 + 0);
 i1 = (j1 <= j2);
 i0 = i0 & i1;
 i0 = (i0 == 0);
-if (i0) { goto l13; }
+if (!i0) {
 i0 = UINT32_C(0);
 v18 = i0;
 goto l8;
-l13:;
+}
+}
 i0 = UINT32_C(0);
 v18 = i0;
 j0 = v6;
@@ -53835,7 +55205,7 @@ j0 = load64(p14 + 0);
 v2 = j0;
 j1 = v17;
 i0 = (j0 < j1);
-if (i0) { goto l14; }
+if (!i0) {
 j0 = v16;
 j1 = v6;
 j2 = UINT64_C(2816);
@@ -53844,11 +55214,11 @@ p15 = read_at(j1, m, 8u);
 j1 = load64(p15 + 0);
 i0 = (j0 >= j1);
 v18 = i0;
-l14:;
+}
 j0 = v2;
 j1 = v17;
 i0 = (j0 > j1);
-if (i0) { goto l15; }
+if (!i0) {
 i0 = v18;
 i1 = UINT32_C(4294967295);
 i0 = i0 ^ i1;
@@ -53861,11 +55231,12 @@ j2 = load64(p16 + 0);
 i1 = (j1 <= j2);
 i0 = i0 & i1;
 i0 = (i0 == 0);
-if (i0) { goto l15; }
+if (!i0) {
 i0 = UINT32_C(0);
 v18 = i0;
 goto l8;
-l15:;
+}
+}
 i0 = UINT32_C(0);
 v18 = i0;
 j0 = v6;
@@ -53876,7 +55247,7 @@ j0 = load64(p17 + 0);
 v2 = j0;
 j1 = v17;
 i0 = (j0 < j1);
-if (i0) { goto l16; }
+if (!i0) {
 j0 = v16;
 j1 = v6;
 j2 = UINT64_C(3752);
@@ -53885,11 +55256,11 @@ p18 = read_at(j1, m, 8u);
 j1 = load64(p18 + 0);
 i0 = (j0 >= j1);
 v18 = i0;
-l16:;
+}
 j0 = v2;
 j1 = v17;
 i0 = (j0 > j1);
-if (i0) { goto l17; }
+if (!i0) {
 i0 = v18;
 i1 = UINT32_C(4294967295);
 i0 = i0 ^ i1;
@@ -53902,11 +55273,12 @@ j2 = load64(p19 + 0);
 i1 = (j1 <= j2);
 i0 = i0 & i1;
 i0 = (i0 == 0);
-if (i0) { goto l17; }
+if (!i0) {
 i0 = UINT32_C(0);
 v18 = i0;
 goto l8;
-l17:;
+}
+}
 i0 = UINT32_C(0);
 v18 = i0;
 j0 = v6;
@@ -53917,7 +55289,7 @@ j0 = load64(p20 + 0);
 v2 = j0;
 j1 = v17;
 i0 = (j0 < j1);
-if (i0) { goto l18; }
+if (!i0) {
 j0 = v16;
 j1 = v6;
 j2 = UINT64_C(4688);
@@ -53926,11 +55298,11 @@ p21 = read_at(j1, m, 8u);
 j1 = load64(p21 + 0);
 i0 = (j0 >= j1);
 v18 = i0;
-l18:;
+}
 j0 = v2;
 j1 = v17;
 i0 = (j0 > j1);
-if (i0) { goto l19; }
+if (!i0) {
 i0 = v18;
 i1 = UINT32_C(4294967295);
 i0 = i0 ^ i1;
@@ -53943,11 +55315,12 @@ j2 = load64(p22 + 0);
 i1 = (j1 <= j2);
 i0 = i0 & i1;
 i0 = (i0 == 0);
-if (i0) { goto l19; }
+if (!i0) {
 i0 = UINT32_C(0);
 v18 = i0;
 goto l8;
-l19:;
+}
+}
 i0 = UINT32_C(0);
 v18 = i0;
 j0 = v6;
@@ -53958,7 +55331,7 @@ j0 = load64(p23 + 0);
 v2 = j0;
 j1 = v17;
 i0 = (j0 < j1);
-if (i0) { goto l20; }
+if (!i0) {
 j0 = v16;
 j1 = v6;
 j2 = UINT64_C(5624);
@@ -53967,11 +55340,11 @@ p24 = read_at(j1, m, 8u);
 j1 = load64(p24 + 0);
 i0 = (j0 >= j1);
 v18 = i0;
-l20:;
+}
 j0 = v2;
 j1 = v17;
 i0 = (j0 > j1);
-if (i0) { goto l21; }
+if (!i0) {
 i0 = v18;
 i1 = UINT32_C(4294967295);
 i0 = i0 ^ i1;
@@ -53984,11 +55357,12 @@ j2 = load64(p25 + 0);
 i1 = (j1 <= j2);
 i0 = i0 & i1;
 i0 = (i0 == 0);
-if (i0) { goto l21; }
+if (!i0) {
 i0 = UINT32_C(0);
 v18 = i0;
 goto l8;
-l21:;
+}
+}
 i0 = UINT32_C(0);
 v18 = i0;
 j0 = v6;
@@ -53999,7 +55373,7 @@ j0 = load64(p26 + 0);
 v2 = j0;
 j1 = v17;
 i0 = (j0 < j1);
-if (i0) { goto l22; }
+if (!i0) {
 j0 = v16;
 j1 = v6;
 j2 = UINT64_C(6560);
@@ -54008,11 +55382,11 @@ p27 = read_at(j1, m, 8u);
 j1 = load64(p27 + 0);
 i0 = (j0 >= j1);
 v18 = i0;
-l22:;
+}
 j0 = v2;
 j1 = v17;
 i0 = (j0 > j1);
-if (i0) { goto l23; }
+if (!i0) {
 i0 = v18;
 i1 = UINT32_C(4294967295);
 i0 = i0 ^ i1;
@@ -54025,11 +55399,12 @@ j2 = load64(p28 + 0);
 i1 = (j1 <= j2);
 i0 = i0 & i1;
 i0 = (i0 == 0);
-if (i0) { goto l23; }
+if (!i0) {
 i0 = UINT32_C(0);
 v18 = i0;
 goto l8;
-l23:;
+}
+}
 i0 = UINT32_C(1);
 v18 = i0;
 l8:;
@@ -54044,7 +55419,7 @@ i2 = load8(p29 + 0);
 i1 = i1 | i2;
 store8(p29 + 0, i1);
 goto l2;
-l6:;
+}
 j0 = v5;
 j1 = UINT64_C(16);
 j0 = j0 + j1;
@@ -54061,7 +55436,7 @@ v19 = j1;
 j1 = load64(p30 + 48);
 v7 = j1;
 i0 = (j0 >= j1);
-if (i0) { goto l24; }
+if (!i0) {
 j0 = UINT64_C(0);
 v7 = j0;
 j0 = v5;
@@ -54086,7 +55461,7 @@ store64(p31 + 0, j1);
 j0 = v19;
 j1 = UINT64_C(0);
 store64(p31 + 32, j1);
-l24:;
+}
 j0 = v5;
 j0 = load64(p30 + 8);
 v20 = j0;
@@ -54099,23 +55474,23 @@ i3 = (j3 < j4);
 j1 = i3 ? j1 : j2;
 v19 = j1;
 i0 = (j0 >= j1);
-if (i0) { goto l26; }
+if (!i0) {
 j0 = v7;
 v19 = j0;
 goto l25;
-l26:;
+}
 j0 = v19;
 j1 = v7;
 i0 = (j0 >= j1);
-if (i0) { goto l27; }
+if (!i0) {
 j0 = v7;
 v19 = j0;
 goto l25;
-l27:;
+}
 j0 = v19;
 j1 = v7;
 i0 = (j0 == j1);
-if (i0) { goto l28; }
+if (!i0) {
 j0 = v0;
 j1 = v7;
 j0 = j0 + j1;
@@ -54141,7 +55516,7 @@ v7 = j0;
 j1 = UINT64_C(0);
 i0 = (j0 != j1);
 if (i0) { goto l29; }
-l28:;
+}
 j0 = v5;
 j1 = UINT64_C(48);
 j0 = j0 + j1;
@@ -54158,21 +55533,21 @@ i3 = (j3 < j4);
 j1 = i3 ? j1 : j2;
 v2 = j1;
 i0 = (j0 >= j1);
-if (i0) { goto l30; }
+if (!i0) {
 j0 = v5;
 j1 = UINT64_C(40);
 j0 = j0 + j1;
 i0 = load8(p30 + 40);
 i1 = UINT32_C(1);
 i0 = (i0 != i1);
-if (i0) { goto l32; }
+if (!i0) {
 j0 = v5;
 j1 = UINT64_C(32);
 j0 = j0 + j1;
 j0 = load64(p30 + 32);
 v7 = j0;
 goto l31;
-l32:;
+}
 j0 = v5;
 j1 = UINT64_C(16);
 j0 = j0 + j1;
@@ -54186,7 +55561,7 @@ v20 = j0;
 i0 = load8(p30 + 42);
 i1 = UINT32_C(1);
 i0 = (i0 != i1);
-if (i0) { goto l33; }
+if (!i0) {
 j0 = v20;
 i1 = UINT32_C(0);
 p34 = write_at(j0 + UINT64_C(18446744073709551590), m, 27u);
@@ -54210,7 +55585,7 @@ j1 = j1 ^ j2;
 j2 = UINT64_C(1099511628211);
 j1 = j1 * j2;
 store64(p34 + 8, j1);
-l33:;
+}
 j0 = v5;
 j1 = UINT64_C(43);
 j0 = j0 + j1;
@@ -54245,19 +55620,19 @@ j1 = j1 * j2;
 store64(p36 + 0, j1);
 j0 = v2;
 v19 = j0;
-l30:;
+}
 j0 = v1;
 j1 = v17;
 i0 = (j0 < j1);
-if (i0) { goto l34; }
+if (!i0) {
 j0 = v17;
 j1 = v19;
 i0 = (j0 < j1);
-if (i0) { goto l34; }
+if (!i0) {
 j0 = v17;
 j1 = v19;
 i0 = (j0 == j1);
-if (i0) { goto l35; }
+if (!i0) {
 j0 = v17;
 j1 = v19;
 j0 = j0 - j1;
@@ -54283,14 +55658,15 @@ v7 = j0;
 j1 = UINT64_C(0);
 i0 = (j0 != j1);
 if (i0) { goto l36; }
-l35:;
+}
 j0 = v5;
 j1 = UINT64_C(48);
 j0 = j0 + j1;
 j1 = v17;
 p38 = write_at(j0, m, 8u);
 store64(p38 + 0, j1);
-l34:;
+}
+}
 j0 = v4;
 j1 = UINT64_C(784);
 j0 = j0 + j1;
@@ -54349,12 +55725,12 @@ i0 = v27;
 i1 = UINT32_C(1);
 i0 = i0 & i1;
 i0 = (i0 == 0);
-if (i0) { goto l37; }
+if (!i0) {
 i0 = v25;
 i1 = UINT32_C(1);
 i0 = i0 & i1;
 i0 = (i0 == 0);
-if (i0) { goto l38; }
+if (!i0) {
 j0 = v23;
 j1 = UINT64_C(48);
 j0 = j0 ^ j1;
@@ -54362,13 +55738,14 @@ j1 = UINT64_C(1099511628211);
 j0 = j0 * j1;
 v23 = j0;
 goto l37;
-l38:;
+}
 j0 = v23;
 j1 = UINT64_C(97);
 j0 = j0 ^ j1;
 j1 = UINT64_C(1099511628211);
 j0 = j0 * j1;
 v23 = j0;
+}
 l37:;
 i0 = v9;
 j0 = (uint64_t)i0;
@@ -54394,7 +55771,7 @@ store64(p1 + 1680, j1);
 j0 = v17;
 j1 = UINT64_C(0);
 i0 = (j0 != j1);
-if (i0) { goto l39; }
+if (!i0) {
 j0 = v8;
 j1 = UINT64_C(0);
 store64(p1 + 1656, j1);
@@ -54408,7 +55785,7 @@ j0 = v8;
 j1 = UINT64_C(0);
 store64(p1 + 1632, j1);
 goto l4;
-l39:;
+}
 j0 = UINT64_C(0);
 v5 = j0;
 j0 = UINT64_C(0);
@@ -54435,12 +55812,12 @@ v5 = j0;
 j0 = v30;
 j1 = v2;
 i0 = (j0 > j1);
-if (i0) { goto l45; }
+if (!i0) {
 j0 = v2;
 j1 = v29;
 i0 = (j0 < j1);
 if (i0) { goto l44; }
-l45:;
+}
 j0 = v0;
 j1 = v2;
 j0 = j0 + j1;
@@ -54457,7 +55834,7 @@ if (i0) { goto l43; }
 i0 = v18;
 i1 = UINT32_C(48);
 i0 = (i0 < i1);
-if (i0) { goto l44; }
+if (!i0) {
 i0 = v18;
 i1 = UINT32_C(58);
 i0 = (i0 < i1);
@@ -54465,7 +55842,7 @@ if (i0) { goto l43; }
 i0 = v18;
 i1 = UINT32_C(65);
 i0 = (i0 < i1);
-if (i0) { goto l44; }
+if (!i0) {
 i0 = v18;
 i1 = UINT32_C(91);
 i0 = (i0 < i1);
@@ -54473,12 +55850,15 @@ if (i0) { goto l43; }
 i0 = v18;
 i1 = UINT32_C(97);
 i0 = (i0 < i1);
-if (i0) { goto l44; }
+if (!i0) {
 i0 = v18;
 i0 = (uint32_t)extend(i0 & 255, 7);
 i1 = UINT32_C(123);
 i0 = (SIGNED32(i0) < SIGNED32(i1));
 if (i0) { goto l43; }
+}
+}
+}
 l44:;
 j0 = v5;
 j1 = v17;
@@ -54489,7 +55869,7 @@ l43:;
 j0 = v5;
 j1 = v17;
 i0 = (j0 >= j1);
-if (i0) { goto l48; }
+if (!i0) {
 j0 = v30;
 j1 = v5;
 i0 = (j0 > j1);
@@ -54498,7 +55878,7 @@ j2 = v29;
 i1 = (j1 >= j2);
 i0 = i0 | i1;
 i0 = (i0 == 0);
-if (i0) { goto l48; }
+if (!i0) {
 j0 = v0;
 j1 = v5;
 j0 = j0 + j1;
@@ -54515,7 +55895,7 @@ if (i0) { goto l46; }
 i0 = v18;
 i1 = UINT32_C(48);
 i0 = (i0 < i1);
-if (i0) { goto l48; }
+if (!i0) {
 i0 = v18;
 i1 = UINT32_C(58);
 i0 = (i0 < i1);
@@ -54523,7 +55903,7 @@ if (i0) { goto l46; }
 i0 = v18;
 i1 = UINT32_C(65);
 i0 = (i0 < i1);
-if (i0) { goto l48; }
+if (!i0) {
 i0 = v18;
 i1 = UINT32_C(91);
 i0 = (i0 < i1);
@@ -54542,7 +55922,10 @@ j1 = UINT64_C(4);
 i0 = (j0 < j1);
 if (i0) { goto l47; }
 goto l46;
-l48:;
+}
+}
+}
+}
 j0 = v31;
 j1 = UINT64_C(3);
 i0 = (j0 > j1);
@@ -54551,7 +55934,7 @@ l47:;
 j0 = v2;
 j1 = v32;
 i0 = (j0 < j1);
-if (i0) { goto l46; }
+if (!i0) {
 j0 = UINT64_C(65536);
 j1 = v33;
 j2 = v5;
@@ -54571,7 +55954,7 @@ i3 = (j3 < j4);
 j1 = i3 ? j1 : j2;
 v7 = j1;
 i0 = (j0 != j1);
-if (i0) { goto l51; }
+if (!i0) {
 i0 = UINT32_C(0);
 v37 = i0;
 j0 = UINT64_C(14695981039346656037);
@@ -54579,7 +55962,7 @@ v3 = j0;
 j0 = UINT64_C(0);
 v2 = j0;
 goto l50;
-l51:;
+}
 j0 = UINT64_C(0);
 j1 = v35;
 j2 = v32;
@@ -54604,7 +55987,7 @@ i0 = UINT32_C(0);
 v37 = i0;
 j0 = UINT64_C(14695981039346656037);
 v3 = j0;
-l52:;
+for (;;) {
 j0 = v3;
 j1 = v19;
 j2 = v2;
@@ -54677,7 +56060,8 @@ j2 = UINT64_C(2);
 j1 = j1 + j2;
 v2 = j1;
 i0 = (j0 != j1);
-if (i0) { goto l52; }
+if (!i0) break;
+}
 j0 = v38;
 i0 = (j0 == 0);
 if (i0) { goto l49; }
@@ -54722,11 +56106,11 @@ i0 = v37;
 i1 = UINT32_C(1);
 i0 = i0 & i1;
 i0 = (i0 == 0);
-if (i0) { goto l46; }
+if (!i0) {
 j0 = v21;
 j1 = UINT64_C(2);
 i0 = (j0 < j1);
-if (i0) { goto l54; }
+if (!i0) {
 j0 = v19;
 j1 = UINT64_C(0);
 j2 = v5;
@@ -54748,13 +56132,13 @@ i1 = UINT32_C(32);
 i0 = i0 | i1;
 i1 = UINT32_C(98);
 i0 = (i0 != i1);
-if (i0) { goto l55; }
+if (!i0) {
 j0 = v2;
 v7 = j0;
 j0 = v2;
 i0 = (j0 == 0);
 if (i0) { goto l54; }
-l55:;
+}
 j0 = UINT64_C(0);
 v2 = j0;
 l56:;
@@ -54807,6 +56191,7 @@ j0 = v2;
 j1 = v21;
 i0 = (j0 == j1);
 if (i0) { goto l53; }
+}
 l54:;
 j0 = v3;
 v20 = j0;
@@ -54825,6 +56210,8 @@ j0 = v31;
 j1 = UINT64_C(1);
 j0 = j0 + j1;
 v31 = j0;
+}
+}
 l46:;
 j0 = v35;
 j1 = UINT64_C(1);
@@ -54874,11 +56261,11 @@ i0 = load8(p47 + 0);
 v39 = i0;
 i1 = UINT32_C(95);
 i0 = (i0 == i1);
-if (i0) { goto l60; }
+if (!i0) {
 i0 = v39;
 i1 = UINT32_C(48);
 i0 = (i0 < i1);
-if (i0) { goto l61; }
+if (!i0) {
 i0 = v39;
 i1 = UINT32_C(58);
 i0 = (i0 < i1);
@@ -54901,11 +56288,12 @@ i1 = UINT32_C(122);
 i0 = (SIGNED32(i0) <= SIGNED32(i1));
 if (i0) { goto l60; }
 goto l59;
-l61:;
+}
 i0 = v39;
 i1 = UINT32_C(46);
 i0 = (i0 != i1);
 if (i0) { goto l59; }
+}
 l60:;
 j0 = v2;
 j1 = UINT64_C(1);
@@ -54916,15 +56304,16 @@ l59:;
 j0 = v30;
 j1 = v2;
 i0 = (j0 > j1);
-if (i0) { goto l62; }
+if (!i0) {
 j0 = v2;
 j1 = v29;
 i0 = (j0 >= j1);
-if (i0) { goto l62; }
+if (!i0) {
 j0 = v29;
 v2 = j0;
 goto l58;
-l62:;
+}
+}
 j0 = v2;
 j1 = v7;
 i0 = (j0 < j1);
@@ -54935,7 +56324,7 @@ v37 = i0;
 j0 = v2;
 j1 = v7;
 i0 = (j0 <= j1);
-if (i0) { goto l65; }
+if (!i0) {
 j0 = UINT64_C(0);
 j1 = v0;
 j2 = v7;
@@ -54999,7 +56388,7 @@ j1 = j1 + j2;
 p49 = read_at(j1, m, 8u);
 j1 = load64(p49 + 0);
 i0 = (j0 != j1);
-if (i0) { goto l70; }
+if (!i0) {
 j0 = v5;
 j1 = UINT64_C(65544);
 j0 = j0 + j1;
@@ -55051,7 +56440,7 @@ i2 = UINT32_C(255);
 i1 = i1 & i2;
 i0 = (i0 == i1);
 if (i0) { goto l71; }
-l70:;
+}
 j0 = v19;
 j1 = UINT64_C(1);
 j0 = j0 + j1;
@@ -55099,6 +56488,7 @@ goto l65;
 l66:;
 i0 = UINT32_C(1);
 v18 = i0;
+}
 l65:;
 j0 = v2;
 j1 = UINT64_C(1);
@@ -55151,13 +56541,13 @@ j3 = v5;
 i2 = (j2 != j3);
 i1 = i1 & i2;
 i0 = i0 | i1;
-if (i0) { goto l74; }
+if (!i0) {
 j0 = v5;
 v20 = j0;
 j0 = v2;
 v7 = j0;
 goto l58;
-l74:;
+}
 i0 = UINT32_C(0);
 v41 = i0;
 goto l3;
@@ -55196,13 +56586,13 @@ v5 = j0;
 j0 = v17;
 j1 = v7;
 i0 = (j0 > j1);
-if (i0) { goto l76; }
+if (!i0) {
 j0 = v20;
 v19 = j0;
 i0 = UINT32_C(0);
 v39 = i0;
 goto l75;
-l76:;
+}
 l79:;
 j0 = v2;
 p53 = read_at(j0, m, 1u);
@@ -55247,7 +56637,7 @@ j1 = j1 + j2;
 p54 = read_at(j1, m, 8u);
 j1 = load64(p54 + 0);
 i0 = (j0 != j1);
-if (i0) { goto l81; }
+if (!i0) {
 j0 = v2;
 j1 = UINT64_C(65544);
 j0 = j0 + j1;
@@ -55299,7 +56689,7 @@ i2 = UINT32_C(255);
 i1 = i1 & i2;
 i0 = (i0 == i1);
 if (i0) { goto l82; }
-l81:;
+}
 j0 = v19;
 j1 = UINT64_C(1);
 j0 = j0 + j1;
@@ -55337,27 +56727,27 @@ i1 = UINT32_C(255);
 i0 = i0 & i1;
 i1 = UINT32_C(1);
 i0 = (i0 == i1);
-if (i0) { goto l83; }
+if (!i0) {
 i0 = UINT32_C(0);
 v18 = i0;
 goto l3;
-l83:;
+}
 i0 = v39;
 i0 = (i0 == 0);
-if (i0) { goto l84; }
+if (!i0) {
 i0 = UINT32_C(0);
 v18 = i0;
 goto l3;
-l84:;
+}
 i0 = v18;
 i1 = UINT32_C(1);
 i0 = i0 & i1;
 i0 = (i0 == 0);
-if (i0) { goto l85; }
+if (!i0) {
 i0 = UINT32_C(0);
 v18 = i0;
 goto l3;
-l85:;
+}
 i0 = UINT32_C(0);
 v18 = i0;
 j0 = v19;
@@ -55375,7 +56765,7 @@ v41 = i0;
 i0 = UINT32_C(1);
 v18 = i0;
 goto l3;
-l5:;
+}
 fio2070_trap();
 l4:;
 i0 = UINT32_C(0);
@@ -55408,22 +56798,23 @@ v42 = i0;
 i0 = v27;
 i1 = UINT32_C(1);
 i0 = i0 & i1;
-if (i0) { goto l87; }
+if (!i0) {
 j0 = v22;
 v24 = j0;
 goto l86;
-l87:;
+}
 i0 = v25;
 i1 = UINT32_C(1);
 i0 = i0 & i1;
 i0 = (i0 == 0);
-if (i0) { goto l86; }
+if (!i0) {
 j0 = v22;
 j1 = UINT64_C(48);
 j0 = j0 ^ j1;
 j1 = UINT64_C(1099511628211);
 j0 = j0 * j1;
 v24 = j0;
+}
 l86:;
 j0 = v8;
 j1 = v8;
@@ -55599,7 +56990,6 @@ j0 = v8;
 j1 = UINT64_C(1712);
 j0 = j0 + j1;
 m->g0 = j0;
-return;
 }
 static void fio_log_patterns_read_plain(struct machine *m, uint64_t v0, uint64_t v1, uint64_t v2, uint64_t v3)
 {
@@ -55645,11 +57035,11 @@ j0 = v4;
 v5 = j0;
 j1 = UINT64_C(16);
 i0 = (SIGNED64(j0) < SIGNED64(j1));
-if (i0) { goto l5; }
+if (!i0) {
 j0 = v2;
 j1 = UINT64_C(2);
 i0 = (j0 > j1);
-if (i0) { goto l7; }
+if (!i0) {
 i0 = UINT32_C(0);
 v6 = i0;
 j0 = UINT64_C(0);
@@ -55661,7 +57051,7 @@ j1 = UINT64_C(2);
 i0 = (j0 == j1);
 if (i0) { goto l6; }
 goto l2;
-l7:;
+}
 j0 = v1;
 p2 = read_at(j0 + UINT64_C(2), m, 1u);
 i0 = load8(p2 + 0);
@@ -55675,12 +57065,12 @@ j1 = UINT64_C(3);
 j0 = remainder64(j0, j1);
 j1 = UINT64_C(2);
 i0 = (j0 == j1);
-if (i0) { goto l8; }
+if (!i0) {
 i0 = v9;
 i1 = UINT32_C(32);
 i0 = (i0 == i1);
 if (i0) { goto l2; }
-l8:;
+}
 i0 = v9;
 i1 = UINT32_C(32);
 i0 = (i0 == i1);
@@ -55688,13 +57078,14 @@ v6 = i0;
 j0 = v2;
 j1 = UINT64_C(10);
 i0 = (j0 != j1);
-if (i0) { goto l6; }
+if (!i0) {
 j0 = v1;
 p3 = read_at(j0, m, 1u);
 i0 = load8(p3 + 0);
 i1 = UINT32_C(49);
 i0 = (i0 == i1);
 if (i0) { goto l2; }
+}
 l6:;
 j0 = v3;
 j1 = UINT64_C(784);
@@ -55704,21 +57095,21 @@ j0 = load64(p4 + 0);
 v4 = j0;
 i0 = (j0 == 0);
 v9 = i0;
-if (i0) { goto l9; }
+if (!i0) {
 i0 = v9;
-if (i0) { goto l10; }
+if (!i0) {
 j0 = v3;
 i1 = UINT32_C(0);
 j2 = v4;
 fill(m, j0, i1, j2);
-l10:;
+}
 j0 = v3;
 j1 = UINT64_C(784);
 j0 = j0 + j1;
 j1 = UINT64_C(0);
 p5 = write_at(j0, m, 8u);
 store64(p5 + 0, j1);
-l9:;
+}
 j0 = UINT64_C(0);
 v10 = j0;
 j0 = UINT64_C(0);
@@ -55744,11 +57135,11 @@ i0 = load8(p6 + 0);
 v14 = i0;
 i1 = UINT32_C(48);
 i0 = (i0 < i1);
-if (i0) { goto l12; }
+if (!i0) {
 i0 = v14;
 i1 = UINT32_C(57);
 i0 = (i0 > i1);
-if (i0) { goto l13; }
+if (!i0) {
 i0 = v14;
 i1 = UINT32_C(4294967248);
 i0 = i0 + i1;
@@ -55756,7 +57147,7 @@ v12 = i0;
 i0 = UINT32_C(1);
 v13 = i0;
 goto l12;
-l13:;
+}
 i0 = UINT32_C(0);
 v12 = i0;
 i0 = UINT32_C(0);
@@ -55764,11 +57155,11 @@ v13 = i0;
 i0 = v14;
 i1 = UINT32_C(65);
 i0 = (i0 < i1);
-if (i0) { goto l12; }
+if (!i0) {
 i0 = v14;
 i1 = UINT32_C(70);
 i0 = (i0 > i1);
-if (i0) { goto l14; }
+if (!i0) {
 i0 = v14;
 i1 = UINT32_C(4294967241);
 i0 = i0 + i1;
@@ -55776,7 +57167,7 @@ v12 = i0;
 i0 = UINT32_C(1);
 v13 = i0;
 goto l12;
-l14:;
+}
 i0 = v14;
 i1 = UINT32_C(4294967209);
 i0 = i0 + i1;
@@ -55791,6 +57182,8 @@ i2 = (i2 < i3);
 v13 = i2;
 i0 = i2 ? i0 : i1;
 v12 = i0;
+}
+}
 l12:;
 j0 = UINT64_C(0);
 v7 = j0;
@@ -55804,7 +57197,7 @@ if (i0) { goto l2; }
 i0 = v14;
 i1 = UINT32_C(57);
 i0 = (i0 > i1);
-if (i0) { goto l16; }
+if (!i0) {
 i0 = v9;
 i1 = UINT32_C(4294967248);
 i0 = i0 + i1;
@@ -55812,7 +57205,7 @@ v14 = i0;
 i0 = UINT32_C(1);
 v9 = i0;
 goto l15;
-l16:;
+}
 i0 = v9;
 i1 = UINT32_C(255);
 i0 = i0 & i1;
@@ -55823,7 +57216,7 @@ if (i0) { goto l2; }
 i0 = v14;
 i1 = UINT32_C(70);
 i0 = (i0 > i1);
-if (i0) { goto l17; }
+if (!i0) {
 i0 = v9;
 i1 = UINT32_C(4294967241);
 i0 = i0 + i1;
@@ -55831,7 +57224,7 @@ v14 = i0;
 i0 = UINT32_C(1);
 v9 = i0;
 goto l15;
-l17:;
+}
 i0 = v9;
 i1 = UINT32_C(4294967209);
 i0 = i0 + i1;
@@ -55858,7 +57251,7 @@ v11 = j0;
 j0 = v10;
 j1 = UINT64_C(780);
 i0 = (j0 == j1);
-if (i0) { goto l18; }
+if (!i0) {
 j0 = v3;
 j1 = v10;
 j0 = j0 + j1;
@@ -55878,7 +57271,7 @@ j1 = j1 + j2;
 v11 = j1;
 p8 = write_at(j0, m, 8u);
 store64(p8 + 0, j1);
-l18:;
+}
 i0 = v6;
 i1 = UINT32_C(1);
 i0 = i0 ^ i1;
@@ -55890,11 +57283,11 @@ j2 = v2;
 i1 = (j1 == j2);
 i0 = i0 | i1;
 i0 = (i0 == 0);
-if (i0) { goto l20; }
+if (!i0) {
 j0 = v10;
 v4 = j0;
 goto l19;
-l20:;
+}
 j0 = v1;
 j1 = v10;
 j0 = j0 + j1;
@@ -55936,7 +57329,7 @@ l22:;
 j0 = v4;
 j1 = v2;
 i0 = (j0 >= j1);
-if (i0) { goto l23; }
+if (!i0) {
 j0 = v1;
 j1 = v4;
 j0 = j0 + j1;
@@ -55944,11 +57337,12 @@ p10 = read_at(j0, m, 1u);
 i0 = load8(p10 + 0);
 i1 = UINT32_C(48);
 i0 = (i0 != i1);
-if (i0) { goto l23; }
+if (!i0) {
 i0 = UINT32_C(0);
 v9 = i0;
 goto l21;
-l23:;
+}
+}
 j0 = v4;
 j1 = UINT64_C(3);
 j0 = j0 + j1;
@@ -55977,7 +57371,7 @@ v14 = i0;
 j0 = UINT64_C(2);
 v10 = j0;
 goto l3;
-l5:;
+}
 fio2070_trap();
 l4:;
 j0 = v1;
@@ -56048,7 +57442,6 @@ j0 = v5;
 j1 = UINT64_C(48);
 j0 = j0 + j1;
 m->g0 = j0;
-return;
 }
 static void fio_log_patterns_Patterns_set_next(struct machine *m, uint64_t v0, uint64_t v1)
 {
@@ -56064,7 +57457,7 @@ uint8_t *p3;
 j0 = m->g0;
 j1 = UINT64_C(16);
 i0 = (SIGNED64(j0) < SIGNED64(j1));
-if (i0) { goto l2; }
+if (!i0) {
 j0 = v0;
 j1 = UINT64_C(1224);
 j0 = j0 + j1;
@@ -56077,7 +57470,7 @@ j1 = j1 + j2;
 j1 = load64(p1 + 0);
 v3 = j1;
 i0 = (j0 >= j1);
-if (i0) { goto l4; }
+if (!i0) {
 j0 = v0;
 j1 = v2;
 j2 = UINT64_C(304);
@@ -56087,11 +57480,11 @@ j1 = v1;
 j2 = UINT64_C(304);
 copy(m, j0, j1, j2);
 goto l3;
-l4:;
+}
 j0 = v3;
 j1 = UINT64_C(4);
 i0 = (j0 == j1);
-if (i0) { goto l3; }
+if (!i0) {
 j0 = v0;
 j1 = v3;
 j2 = UINT64_C(304);
@@ -56108,6 +57501,7 @@ j2 = UINT64_C(1);
 j1 = j1 + j2;
 p2 = write_at(j0, m, 8u);
 store64(p2 + 0, j1);
+}
 l3:;
 j0 = v0;
 j1 = UINT64_C(1224);
@@ -56120,9 +57514,8 @@ j1 = j1 & j2;
 p3 = write_at(j0, m, 8u);
 store64(p3 + 0, j1);
 return;
-l2:;
+}
 fio2070_trap();
-return;
 }
 static void fio_log_offsets_offset_row(struct machine *m, uint64_t v0, uint64_t v1, uint64_t v2, uint64_t v3)
 {
@@ -56193,13 +57586,13 @@ j0 = v4;
 v5 = j0;
 j1 = UINT64_C(16);
 i0 = (SIGNED64(j0) < SIGNED64(j1));
-if (i0) { goto l5; }
+if (!i0) {
 j0 = UINT64_C(0);
 v6 = j0;
 j0 = v2;
 i0 = (j0 == 0);
 v7 = i0;
-if (i0) { goto l6; }
+if (!i0) {
 l7:;
 j0 = v1;
 j1 = v6;
@@ -56209,12 +57602,12 @@ i0 = load8(p2 + 0);
 v8 = i0;
 i1 = UINT32_C(32);
 i0 = (i0 == i1);
-if (i0) { goto l8; }
+if (!i0) {
 i0 = v8;
 i1 = UINT32_C(9);
 i0 = (i0 != i1);
 if (i0) { goto l6; }
-l8:;
+}
 j0 = v2;
 j1 = v6;
 j2 = UINT64_C(1);
@@ -56224,13 +57617,14 @@ i0 = (j0 != j1);
 if (i0) { goto l7; }
 j0 = v2;
 v6 = j0;
+}
 l6:;
 j0 = v2;
 j1 = v6;
 j0 = j0 - j1;
 j1 = UINT64_C(2);
 i0 = (j0 < j1);
-if (i0) { goto l9; }
+if (!i0) {
 j0 = v1;
 j1 = v6;
 j0 = j0 + j1;
@@ -56239,7 +57633,7 @@ p3 = read_at(j0, m, 1u);
 i0 = load8(p3 + 0);
 i1 = UINT32_C(48);
 i0 = (i0 != i1);
-if (i0) { goto l9; }
+if (!i0) {
 j0 = v4;
 p4 = read_at(j0 + UINT64_C(1), m, 1u);
 i0 = load8(p4 + 0);
@@ -56247,18 +57641,20 @@ i1 = UINT32_C(32);
 i0 = i0 | i1;
 i1 = UINT32_C(120);
 i0 = (i0 != i1);
-if (i0) { goto l9; }
+if (!i0) {
 j0 = v6;
 j1 = UINT64_C(2);
 j0 = j0 + j1;
 v6 = j0;
-l9:;
+}
+}
+}
 j0 = v6;
 v4 = j0;
 j0 = v6;
 j1 = v2;
 i0 = (j0 >= j1);
-if (i0) { goto l10; }
+if (!i0) {
 j0 = v6;
 v4 = j0;
 l11:;
@@ -56274,7 +57670,7 @@ if (i0) { goto l10; }
 i0 = v8;
 i1 = UINT32_C(58);
 i0 = (i0 < i1);
-if (i0) { goto l12; }
+if (!i0) {
 i0 = v8;
 i1 = UINT32_C(65);
 i0 = (i0 < i1);
@@ -56282,7 +57678,7 @@ if (i0) { goto l10; }
 i0 = v8;
 i1 = UINT32_C(71);
 i0 = (i0 < i1);
-if (i0) { goto l12; }
+if (!i0) {
 i0 = v8;
 i1 = UINT32_C(4294967199);
 i0 = i0 + i1;
@@ -56291,7 +57687,8 @@ i0 = i0 & i1;
 i1 = UINT32_C(5);
 i0 = (i0 > i1);
 if (i0) { goto l10; }
-l12:;
+}
+}
 j0 = v2;
 j1 = v4;
 j2 = UINT64_C(1);
@@ -56300,6 +57697,7 @@ v4 = j1;
 i0 = (j0 != j1);
 if (i0) { goto l11; }
 goto l4;
+}
 l10:;
 j0 = v4;
 j1 = v2;
@@ -56320,7 +57718,7 @@ i1 = UINT32_C(58);
 i0 = (i0 == i1);
 if (i0) { goto l2; }
 goto l3;
-l5:;
+}
 fio2070_trap();
 l4:;
 i0 = v7;
@@ -56331,7 +57729,7 @@ v9 = j0;
 l13:;
 j0 = v9;
 i0 = (j0 == 0);
-if (i0) { goto l14; }
+if (!i0) {
 j0 = v1;
 j1 = v9;
 j0 = j0 + j1;
@@ -56341,7 +57739,7 @@ p7 = read_at(j0, m, 1u);
 i0 = load8(p7 + 0);
 i1 = UINT32_C(32);
 i0 = (i0 != i1);
-if (i0) { goto l14; }
+if (!i0) {
 j0 = v9;
 v4 = j0;
 l16:;
@@ -56357,7 +57755,7 @@ if (i0) { goto l15; }
 i0 = v8;
 i1 = UINT32_C(58);
 i0 = (i0 < i1);
-if (i0) { goto l17; }
+if (!i0) {
 i0 = v8;
 i1 = UINT32_C(65);
 i0 = (i0 < i1);
@@ -56365,7 +57763,7 @@ if (i0) { goto l15; }
 i0 = v8;
 i1 = UINT32_C(71);
 i0 = (i0 < i1);
-if (i0) { goto l17; }
+if (!i0) {
 i0 = v8;
 i1 = UINT32_C(4294967199);
 i0 = i0 + i1;
@@ -56374,7 +57772,8 @@ i0 = i0 & i1;
 i1 = UINT32_C(5);
 i0 = (i0 > i1);
 if (i0) { goto l15; }
-l17:;
+}
+}
 j0 = v2;
 j1 = v4;
 j2 = UINT64_C(1);
@@ -56390,13 +57789,13 @@ j1 = v9;
 j0 = j0 - j1;
 j1 = UINT64_C(4);
 i0 = (j0 < j1);
-if (i0) { goto l14; }
+if (!i0) {
 j0 = v2;
 j1 = v4;
 j0 = j0 - j1;
 j1 = UINT64_C(2);
 i0 = (j0 < j1);
-if (i0) { goto l14; }
+if (!i0) {
 j0 = v1;
 j1 = v4;
 j0 = j0 + j1;
@@ -56405,17 +57804,22 @@ p9 = read_at(j0, m, 1u);
 i0 = load8(p9 + 0);
 i1 = UINT32_C(58);
 i0 = (i0 != i1);
-if (i0) { goto l14; }
+if (!i0) {
 j0 = v4;
 p10 = read_at(j0 + UINT64_C(1), m, 1u);
 i0 = load8(p10 + 0);
 i1 = UINT32_C(32);
 i0 = (i0 != i1);
-if (i0) { goto l14; }
+if (!i0) {
 j0 = v9;
 v6 = j0;
 goto l2;
-l14:;
+}
+}
+}
+}
+}
+}
 j0 = v9;
 j1 = UINT64_C(1);
 j0 = j0 + j1;
@@ -56429,7 +57833,7 @@ v10 = j0;
 j0 = v6;
 j1 = v2;
 i0 = (j0 >= j1);
-if (i0) { goto l18; }
+if (!i0) {
 j0 = v6;
 v10 = j0;
 l19:;
@@ -56445,7 +57849,7 @@ if (i0) { goto l18; }
 i0 = v8;
 i1 = UINT32_C(58);
 i0 = (i0 < i1);
-if (i0) { goto l20; }
+if (!i0) {
 i0 = v8;
 i1 = UINT32_C(65);
 i0 = (i0 < i1);
@@ -56453,7 +57857,7 @@ if (i0) { goto l18; }
 i0 = v8;
 i1 = UINT32_C(71);
 i0 = (i0 < i1);
-if (i0) { goto l20; }
+if (!i0) {
 i0 = v8;
 i1 = UINT32_C(4294967199);
 i0 = i0 + i1;
@@ -56462,7 +57866,8 @@ i0 = i0 & i1;
 i1 = UINT32_C(5);
 i0 = (i0 > i1);
 if (i0) { goto l18; }
-l20:;
+}
+}
 j0 = v2;
 j1 = v10;
 j2 = UINT64_C(1);
@@ -56472,6 +57877,7 @@ i0 = (j0 != j1);
 if (i0) { goto l19; }
 j0 = v2;
 v10 = j0;
+}
 l18:;
 j0 = v10;
 j1 = v6;
@@ -56480,13 +57886,13 @@ j1 = UINT64_C(18446744073709551599);
 j0 = j0 + j1;
 j1 = UINT64_C(18446744073709551603);
 i0 = (j0 >= j1);
-if (i0) { goto l22; }
+if (!i0) {
 j0 = v0;
 i1 = UINT32_C(0);
 j2 = UINT64_C(88);
 fill(m, j0, i1, j2);
 goto l21;
-l22:;
+}
 j0 = v6;
 v4 = j0;
 j0 = UINT64_C(0);
@@ -56500,39 +57906,39 @@ i0 = load8(p12 + 0);
 v8 = i0;
 i1 = UINT32_C(48);
 i0 = (i0 >= i1);
-if (i0) { goto l25; }
+if (!i0) {
 j0 = UINT64_C(0);
 v11 = j0;
 goto l23;
-l25:;
+}
 i0 = v8;
 i1 = UINT32_C(57);
 i0 = (i0 > i1);
-if (i0) { goto l27; }
+if (!i0) {
 i0 = v8;
 i1 = UINT32_C(4294967248);
 i0 = i0 + i1;
 v8 = i0;
 goto l26;
-l27:;
+}
 i0 = v8;
 i1 = UINT32_C(65);
 i0 = (i0 >= i1);
-if (i0) { goto l28; }
+if (!i0) {
 j0 = UINT64_C(0);
 v11 = j0;
 goto l23;
-l28:;
+}
 i0 = v8;
 i1 = UINT32_C(70);
 i0 = (i0 > i1);
-if (i0) { goto l29; }
+if (!i0) {
 i0 = v8;
 i1 = UINT32_C(4294967241);
 i0 = i0 + i1;
 v8 = i0;
 goto l26;
-l29:;
+}
 i0 = v8;
 i1 = UINT32_C(4294967199);
 i0 = i0 + i1;
@@ -56540,11 +57946,11 @@ i1 = UINT32_C(255);
 i0 = i0 & i1;
 i1 = UINT32_C(5);
 i0 = (i0 <= i1);
-if (i0) { goto l30; }
+if (!i0) {
 j0 = UINT64_C(0);
 v11 = j0;
 goto l23;
-l30:;
+}
 i0 = v8;
 i1 = UINT32_C(4294967209);
 i0 = i0 + i1;
@@ -56589,13 +57995,13 @@ i1 = UINT32_C(255);
 i0 = i0 & i1;
 i1 = UINT32_C(9);
 i0 = (i0 <= i1);
-if (i0) { goto l33; }
+if (!i0) {
 j0 = UINT64_C(0);
 v12 = j0;
 j0 = UINT64_C(0);
 v13 = j0;
 goto l31;
-l33:;
+}
 j0 = UINT64_C(18446744073709551615);
 j1 = UINT64_C(18446744073709551615);
 i2 = v8;
@@ -56642,13 +58048,13 @@ if (i0) { goto l35; }
 i0 = v8;
 i1 = UINT32_C(57);
 i0 = (i0 > i1);
-if (i0) { goto l38; }
+if (!i0) {
 i0 = v8;
 i1 = UINT32_C(4294967248);
 i0 = i0 + i1;
 v8 = i0;
 goto l37;
-l38:;
+}
 i0 = v8;
 i1 = UINT32_C(71);
 i0 = (i0 < i1);
@@ -56705,7 +58111,7 @@ l34:;
 j0 = v10;
 j1 = v2;
 i0 = (j0 >= j1);
-if (i0) { goto l41; }
+if (!i0) {
 j0 = v1;
 j1 = v10;
 j0 = j0 + j1;
@@ -56714,7 +58120,7 @@ i0 = load8(p15 + 0);
 v8 = i0;
 i1 = UINT32_C(9);
 i0 = (i0 == i1);
-if (i0) { goto l44; }
+if (!i0) {
 i0 = v8;
 i1 = UINT32_C(58);
 i0 = (i0 == i1);
@@ -56723,7 +58129,7 @@ i0 = v8;
 i1 = UINT32_C(32);
 i0 = (i0 != i1);
 if (i0) { goto l42; }
-l44:;
+}
 l45:;
 j0 = v1;
 j1 = v10;
@@ -56733,12 +58139,12 @@ i0 = load8(p16 + 0);
 v8 = i0;
 i1 = UINT32_C(32);
 i0 = (i0 == i1);
-if (i0) { goto l46; }
+if (!i0) {
 i0 = v8;
 i1 = UINT32_C(9);
 i0 = (i0 != i1);
 if (i0) { goto l41; }
-l46:;
+}
 j0 = v2;
 j1 = v10;
 j2 = UINT64_C(1);
@@ -56764,12 +58170,12 @@ i0 = load8(p17 + 0);
 v8 = i0;
 i1 = UINT32_C(32);
 i0 = (i0 == i1);
-if (i0) { goto l48; }
+if (!i0) {
 i0 = v8;
 i1 = UINT32_C(9);
 i0 = (i0 != i1);
 if (i0) { goto l41; }
-l48:;
+}
 j0 = v2;
 j1 = v10;
 j2 = UINT64_C(1);
@@ -56784,6 +58190,7 @@ i1 = UINT32_C(0);
 j2 = UINT64_C(88);
 fill(m, j0, i1, j2);
 goto l21;
+}
 l41:;
 j0 = v10;
 j1 = v2;
@@ -56941,7 +58348,7 @@ v25 = j0;
 v9 = j0;
 j0 = v25;
 i0 = (j0 == 0);
-if (i0) { goto l52; }
+if (!i0) {
 l53:;
 j0 = v4;
 p21 = read_at(j0, m, 1u);
@@ -56949,7 +58356,7 @@ i0 = load8(p21 + 0);
 v8 = i0;
 i1 = UINT32_C(63);
 i0 = (i0 > i1);
-if (i0) { goto l55; }
+if (!i0) {
 j0 = UINT64_C(1);
 i1 = v8;
 j1 = (uint64_t)i1;
@@ -56958,7 +58365,7 @@ j1 = v14;
 j0 = j0 & j1;
 v6 = j0;
 goto l54;
-l55:;
+}
 i0 = v8;
 i0 = (uint32_t)extend(i0 & 255, 7);
 i1 = UINT32_C(0);
@@ -56990,14 +58397,14 @@ v9 = j0;
 i0 = (j0 == 0);
 i0 = (i0 == 0);
 if (i0) { goto l53; }
-l52:;
+}
 j0 = v23;
 v4 = j0;
 j0 = v22;
 v9 = j0;
 j0 = v22;
 i0 = (j0 == 0);
-if (i0) { goto l56; }
+if (!i0) {
 l57:;
 j0 = v4;
 p22 = read_at(j0, m, 1u);
@@ -57005,7 +58412,7 @@ i0 = load8(p22 + 0);
 v8 = i0;
 i1 = UINT32_C(63);
 i0 = (i0 > i1);
-if (i0) { goto l59; }
+if (!i0) {
 j0 = UINT64_C(1);
 i1 = v8;
 j1 = (uint64_t)i1;
@@ -57014,7 +58421,7 @@ j1 = v14;
 j0 = j0 & j1;
 v6 = j0;
 goto l58;
-l59:;
+}
 i0 = v8;
 i0 = (uint32_t)extend(i0 & 255, 7);
 i1 = UINT32_C(0);
@@ -57046,7 +58453,7 @@ v9 = j0;
 i0 = (j0 == 0);
 i0 = (i0 == 0);
 if (i0) { goto l57; }
-l56:;
+}
 j0 = v5;
 j1 = v22;
 store64(p19 + 80, j1);
@@ -57075,18 +58482,18 @@ j0 = v5;
 i0 = load8(p19 + 88);
 i1 = UINT32_C(1);
 i0 = (i0 != i1);
-if (i0) { goto l60; }
+if (!i0) {
 j0 = v5;
 j0 = load64(p19 + 96);
 j1 = v10;
 i0 = (j0 != j1);
-if (i0) { goto l60; }
+if (!i0) {
 j0 = v21;
 j1 = v5;
 j1 = load64(p19 + 104);
 v4 = j1;
 i0 = (j0 >= j1);
-if (i0) { goto l60; }
+if (!i0) {
 j0 = v17;
 i0 = (uint32_t)j0;
 v7 = i0;
@@ -57096,7 +58503,9 @@ i0 = UINT32_C(0);
 v18 = i0;
 j0 = v4;
 v21 = j0;
-l60:;
+}
+}
+}
 j0 = v5;
 j1 = v22;
 store64(p19 + 80, j1);
@@ -57125,18 +58534,18 @@ j0 = v5;
 i0 = load8(p19 + 88);
 i1 = UINT32_C(1);
 i0 = (i0 != i1);
-if (i0) { goto l51; }
+if (!i0) {
 j0 = v5;
 j0 = load64(p19 + 96);
 j1 = v10;
 i0 = (j0 != j1);
-if (i0) { goto l51; }
+if (!i0) {
 j0 = v21;
 j1 = v5;
 j1 = load64(p19 + 104);
 v4 = j1;
 i0 = (j0 >= j1);
-if (i0) { goto l51; }
+if (!i0) {
 j0 = v17;
 i0 = (uint32_t)j0;
 v7 = i0;
@@ -57156,6 +58565,9 @@ j1 = UINT64_C(9);
 i0 = (j0 != j1);
 if (i0) { goto l50; }
 goto l49;
+}
+}
+}
 l51:;
 j0 = v17;
 j1 = UINT64_C(1);
@@ -57173,13 +58585,13 @@ i1 = v18;
 i0 = i0 | i1;
 i1 = UINT32_C(1);
 i0 = i0 & i1;
-if (i0) { goto l49; }
+if (!i0) {
 i0 = v7;
 i1 = UINT32_C(255);
 i0 = i0 & i1;
 i1 = UINT32_C(8);
 i0 = (i0 > i1);
-if (i0) { goto l49; }
+if (!i0) {
 j0 = v5;
 j1 = UINT64_C(8);
 j0 = j0 + j1;
@@ -57201,7 +58613,7 @@ j0 = v5;
 i0 = load8(p19 + 0);
 i1 = UINT32_C(1);
 i0 = (i0 != i1);
-if (i0) { goto l49; }
+if (!i0) {
 j0 = v5;
 j0 = load64(p19 + 16);
 v9 = j0;
@@ -57224,7 +58636,7 @@ j1 = UINT64_C(14695981039346656037);
 store64(p19 + 88, j1);
 j0 = v2;
 i0 = (j0 == 0);
-if (i0) { goto l61; }
+if (!i0) {
 j0 = v2;
 v4 = j0;
 l62:;
@@ -57256,24 +58668,26 @@ i0 = (uint32_t)j0;
 i1 = UINT32_C(1);
 i0 = i0 & i1;
 i0 = (i0 == 0);
-if (i0) { goto l61; }
+if (!i0) {
 j0 = v1;
 j1 = UINT64_C(256);
 j0 = j0 & j1;
 i0 = (j0 == 0);
 i0 = (i0 == 0);
-if (i0) { goto l63; }
+if (!i0) {
 j0 = v5;
 j0 = load64(p19 + 104);
 v4 = j0;
 goto l61;
-l63:;
+}
 j0 = v4;
 j1 = UINT64_C(48);
 j0 = j0 ^ j1;
 j1 = UINT64_C(1099511628211);
 j0 = j0 * j1;
 v4 = j0;
+}
+}
 l61:;
 j0 = v0;
 j1 = UINT64_C(1);
@@ -57350,6 +58764,9 @@ j0 = j0 + j1;
 i1 = UINT32_C(0);
 store32(p24 + 84, i1);
 goto l21;
+}
+}
+}
 l49:;
 j0 = v0;
 i1 = UINT32_C(0);
@@ -57360,7 +58777,6 @@ j0 = v5;
 j1 = UINT64_C(176);
 j0 = j0 + j1;
 m->g0 = j0;
-return;
 }
 static uint32_t fio_log_judge_join_is_in_step(struct machine *m, uint64_t v0, uint64_t v1, uint64_t v2)
 {
@@ -57378,22 +58794,22 @@ uint64_t j1;
 uint64_t j2;
 uint64_t j3;
 uint64_t j4;
-uint32_t r;
+uint32_t r = 0;
 uint8_t *p1;
 uint8_t *p2;
 uint8_t *p3;
 j0 = m->g0;
 j1 = UINT64_C(16);
 i0 = (SIGNED64(j0) < SIGNED64(j1));
-if (i0) { goto l5; }
+if (!i0) {
 j0 = v1;
 j1 = v0;
 i0 = (j0 >= j1);
-if (i0) { goto l6; }
+if (!i0) {
 i0 = UINT32_C(1);
 v3 = i0;
 goto l2;
-l6:;
+}
 j0 = UINT64_C(0);
 j1 = v1;
 j2 = v0;
@@ -57414,7 +58830,7 @@ i1 = UINT32_C(1);
 i0 = (i0 == i1);
 if (i0) { goto l4; }
 goto l3;
-l5:;
+}
 fio2070_trap();
 l4:;
 j0 = v2;
@@ -57439,15 +58855,16 @@ j4 = UINT64_C(18446744073709551615);
 i3 = (SIGNED64(j3) > SIGNED64(j4));
 j1 = i3 ? j1 : j2;
 i0 = (j0 >= j1);
-if (i0) { goto l3; }
+if (!i0) {
 i0 = UINT32_C(0);
 r = i0;
 return r;
+}
 l3:;
 j0 = v1;
 j1 = v0;
 i0 = (j0 <= j1);
-if (i0) { goto l2; }
+if (!i0) {
 j0 = v2;
 j1 = UINT64_C(1);
 p3 = write_at(j0, m, 16u);
@@ -57473,6 +58890,7 @@ store64(p3 + 8, j1);
 i0 = UINT32_C(1);
 r = i0;
 return r;
+}
 l2:;
 i0 = v3;
 r = i0;
@@ -57495,7 +58913,7 @@ uint32_t i2;
 uint64_t j0;
 uint64_t j1;
 uint64_t j2;
-uint32_t r;
+uint32_t r = 0;
 uint8_t *p1;
 uint8_t *p2;
 uint8_t *p3;
@@ -57508,7 +58926,7 @@ uint8_t *p9;
 j0 = m->g0;
 j1 = UINT64_C(16);
 i0 = (SIGNED64(j0) < SIGNED64(j1));
-if (i0) { goto l2; }
+if (!i0) {
 j0 = v1;
 j1 = UINT64_C(808);
 j0 = j0 + j1;
@@ -57546,7 +58964,7 @@ j2 = UINT64_C(16);
 j1 = j1 + j2;
 i1 = load8(p2 + 0);
 i0 = (i0 != i1);
-if (i0) { goto l3; }
+if (!i0) {
 j0 = v1;
 j1 = UINT64_C(8);
 j0 = j0 + j1;
@@ -57557,18 +58975,18 @@ j1 = v1;
 j1 = load64(p3 + 0);
 v3 = j1;
 i0 = (j0 < j1);
-if (i0) { goto l3; }
+if (!i0) {
 j0 = v3;
 j1 = UINT64_C(65535);
 i0 = (j0 > j1);
-if (i0) { goto l3; }
+if (!i0) {
 j0 = v5;
 j1 = v3;
 j0 = j0 - j1;
 v5 = j0;
 j1 = UINT64_C(65535);
 i0 = (j0 > j1);
-if (i0) { goto l3; }
+if (!i0) {
 j0 = v0;
 j1 = UINT64_C(90152);
 j0 = j0 + j1;
@@ -57576,7 +58994,7 @@ j0 = load64(p2 + 90136);
 v6 = j0;
 j1 = UINT64_C(16384);
 i0 = (j0 == j1);
-if (i0) { goto l3; }
+if (!i0) {
 j0 = v0;
 j1 = UINT64_C(8);
 j0 = j0 + j1;
@@ -57586,7 +59004,7 @@ j1 = v6;
 j2 = UINT64_C(18446744073709551615);
 j1 = j1 ^ j2;
 i0 = (j0 > j1);
-if (i0) { goto l3; }
+if (!i0) {
 j0 = v4;
 j0 = load64(p1 + 792);
 v7 = j0;
@@ -57596,26 +59014,26 @@ j0 = j0 + j1;
 j0 = load64(p2 + 24592);
 v4 = j0;
 i0 = (j0 == 0);
-if (i0) { goto l4; }
+if (!i0) {
 j0 = v4;
 j1 = UINT64_C(2);
 j0 = j0 << (j1 & 63);
 v4 = j0;
 i0 = (j0 == 0);
-if (i0) { goto l5; }
+if (!i0) {
 j0 = v0;
 j1 = UINT64_C(16416);
 j0 = j0 + j1;
 i1 = UINT32_C(0);
 j2 = v4;
 fill(m, j0, i1, j2);
-l5:;
+}
 j0 = v0;
 j1 = UINT64_C(24608);
 j0 = j0 + j1;
 j1 = UINT64_C(0);
 store64(p2 + 24592, j1);
-l4:;
+}
 j0 = UINT64_C(16384);
 j1 = v0;
 j2 = UINT64_C(16408);
@@ -57625,7 +59043,7 @@ v8 = j1;
 j0 = j0 - j1;
 j1 = v7;
 i0 = (j0 < j1);
-if (i0) { goto l3; }
+if (!i0) {
 j0 = v0;
 j1 = UINT64_C(24616);
 j0 = j0 + j1;
@@ -57649,7 +59067,7 @@ v5 = j1;
 j0 = j0 - j1;
 j1 = v7;
 i0 = (j0 >= j1);
-if (i0) { goto l7; }
+if (!i0) {
 j0 = v7;
 j1 = UINT64_C(3);
 j0 = j0 & j1;
@@ -57659,7 +59077,7 @@ v3 = j0;
 j0 = v7;
 j1 = UINT64_C(4);
 i0 = (j0 < j1);
-if (i0) { goto l8; }
+if (!i0) {
 j0 = v0;
 j1 = v8;
 j0 = j0 + j1;
@@ -57670,7 +59088,7 @@ j0 = j0 & j1;
 v12 = j0;
 j0 = UINT64_C(0);
 v3 = j0;
-l9:;
+for (;;) {
 j0 = v11;
 j1 = v3;
 j0 = j0 + j1;
@@ -57717,11 +59135,12 @@ j2 = UINT64_C(4);
 j1 = j1 + j2;
 v3 = j1;
 i0 = (j0 != j1);
-if (i0) { goto l9; }
+if (!i0) break;
+}
 j0 = v6;
 i0 = (j0 == 0);
 if (i0) { goto l6; }
-l8:;
+}
 j0 = v3;
 j1 = v1;
 j0 = j0 + j1;
@@ -57759,14 +59178,15 @@ j1 = UINT64_C(0);
 i0 = (j0 != j1);
 if (i0) { goto l10; }
 goto l6;
-l7:;
+}
 j0 = v7;
 i0 = (j0 == 0);
-if (i0) { goto l6; }
+if (!i0) {
 j0 = v3;
 j1 = v5;
 j2 = v7;
 copy(m, j0, j1, j2);
+}
 l6:;
 j0 = v0;
 j1 = UINT64_C(16408);
@@ -57799,11 +59219,17 @@ j1 = j1 + j2;
 store64(p2 + 90136, j1);
 i0 = UINT32_C(1);
 v2 = i0;
-l3:;
+}
+}
+}
+}
+}
+}
+}
 i0 = v2;
 r = i0;
 return r;
-l2:;
+}
 fio2070_trap();
 return r;
 }
@@ -57824,7 +59250,7 @@ uint32_t i4;
 uint64_t j0;
 uint64_t j1;
 uint64_t j2;
-uint32_t r;
+uint32_t r = 0;
 uint8_t *p1;
 uint8_t *p2;
 uint8_t *p3;
@@ -57843,7 +59269,7 @@ uint8_t *p15;
 j0 = m->g0;
 j1 = UINT64_C(16);
 i0 = (SIGNED64(j0) < SIGNED64(j1));
-if (i0) { goto l2; }
+if (!i0) {
 j0 = v0;
 j1 = UINT64_C(90288);
 j0 = j0 + j1;
@@ -57858,7 +59284,7 @@ i0 = load8(p2 + 0);
 v5 = i0;
 i1 = UINT32_C(2);
 i0 = (i0 != i1);
-if (i0) { goto l4; }
+if (!i0) {
 j0 = v1;
 j1 = UINT64_C(928);
 j0 = j0 + j1;
@@ -57867,7 +59293,7 @@ i0 = load8(p3 + 0);
 i1 = UINT32_C(1);
 i0 = i0 & i1;
 i0 = (i0 == 0);
-if (i0) { goto l4; }
+if (!i0) {
 i0 = UINT32_C(1);
 v6 = i0;
 i0 = v4;
@@ -57882,7 +59308,8 @@ i0 = i0 | i1;
 i1 = UINT32_C(1);
 i0 = i0 & i1;
 if (i0) { goto l3; }
-l4:;
+}
+}
 j0 = v0;
 j1 = UINT64_C(90176);
 j0 = j0 + j1;
@@ -57965,11 +59392,11 @@ p10 = read_at(j1, m, 8u);
 j1 = load64(p10 + 0);
 v7 = j1;
 i0 = (j0 == j1);
-if (i0) { goto l3; }
+if (!i0) {
 i0 = v4;
 i1 = UINT32_C(1);
 i0 = i0 & i1;
-if (i0) { goto l8; }
+if (!i0) {
 j0 = v0;
 j1 = UINT64_C(90256);
 j0 = j0 + j1;
@@ -57991,7 +59418,7 @@ i1 = UINT32_C(2);
 i0 = (i0 == i1);
 r = i0;
 return r;
-l8:;
+}
 i0 = v5;
 i1 = UINT32_C(2);
 i0 = (i0 == i1);
@@ -58007,18 +59434,19 @@ v4 = i1;
 i0 = i0 & i1;
 v6 = i0;
 i0 = v4;
-if (i0) { goto l9; }
+if (!i0) {
 i0 = v5;
 i1 = UINT32_C(2);
 i0 = (i0 != i1);
-if (i0) { goto l9; }
+if (!i0) {
 j0 = v0;
 j1 = UINT64_C(90244);
 j0 = j0 + j1;
 p14 = read_at(j0, m, 1u);
 i0 = load8(p14 + 0);
 v6 = i0;
-l9:;
+}
+}
 j0 = v0;
 j1 = UINT64_C(90256);
 j0 = j0 + j1;
@@ -58048,11 +59476,12 @@ j2 = v7;
 i1 = (j1 >= j2);
 i0 = i0 & i1;
 v6 = i0;
+}
 l3:;
 i0 = v6;
 r = i0;
 return r;
-l2:;
+}
 fio2070_trap();
 return r;
 }
@@ -58064,11 +59493,11 @@ uint32_t i1;
 uint64_t j0;
 uint64_t j1;
 uint64_t j2;
-uint32_t r;
+uint32_t r = 0;
 j0 = m->g0;
 j1 = UINT64_C(16);
 i0 = (SIGNED64(j0) < SIGNED64(j1));
-if (i0) { goto l5; }
+if (!i0) {
 i0 = v0;
 i1 = UINT32_C(255);
 i0 = i0 & i1;
@@ -58088,7 +59517,7 @@ j1 = UINT64_C(0);
 i0 = (j0 == j1);
 if (i0) { goto l4; }
 goto l3;
-l5:;
+}
 fio2070_trap();
 l4:;
 i0 = v1;
@@ -58269,7 +59698,7 @@ j0 = m->g0;
 v6 = j0;
 j1 = UINT64_C(16);
 i0 = (SIGNED64(j0) < SIGNED64(j1));
-if (i0) { goto l8; }
+if (!i0) {
 j0 = UINT64_C(0);
 v7 = j0;
 i0 = UINT32_C(0);
@@ -58281,11 +59710,11 @@ if (i0) { goto l2; }
 j0 = v5;
 i0 = (j0 == 0);
 i0 = (i0 == 0);
-if (i0) { goto l9; }
+if (!i0) {
 j0 = v3;
 v7 = j0;
 goto l3;
-l9:;
+}
 j0 = v5;
 j1 = UINT64_C(0);
 j2 = v2;
@@ -58306,11 +59735,11 @@ v11 = j0;
 j0 = v5;
 j1 = UINT64_C(4);
 i0 = (j0 < j1);
-if (i0) { goto l11; }
+if (!i0) {
 j0 = v5;
 j1 = UINT64_C(8);
 i0 = (j0 > j1);
-if (i0) { goto l12; }
+if (!i0) {
 j0 = v11;
 p1 = read_at(j0, m, 1u);
 i0 = load8(p1 + 0);
@@ -58448,7 +59877,7 @@ j1 = v10;
 j0 = j0 - j1;
 v7 = j0;
 goto l4;
-l12:;
+}
 j0 = v5;
 j1 = UINT64_C(33);
 i0 = (j0 < j1);
@@ -58456,7 +59885,7 @@ if (i0) { goto l10; }
 j0 = v5;
 j1 = UINT64_C(65);
 i0 = (j0 < j1);
-if (i0) { goto l14; }
+if (!i0) {
 j0 = v5;
 j1 = UINT64_C(18446744073709551552);
 j0 = j0 & j1;
@@ -58472,7 +59901,7 @@ i0 = UINT32_C(0);
 v8 = i0;
 j0 = UINT64_C(0);
 v7 = j0;
-l17:;
+for (;;) {
 i0 = v8;
 j1 = v14;
 j2 = v7;
@@ -58505,7 +59934,8 @@ j0 = j0 + j1;
 v7 = j0;
 j1 = UINT64_C(64);
 i0 = (j0 != j1);
-if (i0) { goto l17; }
+if (!i0) break;
+}
 i0 = v8;
 i1 = UINT32_C(1);
 i0 = i0 & i1;
@@ -58820,7 +60250,7 @@ j1 = UINT64_C(32);
 i0 = (j0 >= j1);
 if (i0) { goto l18; }
 goto l7;
-l14:;
+}
 j0 = v11;
 j1 = v5;
 j2 = UINT64_C(18446744073709551584);
@@ -59729,7 +61159,7 @@ j1 = UINT64_C(31);
 i0 = (j0 <= j1);
 if (i0) { goto l7; }
 goto l6;
-l11:;
+}
 j0 = v11;
 p87 = read_at(j0, m, 1u);
 i0 = load8(p87 + 0);
@@ -59794,7 +61224,7 @@ i2 = v17;
 j0 = i2 ? j0 : j1;
 v7 = j0;
 goto l4;
-l8:;
+}
 fio2070_trap();
 l7:;
 j0 = v11;
@@ -60092,7 +61522,6 @@ i1 = v8;
 store8(p95 + 0, i1);
 j0 = v6;
 m->g0 = j0;
-return;
 }
 static uint64_t fio_log_ways_Ways_of_run(struct machine *m, uint64_t v0)
 {
@@ -60110,7 +61539,7 @@ uint64_t j0;
 uint64_t j1;
 uint64_t j2;
 uint64_t j3;
-uint64_t r;
+uint64_t r = 0;
 uint8_t *p1;
 uint8_t *p2;
 uint8_t *p3;
@@ -60118,7 +61547,7 @@ uint8_t *p4;
 j0 = m->g0;
 j1 = UINT64_C(16);
 i0 = (SIGNED64(j0) < SIGNED64(j1));
-if (i0) { goto l2; }
+if (!i0) {
 j0 = v0;
 p1 = read_at(j0 + UINT64_C(24), m, 17u);
 j0 = load64(p1 + 0);
@@ -60127,7 +61556,7 @@ j0 = v0;
 i0 = load8(p1 + 16);
 i1 = UINT32_C(1);
 i0 = (i0 != i1);
-if (i0) { goto l7; }
+if (!i0) {
 j0 = v0;
 p2 = read_at(j0 + UINT64_C(41), m, 1u);
 i0 = load8(p2 + 0);
@@ -60161,7 +61590,7 @@ goto l5;
 default:
 goto l6;
 }
-l7:;
+}
 j0 = UINT64_C(72057594037927936);
 j1 = UINT64_C(0);
 j2 = v1;
@@ -60367,7 +61796,7 @@ j1 = v0;
 j0 = j0 << (j1 & 63);
 r = j0;
 return r;
-l2:;
+}
 fio2070_trap();
 return r;
 }
@@ -60385,7 +61814,7 @@ uint8_t *p1;
 j0 = m->g0;
 j1 = UINT64_C(16);
 i0 = (SIGNED64(j0) < SIGNED64(j1));
-if (i0) { goto l2; }
+if (!i0) {
 i0 = UINT32_C(0);
 v3 = i0;
 i0 = v1;
@@ -60394,15 +61823,15 @@ i0 = i0 & i1;
 v4 = i0;
 i1 = UINT32_C(48);
 i0 = (i0 >= i1);
-if (i0) { goto l4; }
+if (!i0) {
 i0 = UINT32_C(0);
 v1 = i0;
 goto l3;
-l4:;
+}
 i0 = v4;
 i1 = UINT32_C(57);
 i0 = (i0 > i1);
-if (i0) { goto l6; }
+if (!i0) {
 i0 = v1;
 i1 = UINT32_C(4294967248);
 i0 = i0 + i1;
@@ -60410,22 +61839,22 @@ v4 = i0;
 i0 = UINT32_C(0);
 v1 = i0;
 goto l5;
-l6:;
+}
 i0 = v1;
 i1 = UINT32_C(255);
 i0 = i0 & i1;
 v4 = i0;
 i1 = UINT32_C(65);
 i0 = (i0 >= i1);
-if (i0) { goto l7; }
+if (!i0) {
 i0 = UINT32_C(0);
 v1 = i0;
 goto l3;
-l7:;
+}
 i0 = v4;
 i1 = UINT32_C(70);
 i0 = (i0 > i1);
-if (i0) { goto l8; }
+if (!i0) {
 i0 = v1;
 i1 = UINT32_C(4294967241);
 i0 = i0 + i1;
@@ -60433,7 +61862,7 @@ v4 = i0;
 i0 = UINT32_C(0);
 v1 = i0;
 goto l5;
-l8:;
+}
 i0 = UINT32_C(0);
 i1 = v1;
 i2 = UINT32_C(4294967209);
@@ -60451,53 +61880,53 @@ v4 = i0;
 l5:;
 i0 = v1;
 i0 = (i0 == 0);
-if (i0) { goto l9; }
+if (!i0) {
 i0 = UINT32_C(0);
 v1 = i0;
 goto l3;
-l9:;
+}
 i0 = v2;
 i1 = UINT32_C(255);
 i0 = i0 & i1;
 v1 = i0;
 i1 = UINT32_C(48);
 i0 = (i0 >= i1);
-if (i0) { goto l10; }
+if (!i0) {
 i0 = UINT32_C(0);
 v1 = i0;
 goto l3;
-l10:;
+}
 i0 = v1;
 i1 = UINT32_C(57);
 i0 = (i0 > i1);
-if (i0) { goto l12; }
+if (!i0) {
 i0 = v2;
 i1 = UINT32_C(4294967248);
 i0 = i0 + i1;
 v1 = i0;
 goto l11;
-l12:;
+}
 i0 = v2;
 i1 = UINT32_C(255);
 i0 = i0 & i1;
 v1 = i0;
 i1 = UINT32_C(65);
 i0 = (i0 >= i1);
-if (i0) { goto l13; }
+if (!i0) {
 i0 = UINT32_C(0);
 v1 = i0;
 goto l3;
-l13:;
+}
 i0 = v1;
 i1 = UINT32_C(70);
 i0 = (i0 > i1);
-if (i0) { goto l14; }
+if (!i0) {
 i0 = v2;
 i1 = UINT32_C(4294967241);
 i0 = i0 + i1;
 v1 = i0;
 goto l11;
-l14:;
+}
 i0 = UINT32_C(0);
 v1 = i0;
 i0 = v2;
@@ -60530,9 +61959,8 @@ j0 = v0;
 i1 = v1;
 store8(p1 + 0, i1);
 return;
-l2:;
+}
 fio2070_trap();
-return;
 }
 static void fio_log_numbers_decimal(struct machine *m, uint64_t v0, uint64_t v1, uint64_t v2)
 {
@@ -60558,11 +61986,11 @@ uint8_t *p7;
 j0 = m->g0;
 j1 = UINT64_C(16);
 i0 = (SIGNED64(j0) < SIGNED64(j1));
-if (i0) { goto l2; }
+if (!i0) {
 j0 = v2;
 j1 = UINT64_C(1);
 i0 = (j0 > j1);
-if (i0) { goto l4; }
+if (!i0) {
 i0 = UINT32_C(0);
 v3 = i0;
 i0 = UINT32_C(0);
@@ -60596,11 +62024,11 @@ i1 = UINT32_C(255);
 i0 = i0 & i1;
 v3 = i0;
 goto l3;
-l4:;
+}
 j0 = v2;
 j1 = UINT64_C(2);
 i0 = (j0 > j1);
-if (i0) { goto l7; }
+if (!i0) {
 i0 = UINT32_C(0);
 v3 = i0;
 i0 = UINT32_C(0);
@@ -60649,7 +62077,7 @@ i1 = UINT32_C(255);
 i0 = i0 & i1;
 v3 = i0;
 goto l6;
-l7:;
+}
 i0 = UINT32_C(0);
 v3 = i0;
 i0 = UINT32_C(0);
@@ -60678,13 +62106,13 @@ i0 = i0 & i1;
 v6 = i0;
 i1 = UINT32_C(9);
 i0 = (i0 <= i1);
-if (i0) { goto l8; }
+if (!i0) {
 i0 = UINT32_C(0);
 v3 = i0;
 i0 = UINT32_C(0);
 v4 = i0;
 goto l3;
-l8:;
+}
 i0 = UINT32_C(0);
 v3 = i0;
 i0 = UINT32_C(0);
@@ -60746,9 +62174,8 @@ j0 = v0;
 i1 = v4;
 store8(p7 + 0, i1);
 return;
-l2:;
+}
 fio2070_trap();
-return;
 }
 static void fio_log_masks_Mask_add(struct machine *m, uint64_t v0, uint32_t v1)
 {
@@ -60790,18 +62217,18 @@ uint8_t *p20;
 j0 = m->g0;
 j1 = UINT64_C(16);
 i0 = (SIGNED64(j0) < SIGNED64(j1));
-if (i0) { goto l2; }
+if (!i0) {
 i0 = v1;
 i1 = UINT32_C(255);
 i0 = i0 & i1;
 v2 = i0;
 i1 = UINT32_C(46);
 i0 = (i0 == i1);
-if (i0) { goto l4; }
+if (!i0) {
 i0 = v2;
 i1 = UINT32_C(95);
 i0 = (i0 == i1);
-if (i0) { goto l4; }
+if (!i0) {
 i0 = v1;
 i1 = UINT32_C(255);
 i0 = i0 & i1;
@@ -60812,7 +62239,7 @@ if (i0) { goto l3; }
 i0 = v2;
 i1 = UINT32_C(58);
 i0 = (i0 < i1);
-if (i0) { goto l4; }
+if (!i0) {
 i0 = v1;
 i1 = UINT32_C(255);
 i0 = i0 & i1;
@@ -60823,7 +62250,7 @@ if (i0) { goto l3; }
 i0 = v3;
 i1 = UINT32_C(91);
 i0 = (i0 < i1);
-if (i0) { goto l4; }
+if (!i0) {
 i0 = v1;
 i1 = UINT32_C(255);
 i0 = i0 & i1;
@@ -60835,7 +62262,10 @@ i0 = (uint32_t)extend(i0 & 255, 7);
 i1 = UINT32_C(122);
 i0 = (SIGNED32(i0) > SIGNED32(i1));
 if (i0) { goto l3; }
-l4:;
+}
+}
+}
+}
 j0 = v0;
 j1 = UINT64_C(24);
 j0 = j0 + j1;
@@ -60843,7 +62273,7 @@ p1 = read_at(j0, m, 1u);
 i0 = load8(p1 + 0);
 i1 = UINT32_C(1);
 i0 = (i0 != i1);
-if (i0) { goto l6; }
+if (!i0) {
 j0 = v0;
 j1 = UINT64_C(25);
 j0 = j0 + j1;
@@ -60856,7 +62286,7 @@ j0 = j0 + j1;
 j0 = load64(p2 + 0);
 v4 = j0;
 goto l5;
-l6:;
+}
 j0 = v0;
 p3 = read_at(j0, m, 27u);
 j0 = load64(p3 + 0);
@@ -60868,7 +62298,7 @@ v5 = j0;
 i0 = load8(p3 + 26);
 i1 = UINT32_C(1);
 i0 = (i0 != i1);
-if (i0) { goto l7; }
+if (!i0) {
 j0 = v5;
 i1 = UINT32_C(0);
 p4 = write_at(j0 + UINT64_C(18446744073709551590), m, 27u);
@@ -60892,7 +62322,7 @@ j1 = j1 ^ j2;
 j2 = UINT64_C(1099511628211);
 j1 = j1 * j2;
 store64(p4 + 8, j1);
-l7:;
+}
 j0 = v0;
 j1 = UINT64_C(27);
 j0 = j0 + j1;
@@ -60957,17 +62387,17 @@ v3 = i0;
 i0 = v2;
 i1 = UINT32_C(32);
 i0 = (i0 == i1);
-if (i0) { goto l9; }
+if (!i0) {
 i0 = v2;
 i1 = UINT32_C(9);
 i0 = (i0 != i1);
 if (i0) { goto l8; }
-l9:;
+}
 i0 = v3;
 i1 = UINT32_C(1);
 i0 = i0 & i1;
 i0 = (i0 == 0);
-if (i0) { goto l10; }
+if (!i0) {
 j0 = v0;
 j1 = UINT64_C(24);
 j0 = j0 + j1;
@@ -60980,7 +62410,7 @@ j0 = j0 + j1;
 i0 = load8(p8 + 1);
 i1 = UINT32_C(1);
 i0 = (i0 != i1);
-if (i0) { goto l11; }
+if (!i0) {
 j0 = v0;
 j1 = v0;
 p9 = write_at(j1, m, 16u);
@@ -61002,7 +62432,7 @@ j2 = UINT64_C(1099511628211);
 j1 = j1 * j2;
 store64(p9 + 8, j1);
 goto l10;
-l11:;
+}
 j0 = v0;
 j1 = v0;
 j2 = UINT64_C(16);
@@ -61021,6 +62451,7 @@ j1 = j1 ^ j2;
 j2 = UINT64_C(1099511628211);
 j1 = j1 * j2;
 store64(p10 + 8, j1);
+}
 l10:;
 j0 = v0;
 j1 = UINT64_C(26);
@@ -61036,13 +62467,13 @@ l8:;
 i0 = v3;
 i1 = UINT32_C(1);
 i0 = i0 & i1;
-if (i0) { goto l13; }
+if (!i0) {
 j0 = v0;
 p12 = read_at(j0, m, 8u);
 j0 = load64(p12 + 0);
 v4 = j0;
 goto l12;
-l13:;
+}
 j0 = v0;
 j1 = UINT64_C(24);
 j0 = j0 + j1;
@@ -61055,7 +62486,7 @@ j0 = j0 + j1;
 i0 = load8(p13 + 1);
 i1 = UINT32_C(1);
 i0 = (i0 != i1);
-if (i0) { goto l14; }
+if (!i0) {
 j0 = v0;
 j1 = UINT64_C(8);
 j0 = j0 + j1;
@@ -61076,7 +62507,7 @@ j1 = UINT64_C(1099511628211);
 j0 = j0 * j1;
 v4 = j0;
 goto l12;
-l14:;
+}
 j0 = v0;
 j1 = UINT64_C(8);
 j0 = j0 + j1;
@@ -61101,7 +62532,7 @@ j0 = j0 + j1;
 v5 = j0;
 p16 = read_at(j0, m, 1u);
 i0 = load8(p16 + 0);
-if (i0) { goto l16; }
+if (!i0) {
 j0 = v0;
 j1 = UINT64_C(8);
 j0 = j0 + j1;
@@ -61109,7 +62540,7 @@ p17 = read_at(j0, m, 8u);
 j0 = load64(p17 + 0);
 v5 = j0;
 goto l15;
-l16:;
+}
 j0 = v5;
 i1 = UINT32_C(0);
 p18 = write_at(j0, m, 1u);
@@ -61158,9 +62589,8 @@ j2 = UINT64_C(1099511628211);
 j1 = j1 * j2;
 store64(p20 + 0, j1);
 return;
-l2:;
+}
 fio2070_trap();
-return;
 }
 static void fio_log_surroundings_read_after(struct machine *m, uint64_t v0, uint64_t v1, uint64_t v2, uint64_t v3, uint64_t v4)
 {
@@ -61213,11 +62643,11 @@ j0 = v5;
 v6 = j0;
 j1 = UINT64_C(16);
 i0 = (SIGNED64(j0) < SIGNED64(j1));
-if (i0) { goto l2; }
+if (!i0) {
 j0 = v2;
 j1 = UINT64_C(1);
 i0 = (j0 > j1);
-if (i0) { goto l7; }
+if (!i0) {
 j0 = v2;
 i0 = (uint32_t)j0;
 switch (i0) {
@@ -61241,18 +62671,18 @@ i1 = UINT32_C(124);
 i0 = (i0 == i1);
 if (i0) { goto l6; }
 goto l5;
-l7:;
+}
 j0 = v1;
 p3 = read_at(j0, m, 1u);
 i0 = load8(p3 + 0);
 v7 = i0;
 i1 = UINT32_C(9);
 i0 = (i0 == i1);
-if (i0) { goto l6; }
+if (!i0) {
 i0 = v7;
 i1 = UINT32_C(124);
 i0 = (i0 == i1);
-if (i0) { goto l6; }
+if (!i0) {
 i0 = v7;
 i1 = UINT32_C(32);
 i0 = (i0 != i1);
@@ -61263,11 +62693,14 @@ i0 = load8(p4 + 0);
 v7 = i0;
 i1 = UINT32_C(124);
 i0 = (i0 == i1);
-if (i0) { goto l6; }
+if (!i0) {
 i0 = v7;
 i1 = UINT32_C(32);
 i0 = (i0 != i1);
 if (i0) { goto l5; }
+}
+}
+}
 l6:;
 j0 = v1;
 j1 = v2;
@@ -61285,15 +62718,15 @@ i0 = load8(p5 + 0);
 v7 = i0;
 i1 = UINT32_C(9);
 i0 = (i0 == i1);
-if (i0) { goto l13; }
+if (!i0) {
 i0 = v7;
 i1 = UINT32_C(32);
 i0 = (i0 == i1);
-if (i0) { goto l13; }
+if (!i0) {
 i0 = v7;
 i1 = UINT32_C(124);
 i0 = (i0 == i1);
-if (i0) { goto l13; }
+if (!i0) {
 j0 = v1;
 j1 = v2;
 j0 = j0 + j1;
@@ -61311,16 +62744,17 @@ i0 = load8(p6 + 0);
 v7 = i0;
 i1 = UINT32_C(9);
 i0 = (i0 == i1);
-if (i0) { goto l15; }
+if (!i0) {
 i0 = v7;
 i1 = UINT32_C(124);
 i0 = (i0 == i1);
-if (i0) { goto l15; }
+if (!i0) {
 i0 = v7;
 i1 = UINT32_C(32);
 i0 = (i0 != i1);
 if (i0) { goto l11; }
-l15:;
+}
+}
 j0 = v11;
 j1 = UINT64_C(18446744073709551615);
 j0 = j0 + j1;
@@ -61333,7 +62767,9 @@ if (i0) { goto l14; }
 j0 = UINT64_C(0);
 v10 = j0;
 goto l10;
-l13:;
+}
+}
+}
 j0 = v2;
 j1 = v5;
 j2 = UINT64_C(1);
@@ -61357,7 +62793,7 @@ v8 = j0;
 l9:;
 j0 = v4;
 i0 = (j0 == 0);
-if (i0) { goto l17; }
+if (!i0) {
 j0 = v3;
 v5 = j0;
 j0 = v4;
@@ -61369,11 +62805,11 @@ i0 = load8(p7 + 0);
 v7 = i0;
 i1 = UINT32_C(32);
 i0 = (i0 == i1);
-if (i0) { goto l20; }
+if (!i0) {
 i0 = v7;
 i1 = UINT32_C(124);
 i0 = (i0 == i1);
-if (i0) { goto l20; }
+if (!i0) {
 j0 = v4;
 j1 = v3;
 j0 = j0 + j1;
@@ -61387,12 +62823,12 @@ i0 = load8(p8 + 0);
 v7 = i0;
 i1 = UINT32_C(124);
 i0 = (i0 == i1);
-if (i0) { goto l22; }
+if (!i0) {
 i0 = v7;
 i1 = UINT32_C(32);
 i0 = (i0 != i1);
 if (i0) { goto l18; }
-l22:;
+}
 j0 = v11;
 j1 = UINT64_C(18446744073709551615);
 j0 = j0 + j1;
@@ -61405,7 +62841,8 @@ i0 = (j0 == 0);
 i0 = (i0 == 0);
 if (i0) { goto l21; }
 goto l17;
-l20:;
+}
+}
 j0 = v5;
 j1 = UINT64_C(1);
 j0 = j0 + j1;
@@ -61463,6 +62900,7 @@ i0 = (j0 != j1);
 if (i0) { goto l23; }
 j0 = v3;
 v10 = j0;
+}
 l17:;
 j0 = v10;
 i0 = (j0 == 0);
@@ -61477,7 +62915,7 @@ v5 = j0;
 j0 = v2;
 j1 = UINT64_C(1);
 i0 = (j0 == j1);
-if (i0) { goto l25; }
+if (!i0) {
 j0 = v2;
 j1 = UINT64_C(1);
 j0 = j0 & j1;
@@ -61511,16 +62949,17 @@ i0 = load8(p11 + 0);
 v7 = i0;
 i1 = UINT32_C(9);
 i0 = (i0 == i1);
-if (i0) { goto l29; }
+if (!i0) {
 i0 = v7;
 i1 = UINT32_C(124);
 i0 = (i0 == i1);
-if (i0) { goto l29; }
+if (!i0) {
 i0 = v7;
 i1 = UINT32_C(32);
 i0 = (i0 != i1);
 if (i0) { goto l28; }
-l29:;
+}
+}
 j0 = UINT64_C(0);
 j1 = v11;
 j2 = v9;
@@ -61556,16 +62995,17 @@ i0 = load8(p12 + 0);
 v7 = i0;
 i1 = UINT32_C(9);
 i0 = (i0 == i1);
-if (i0) { goto l32; }
+if (!i0) {
 i0 = v7;
 i1 = UINT32_C(124);
 i0 = (i0 == i1);
-if (i0) { goto l32; }
+if (!i0) {
 i0 = v7;
 i1 = UINT32_C(32);
 i0 = (i0 != i1);
 if (i0) { goto l31; }
-l32:;
+}
+}
 j0 = UINT64_C(0);
 j1 = v11;
 j2 = v9;
@@ -61594,7 +63034,7 @@ if (i0) { goto l26; }
 j0 = v12;
 i0 = (j0 == 0);
 if (i0) { goto l24; }
-l25:;
+}
 j0 = v1;
 j1 = v5;
 j0 = j0 + j1;
@@ -61603,15 +63043,15 @@ i0 = load8(p13 + 0);
 v7 = i0;
 i1 = UINT32_C(9);
 i0 = (i0 == i1);
-if (i0) { goto l24; }
+if (!i0) {
 i0 = v7;
 i1 = UINT32_C(32);
 i0 = (i0 == i1);
-if (i0) { goto l24; }
+if (!i0) {
 i0 = v7;
 i1 = UINT32_C(124);
 i0 = (i0 == i1);
-if (i0) { goto l24; }
+if (!i0) {
 j0 = UINT64_C(18446744073709551615);
 j1 = v9;
 j2 = UINT64_C(1);
@@ -61627,10 +63067,13 @@ i3 = UINT32_C(4294967231);
 i2 = (SIGNED32(i2) > SIGNED32(i3));
 j0 = i2 ? j0 : j1;
 v8 = j0;
+}
+}
+}
 l24:;
 j0 = v8;
 i0 = (j0 == 0);
-if (i0) { goto l5; }
+if (!i0) {
 j0 = v8;
 j1 = v4;
 j0 = j0 - j1;
@@ -61643,7 +63086,7 @@ i2 = (j2 > j3);
 j0 = i2 ? j0 : j1;
 j1 = UINT64_C(1);
 i0 = (j0 > j1);
-if (i0) { goto l5; }
+if (!i0) {
 j0 = v2;
 j1 = UINT64_C(18446744073709551615);
 j0 = j0 + j1;
@@ -61698,6 +63141,8 @@ l33:;
 i0 = v14;
 i0 = (i0 == 0);
 if (i0) { goto l4; }
+}
+}
 l5:;
 j0 = UINT64_C(0);
 j1 = v2;
@@ -61715,7 +63160,7 @@ i0 = i0 + i1;
 v7 = i0;
 i1 = UINT32_C(60);
 i0 = (i0 > i1);
-if (i0) { goto l37; }
+if (!i0) {
 j0 = UINT64_C(1);
 i1 = v7;
 j1 = (uint64_t)i1;
@@ -61725,11 +63170,11 @@ j0 = j0 & j1;
 j1 = UINT64_C(0);
 i0 = (j0 != j1);
 if (i0) { goto l36; }
-l37:;
+}
 i0 = v13;
 i1 = UINT32_C(9);
 i0 = (i0 == i1);
-if (i0) { goto l36; }
+if (!i0) {
 j0 = v9;
 j1 = UINT64_C(1);
 j0 = j0 + j1;
@@ -61754,7 +63199,7 @@ i0 = i0 + i1;
 v7 = i0;
 i1 = UINT32_C(60);
 i0 = (i0 > i1);
-if (i0) { goto l41; }
+if (!i0) {
 j0 = UINT64_C(1);
 i1 = v7;
 j1 = (uint64_t)i1;
@@ -61764,11 +63209,11 @@ j0 = j0 & j1;
 j1 = UINT64_C(0);
 i0 = (j0 != j1);
 if (i0) { goto l40; }
-l41:;
+}
 i0 = v13;
 i1 = UINT32_C(9);
 i0 = (i0 == i1);
-if (i0) { goto l40; }
+if (!i0) {
 j0 = UINT64_C(0);
 v10 = j0;
 j0 = v6;
@@ -61825,6 +63270,7 @@ j0 = v6;
 j0 = load64(p1 + 16);
 v9 = j0;
 goto l3;
+}
 l40:;
 j0 = v3;
 j1 = v11;
@@ -61846,6 +63292,7 @@ j1 = UINT64_C(1099511628211);
 j0 = j0 * j1;
 v9 = j0;
 goto l3;
+}
 l36:;
 j0 = v5;
 j1 = UINT64_C(1);
@@ -61868,7 +63315,7 @@ i0 = UINT32_C(0);
 v7 = i0;
 j0 = v2;
 i0 = (j0 == 0);
-if (i0) { goto l43; }
+if (!i0) {
 l44:;
 i0 = UINT32_C(1);
 v7 = i0;
@@ -61900,6 +63347,7 @@ i0 = (j0 != j1);
 if (i0) { goto l44; }
 i0 = UINT32_C(0);
 v7 = i0;
+}
 l43:;
 j0 = v0;
 i1 = UINT32_C(0);
@@ -61922,9 +63370,8 @@ j1 = UINT64_C(32);
 j0 = j0 + j1;
 m->g0 = j0;
 return;
-l2:;
+}
 fio2070_trap();
-return;
 }
 static void fio_log_runs_next_run(struct machine *m, uint64_t v0, uint64_t v1, uint64_t v2, uint64_t v3, uint64_t v4, uint32_t v5, uint64_t v6)
 {
@@ -61986,7 +63433,7 @@ j0 = v7;
 v7 = j0;
 j1 = UINT64_C(16);
 i0 = (SIGNED64(j0) < SIGNED64(j1));
-if (i0) { goto l2; }
+if (!i0) {
 j0 = v4;
 p2 = read_at(j0, m, 32u);
 j0 = load64(p2 + 24);
@@ -62015,7 +63462,7 @@ store8(p1 + 12, i1);
 j0 = v3;
 j1 = v2;
 i0 = (j0 >= j1);
-if (i0) { goto l4; }
+if (!i0) {
 j0 = v7;
 j1 = UINT64_C(24);
 j0 = j0 + j1;
@@ -62042,7 +63489,7 @@ i0 = load8(p3 + 0);
 v16 = i0;
 j0 = v10;
 i0 = (j0 == 0);
-if (i0) { goto l10; }
+if (!i0) {
 i0 = v16;
 i1 = UINT32_C(255);
 i0 = i0 & i1;
@@ -62061,7 +63508,7 @@ i1 = UINT32_C(92);
 i0 = (i0 != i1);
 if (i0) { goto l9; }
 goto l7;
-l10:;
+}
 i0 = v16;
 i1 = UINT32_C(255);
 i0 = i0 & i1;
@@ -62072,7 +63519,7 @@ if (i0) { goto l8; }
 i0 = v17;
 i1 = UINT32_C(58);
 i0 = (i0 < i1);
-if (i0) { goto l11; }
+if (!i0) {
 i0 = v16;
 i1 = UINT32_C(255);
 i0 = i0 & i1;
@@ -62083,7 +63530,7 @@ if (i0) { goto l8; }
 i0 = v17;
 i1 = UINT32_C(71);
 i0 = (i0 < i1);
-if (i0) { goto l11; }
+if (!i0) {
 i0 = v16;
 i1 = UINT32_C(4294967199);
 i0 = i0 + i1;
@@ -62092,7 +63539,8 @@ i0 = i0 & i1;
 i1 = UINT32_C(5);
 i0 = (i0 > i1);
 if (i0) { goto l8; }
-l11:;
+}
+}
 j0 = v3;
 i0 = (j0 == 0);
 if (i0) { goto l7; }
@@ -62105,11 +63553,11 @@ i0 = load8(p5 + 0);
 v16 = i0;
 i1 = UINT32_C(95);
 i0 = (i0 == i1);
-if (i0) { goto l8; }
+if (!i0) {
 i0 = v16;
 i1 = UINT32_C(48);
 i0 = (i0 < i1);
-if (i0) { goto l12; }
+if (!i0) {
 i0 = v16;
 i1 = UINT32_C(58);
 i0 = (i0 < i1);
@@ -62132,11 +63580,12 @@ i1 = UINT32_C(122);
 i0 = (SIGNED32(i0) > SIGNED32(i1));
 if (i0) { goto l7; }
 goto l8;
-l12:;
+}
 i0 = v16;
 i1 = UINT32_C(46);
 i0 = (i0 != i1);
 if (i0) { goto l7; }
+}
 l8:;
 j0 = v3;
 j1 = UINT64_C(1);
@@ -62218,7 +63667,7 @@ j0 = v7;
 i0 = load8(p1 + 104);
 i1 = UINT32_C(1);
 i0 = (i0 != i1);
-if (i0) { goto l15; }
+if (!i0) {
 j0 = UINT64_C(0);
 j1 = v7;
 j1 = load64(p1 + 128);
@@ -62235,7 +63684,7 @@ j1 = UINT64_C(1);
 j0 = j0 & j1;
 i0 = (j0 == 0);
 i0 = (i0 == 0);
-if (i0) { goto l16; }
+if (!i0) {
 j0 = v7;
 j0 = load64(p1 + 136);
 v21 = j0;
@@ -62244,20 +63693,20 @@ j0 = load64(p1 + 112);
 v22 = j0;
 j0 = v20;
 i0 = (j0 == 0);
-if (i0) { goto l17; }
+if (!i0) {
 j0 = v4;
 j1 = v20;
 i0 = (j0 != j1);
 if (i0) { goto l16; }
 goto l13;
-l17:;
+}
 j0 = v4;
 j1 = UINT64_C(18446744073709551615);
 j0 = j0 + j1;
 v23 = j0;
 j1 = UINT64_C(1);
 i0 = (j0 > j1);
-if (i0) { goto l16; }
+if (!i0) {
 j0 = v23;
 i0 = (uint32_t)j0;
 switch (i0) {
@@ -62277,6 +63726,8 @@ i0 = load8(p6 + 0);
 i1 = UINT32_C(48);
 i0 = (i0 != i1);
 if (i0) { goto l13; }
+}
+}
 l16:;
 j0 = v7;
 i1 = UINT32_C(0);
@@ -62285,7 +63736,7 @@ j0 = v7;
 i1 = UINT32_C(0);
 store32(p1 + 8, i1);
 goto l14;
-l15:;
+}
 j0 = v7;
 i1 = UINT32_C(0);
 store8(p1 + 12, i1);
@@ -62363,7 +63814,7 @@ j0 = v7;
 i0 = load8(p1 + 24);
 i1 = UINT32_C(1);
 i0 = (i0 != i1);
-if (i0) { goto l20; }
+if (!i0) {
 j0 = UINT64_C(1);
 v18 = j0;
 l21:;
@@ -62456,7 +63907,7 @@ store64(p1 + 184, j1);
 j0 = v18;
 j1 = UINT64_C(2);
 i0 = (j0 < j1);
-if (i0) { goto l22; }
+if (!i0) {
 j0 = v7;
 j1 = UINT64_C(0);
 store64(p1 + 344, j1);
@@ -62523,11 +63974,11 @@ i0 = load8(p1 + 256);
 i1 = UINT32_C(1);
 i0 = (i0 == i1);
 if (i0) { goto l19; }
-l22:;
+}
 j0 = v23;
 v22 = j0;
 goto l19;
-l20:;
+}
 j0 = v7;
 j1 = v21;
 store64(p1 + 184, j1);
@@ -62548,29 +63999,32 @@ i1 = load8(p1 + 220);
 store8(p1 + 12, i1);
 i0 = v5;
 i0 = (i0 == 0);
-if (i0) { goto l23; }
+if (!i0) {
 i0 = v24;
-if (i0) { goto l24; }
+if (!i0) {
 j0 = v22;
 v3 = j0;
 goto l6;
-l24:;
+}
 j0 = v18;
 j1 = UINT64_C(1);
 i0 = (j0 > j1);
-if (i0) { goto l23; }
+if (!i0) {
 j0 = v10;
 j1 = UINT64_C(0);
 i0 = (j0 != j1);
-if (i0) { goto l23; }
+if (!i0) {
 j0 = v8;
 j1 = UINT64_C(0);
 i0 = (j0 != j1);
-if (i0) { goto l23; }
+if (!i0) {
 j0 = v22;
 v3 = j0;
 goto l6;
-l23:;
+}
+}
+}
+}
 j0 = v6;
 j1 = UINT64_C(784);
 j0 = j0 + j1;
@@ -62579,25 +64033,25 @@ j0 = load64(p9 + 0);
 v1 = j0;
 i0 = (j0 == 0);
 v16 = i0;
-if (i0) { goto l25; }
+if (!i0) {
 i0 = v16;
-if (i0) { goto l26; }
+if (!i0) {
 j0 = v6;
 i1 = UINT32_C(0);
 j2 = v1;
 fill(m, j0, i1, j2);
-l26:;
+}
 j0 = v6;
 j1 = UINT64_C(784);
 j0 = j0 + j1;
 j1 = UINT64_C(0);
 p10 = write_at(j0, m, 8u);
 store64(p10 + 0, j1);
-l25:;
+}
 j0 = v23;
 j1 = v3;
 i0 = (j0 == j1);
-if (i0) { goto l27; }
+if (!i0) {
 j0 = v23;
 j1 = v3;
 j0 = j0 - j1;
@@ -62621,11 +64075,11 @@ i0 = load8(p11 + 0);
 v5 = i0;
 i1 = UINT32_C(48);
 i0 = (i0 < i1);
-if (i0) { goto l29; }
+if (!i0) {
 i0 = v5;
 i1 = UINT32_C(57);
 i0 = (i0 > i1);
-if (i0) { goto l30; }
+if (!i0) {
 i0 = v5;
 i1 = UINT32_C(4294967248);
 i0 = i0 + i1;
@@ -62633,7 +64087,7 @@ v26 = i0;
 i0 = UINT32_C(1);
 v16 = i0;
 goto l29;
-l30:;
+}
 i0 = UINT32_C(0);
 v26 = i0;
 i0 = UINT32_C(0);
@@ -62641,11 +64095,11 @@ v16 = i0;
 i0 = v5;
 i1 = UINT32_C(65);
 i0 = (i0 < i1);
-if (i0) { goto l29; }
+if (!i0) {
 i0 = v5;
 i1 = UINT32_C(70);
 i0 = (i0 > i1);
-if (i0) { goto l31; }
+if (!i0) {
 i0 = v5;
 i1 = UINT32_C(4294967241);
 i0 = i0 + i1;
@@ -62653,7 +64107,7 @@ v26 = i0;
 i0 = UINT32_C(1);
 v16 = i0;
 goto l29;
-l31:;
+}
 i0 = v5;
 i1 = UINT32_C(4294967209);
 i0 = i0 + i1;
@@ -62668,18 +64122,20 @@ i2 = (i2 < i3);
 v16 = i2;
 i0 = i2 ? i0 : i1;
 v26 = i0;
+}
+}
 l29:;
 i0 = v17;
 i1 = UINT32_C(1);
 i0 = i0 & i1;
-if (i0) { goto l33; }
+if (!i0) {
 i0 = v26;
 v25 = i0;
 goto l32;
-l33:;
+}
 i0 = v16;
 i0 = (i0 == 0);
-if (i0) { goto l36; }
+if (!i0) {
 i0 = v26;
 i1 = v25;
 i2 = UINT32_C(4);
@@ -62687,7 +64143,7 @@ i1 = i1 << (i2 & 31);
 i0 = i0 + i1;
 v25 = i0;
 goto l35;
-l36:;
+}
 i0 = v5;
 i1 = UINT32_C(32);
 i0 = i0 | i1;
@@ -62698,11 +64154,11 @@ l35:;
 j0 = v2;
 j1 = UINT64_C(780);
 i0 = (j0 != j1);
-if (i0) { goto l37; }
+if (!i0) {
 j0 = UINT64_C(780);
 v2 = j0;
 goto l34;
-l37:;
+}
 j0 = v6;
 j1 = v2;
 j0 = j0 + j1;
@@ -62748,7 +64204,7 @@ i1 = (j1 != j2);
 i0 = i0 & i1;
 i1 = UINT32_C(1);
 i0 = (i0 != i1);
-if (i0) { goto l27; }
+if (!i0) {
 j0 = v6;
 j1 = v10;
 j0 = j0 + j1;
@@ -62763,7 +64219,8 @@ j2 = UINT64_C(1);
 j1 = j1 + j2;
 p15 = write_at(j0, m, 8u);
 store64(p15 + 0, j1);
-l27:;
+}
+}
 j0 = v0;
 j1 = UINT64_C(1);
 p16 = write_at(j0, m, 56u);
@@ -62821,7 +64278,7 @@ j0 = v3;
 j1 = v2;
 i0 = (j0 < j1);
 if (i0) { goto l5; }
-l4:;
+}
 j0 = v0;
 j1 = UINT64_C(0);
 p17 = write_at(j0, m, 56u);
@@ -62869,9 +64326,8 @@ j1 = UINT64_C(352);
 j0 = j0 + j1;
 m->g0 = j0;
 return;
-l2:;
+}
 fio2070_trap();
-return;
 }
 static void fio_log_marks_word_at(struct machine *m, uint64_t v0, uint64_t v1, uint64_t v2, uint64_t v3, uint64_t v4)
 {
@@ -62910,7 +64366,7 @@ j0 = v5;
 v5 = j0;
 j1 = UINT64_C(16);
 i0 = (SIGNED64(j0) < SIGNED64(j1));
-if (i0) { goto l5; }
+if (!i0) {
 j0 = v4;
 p2 = read_at(j0, m, 32u);
 j0 = load64(p2 + 24);
@@ -62934,13 +64390,13 @@ i0 = load8(p1 + 16);
 v8 = i0;
 i1 = UINT32_C(1);
 i0 = (i0 != i1);
-if (i0) { goto l7; }
+if (!i0) {
 j0 = v5;
 j0 = load64(p1 + 24);
 v4 = j0;
 j1 = v2;
 i0 = (j0 >= j1);
-if (i0) { goto l8; }
+if (!i0) {
 j0 = v4;
 j1 = UINT64_C(0);
 i2 = v8;
@@ -62961,7 +64417,7 @@ if (i0) { goto l9; }
 i0 = v8;
 i1 = UINT32_C(58);
 i0 = (i0 < i1);
-if (i0) { goto l11; }
+if (!i0) {
 i0 = v8;
 i1 = UINT32_C(65);
 i0 = (i0 < i1);
@@ -62969,7 +64425,7 @@ if (i0) { goto l9; }
 i0 = v8;
 i1 = UINT32_C(71);
 i0 = (i0 < i1);
-if (i0) { goto l11; }
+if (!i0) {
 i0 = v8;
 i1 = UINT32_C(4294967199);
 i0 = i0 + i1;
@@ -62978,7 +64434,8 @@ i0 = i0 & i1;
 i1 = UINT32_C(5);
 i0 = (i0 > i1);
 if (i0) { goto l9; }
-l11:;
+}
+}
 j0 = v2;
 j1 = v4;
 j2 = UINT64_C(1);
@@ -62993,7 +64450,7 @@ j0 = v9;
 j1 = v4;
 i0 = (j0 != j1);
 if (i0) { goto l6; }
-l8:;
+}
 j0 = v0;
 j1 = UINT64_C(0);
 p4 = write_at(j0, m, 40u);
@@ -63011,7 +64468,7 @@ j0 = v0;
 j1 = UINT64_C(0);
 store64(p4 + 0, j1);
 goto l2;
-l7:;
+}
 j0 = v0;
 j1 = UINT64_C(0);
 p5 = write_at(j0, m, 40u);
@@ -63056,11 +64513,11 @@ i0 = load8(p6 + 0);
 v8 = i0;
 i1 = UINT32_C(95);
 i0 = (i0 == i1);
-if (i0) { goto l12; }
+if (!i0) {
 i0 = v8;
 i1 = UINT32_C(48);
 i0 = (i0 < i1);
-if (i0) { goto l13; }
+if (!i0) {
 i0 = v8;
 i1 = UINT32_C(58);
 i0 = (i0 < i1);
@@ -63083,7 +64540,7 @@ i1 = UINT32_C(123);
 i0 = (SIGNED32(i0) < SIGNED32(i1));
 if (i0) { goto l12; }
 goto l3;
-l13:;
+}
 i0 = v8;
 i1 = UINT32_C(46);
 i0 = (i0 != i1);
@@ -63107,6 +64564,7 @@ i0 = i0 & i1;
 i1 = UINT32_C(10);
 i0 = (i0 >= i1);
 if (i0) { goto l3; }
+}
 l12:;
 j0 = v0;
 j1 = UINT64_C(0);
@@ -63125,7 +64583,7 @@ j0 = v0;
 j1 = UINT64_C(0);
 store64(p8 + 0, j1);
 goto l2;
-l5:;
+}
 fio2070_trap();
 l4:;
 j0 = v0;
@@ -63175,7 +64633,6 @@ j0 = v5;
 j1 = UINT64_C(32);
 j0 = j0 + j1;
 m->g0 = j0;
-return;
 }
 static void fio_log_runs_next_word(struct machine *m, uint64_t v0, uint64_t v1, uint64_t v2, uint64_t v3, uint64_t v4, uint64_t v5)
 {
@@ -63229,7 +64686,7 @@ j0 = v6;
 v6 = j0;
 j1 = UINT64_C(16);
 i0 = (SIGNED64(j0) < SIGNED64(j1));
-if (i0) { goto l8; }
+if (!i0) {
 j0 = v4;
 p2 = read_at(j0 + UINT64_C(8), m, 24u);
 j0 = load64(p2 + 16);
@@ -63279,18 +64736,18 @@ store64(p1 + 40, j1);
 j0 = v4;
 i0 = (j0 == 0);
 v16 = i0;
-if (i0) { goto l9; }
+if (!i0) {
 j0 = v4;
 j1 = UINT64_C(8);
 i0 = (j0 > j1);
-if (i0) { goto l10; }
+if (!i0) {
 j0 = v8;
 j1 = v9;
 j0 = j0 - j1;
 j1 = v4;
 i0 = (j0 >= j1);
 if (i0) { goto l9; }
-l10:;
+}
 j0 = v0;
 j1 = UINT64_C(0);
 p4 = write_at(j0, m, 48u);
@@ -63311,6 +64768,7 @@ j0 = v0;
 j1 = UINT64_C(0);
 store64(p4 + 0, j1);
 goto l2;
+}
 l9:;
 i0 = UINT32_C(16);
 j1 = v4;
@@ -63329,11 +64787,11 @@ v18 = i0;
 j0 = v7;
 j1 = v2;
 i0 = (j0 < j1);
-if (i0) { goto l12; }
+if (!i0) {
 j0 = v7;
 v3 = j0;
 goto l11;
-l12:;
+}
 i0 = v17;
 j0 = (uint64_t)i0;
 v9 = j0;
@@ -63348,11 +64806,11 @@ i0 = load8(p5 + 0);
 v17 = i0;
 i1 = UINT32_C(9);
 i0 = (i0 == i1);
-if (i0) { goto l15; }
+if (!i0) {
 i0 = v17;
 i1 = UINT32_C(32);
 i0 = (i0 == i1);
-if (i0) { goto l15; }
+if (!i0) {
 i0 = v17;
 i1 = UINT32_C(44);
 i0 = (i0 < i1);
@@ -63360,14 +64818,16 @@ if (i0) { goto l13; }
 i0 = v17;
 i1 = UINT32_C(46);
 i0 = (i0 < i1);
-if (i0) { goto l15; }
+if (!i0) {
 i0 = v17;
 i1 = UINT32_C(254);
 i0 = i0 & i1;
 i1 = UINT32_C(58);
 i0 = (i0 != i1);
 if (i0) { goto l13; }
-l15:;
+}
+}
+}
 j0 = v2;
 j1 = v3;
 j2 = UINT64_C(1);
@@ -63381,11 +64841,11 @@ l13:;
 j0 = v3;
 j1 = v7;
 i0 = (j0 != j1);
-if (i0) { goto l16; }
+if (!i0) {
 j0 = v7;
 v3 = j0;
 goto l11;
-l16:;
+}
 j0 = v1;
 j1 = v7;
 j0 = j0 + j1;
@@ -63396,17 +64856,17 @@ j0 = j0 - j1;
 v7 = j0;
 j1 = UINT64_C(1);
 i0 = (j0 > j1);
-if (i0) { goto l17; }
+if (!i0) {
 j0 = v8;
 p6 = read_at(j0, m, 1u);
 i0 = load8(p6 + 0);
 v18 = i0;
 goto l11;
-l17:;
+}
 j0 = v7;
 j1 = UINT64_C(2);
 i0 = (j0 != j1);
-if (i0) { goto l18; }
+if (!i0) {
 j0 = v8;
 p7 = read_at(j0, m, 2u);
 i0 = load8(p7 + 1);
@@ -63416,7 +64876,7 @@ i0 = load8(p7 + 0);
 v17 = i0;
 i1 = UINT32_C(32);
 i0 = (i0 != i1);
-if (i0) { goto l19; }
+if (!i0) {
 j0 = UINT64_C(256);
 j1 = UINT64_C(0);
 i2 = v18;
@@ -63436,7 +64896,7 @@ i1 = UINT32_C(32);
 i0 = (i0 != i1);
 if (i0) { goto l11; }
 goto l3;
-l19:;
+}
 i0 = v18;
 i1 = UINT32_C(255);
 i0 = i0 & i1;
@@ -63448,7 +64908,7 @@ v15 = j0;
 i0 = v17;
 v18 = i0;
 goto l11;
-l18:;
+}
 j0 = v7;
 j1 = UINT64_C(3);
 i0 = (j0 > j1);
@@ -63536,7 +64996,7 @@ i1 = UINT32_C(255);
 i0 = i0 & i1;
 i1 = UINT32_C(1);
 i0 = (i0 != i1);
-if (i0) { goto l23; }
+if (!i0) {
 i0 = v12;
 i1 = UINT32_C(255);
 i0 = i0 & i1;
@@ -63559,13 +65019,13 @@ i0 = i0 & i1;
 i1 = v19;
 i0 = (i0 != i1);
 if (i0) { goto l22; }
-l23:;
+}
 j0 = v2;
 j1 = v3;
 j0 = j0 - j1;
 v15 = j0;
 i0 = v16;
-if (i0) { goto l24; }
+if (!i0) {
 j0 = v15;
 j1 = v4;
 i0 = (j0 == j1);
@@ -63597,14 +65057,14 @@ i0 = i0 & i1;
 i0 = (i0 == 0);
 if (i0) { goto l20; }
 goto l6;
-l24:;
+}
 j0 = v15;
 j1 = UINT64_C(18446744073709551615);
 j0 = j0 + j1;
 v4 = j0;
 j1 = UINT64_C(1);
 i0 = (j0 > j1);
-if (i0) { goto l22; }
+if (!i0) {
 j0 = v4;
 i0 = (uint32_t)j0;
 switch (i0) {
@@ -63614,6 +65074,7 @@ case 1:
 goto l21;
 default:
 goto l20;
+}
 }
 l22:;
 i0 = UINT32_C(0);
@@ -63660,7 +65121,7 @@ store32(p1 + 88, i1);
 j0 = UINT64_C(1);
 v1 = j0;
 goto l4;
-l8:;
+}
 fio2070_trap();
 l7:;
 j0 = v0;
@@ -63788,7 +65249,6 @@ j0 = v6;
 j1 = UINT64_C(96);
 j0 = j0 + j1;
 m->g0 = j0;
-return;
 }
 static uint32_t fio_log_sources_Sources_is_another(struct machine *m, uint64_t v0, uint64_t v1, uint64_t v2)
 {
@@ -63811,7 +65271,7 @@ uint64_t j0;
 uint64_t j1;
 uint64_t j2;
 uint64_t j3;
-uint32_t r;
+uint32_t r = 0;
 uint8_t *p1;
 uint8_t *p2;
 uint8_t *p3;
@@ -63831,7 +65291,7 @@ j0 = v3;
 v4 = j0;
 j1 = UINT64_C(16);
 i0 = (SIGNED64(j0) < SIGNED64(j1));
-if (i0) { goto l4; }
+if (!i0) {
 j0 = v0;
 j1 = UINT64_C(14336);
 j0 = j0 + j1;
@@ -63860,7 +65320,7 @@ p3 = read_at(j0, m, 8u);
 j0 = load64(p3 + 0);
 v9 = j0;
 i0 = (j0 == 0);
-if (i0) { goto l6; }
+if (!i0) {
 j0 = v8;
 j1 = v1;
 j0 = j0 + j1;
@@ -63880,11 +65340,11 @@ p4 = read_at(j0, m, 8u);
 j0 = load64(p4 + 0);
 j1 = v10;
 i0 = (j0 != j1);
-if (i0) { goto l9; }
+if (!i0) {
 j0 = v3;
 v13 = j0;
 goto l8;
-l9:;
+}
 j0 = v11;
 j1 = UINT64_C(1);
 j0 = j0 | j1;
@@ -63899,7 +65359,7 @@ p5 = read_at(j0, m, 8u);
 j0 = load64(p5 + 0);
 j1 = v10;
 i0 = (j0 == j1);
-if (i0) { goto l8; }
+if (!i0) {
 j0 = v12;
 j1 = UINT64_C(18446744073709551614);
 j0 = j0 + j1;
@@ -63916,13 +65376,14 @@ j1 = UINT64_C(64);
 i0 = (j0 != j1);
 if (i0) { goto l7; }
 goto l6;
+}
 l8:;
 j0 = v13;
 p6 = read_at(j0 + UINT64_C(216), m, 1u);
 i0 = load8(p6 + 0);
 i1 = UINT32_C(1);
 i0 = i0 & i1;
-if (i0) { goto l6; }
+if (!i0) {
 j0 = v13;
 p7 = read_at(j0 + UINT64_C(200), m, 16u);
 j0 = load64(p7 + 0);
@@ -63938,7 +65399,7 @@ j1 = v13;
 j1 = load64(p7 + 8);
 v12 = j1;
 i0 = (j0 > j1);
-if (i0) { goto l6; }
+if (!i0) {
 j0 = v4;
 j1 = v13;
 j2 = UINT64_C(200);
@@ -63970,11 +65431,11 @@ j0 = v4;
 j0 = load64(p1 + 8);
 j1 = v9;
 i0 = (j0 != j1);
-if (i0) { goto l11; }
+if (!i0) {
 j0 = UINT64_C(0);
 v3 = j0;
 goto l10;
-l11:;
+}
 j0 = v3;
 j1 = UINT64_C(1);
 i0 = (j0 == j1);
@@ -63983,11 +65444,11 @@ j0 = v4;
 j0 = load64(p1 + 32);
 j1 = v9;
 i0 = (j0 != j1);
-if (i0) { goto l12; }
+if (!i0) {
 j0 = UINT64_C(24);
 v3 = j0;
 goto l10;
-l12:;
+}
 j0 = v3;
 j1 = UINT64_C(2);
 i0 = (j0 == j1);
@@ -63996,11 +65457,11 @@ j0 = v4;
 j0 = load64(p1 + 56);
 j1 = v9;
 i0 = (j0 != j1);
-if (i0) { goto l13; }
+if (!i0) {
 j0 = UINT64_C(48);
 v3 = j0;
 goto l10;
-l13:;
+}
 j0 = v3;
 j1 = UINT64_C(3);
 i0 = (j0 == j1);
@@ -64009,11 +65470,11 @@ j0 = v4;
 j0 = load64(p1 + 80);
 j1 = v9;
 i0 = (j0 != j1);
-if (i0) { goto l14; }
+if (!i0) {
 j0 = UINT64_C(72);
 v3 = j0;
 goto l10;
-l14:;
+}
 j0 = v3;
 j1 = UINT64_C(4);
 i0 = (j0 == j1);
@@ -64022,11 +65483,11 @@ j0 = v4;
 j0 = load64(p1 + 104);
 j1 = v9;
 i0 = (j0 != j1);
-if (i0) { goto l15; }
+if (!i0) {
 j0 = UINT64_C(96);
 v3 = j0;
 goto l10;
-l15:;
+}
 j0 = v3;
 j1 = UINT64_C(5);
 i0 = (j0 == j1);
@@ -64035,11 +65496,11 @@ j0 = v4;
 j0 = load64(p1 + 128);
 j1 = v9;
 i0 = (j0 != j1);
-if (i0) { goto l16; }
+if (!i0) {
 j0 = UINT64_C(120);
 v3 = j0;
 goto l10;
-l16:;
+}
 j0 = v3;
 j1 = UINT64_C(6);
 i0 = (j0 == j1);
@@ -64048,11 +65509,11 @@ j0 = v4;
 j0 = load64(p1 + 152);
 j1 = v9;
 i0 = (j0 != j1);
-if (i0) { goto l17; }
+if (!i0) {
 j0 = UINT64_C(144);
 v3 = j0;
 goto l10;
-l17:;
+}
 j0 = v3;
 j1 = UINT64_C(7);
 i0 = (j0 == j1);
@@ -64076,6 +65537,9 @@ i1 = UINT32_C(1);
 i0 = i0 & i1;
 i0 = (i0 == 0);
 if (i0) { goto l2; }
+}
+}
+}
 l6:;
 j0 = v8;
 j1 = UINT64_C(1);
@@ -64085,7 +65549,7 @@ j1 = UINT64_C(4);
 i0 = (j0 == j1);
 if (i0) { goto l3; }
 goto l5;
-l4:;
+}
 fio2070_trap();
 l3:;
 i0 = UINT32_C(0);
@@ -64136,23 +65600,23 @@ j0 = v3;
 v4 = j0;
 j1 = UINT64_C(16);
 i0 = (SIGNED64(j0) < SIGNED64(j1));
-if (i0) { goto l5; }
+if (!i0) {
 j0 = v2;
 j1 = UINT64_C(2);
 i0 = (j0 < j1);
-if (i0) { goto l6; }
+if (!i0) {
 j0 = v1;
 p2 = read_at(j0 + UINT64_C(1), m, 1u);
 i0 = load8(p2 + 0);
 v5 = i0;
 i1 = UINT32_C(182);
 i0 = (i0 == i1);
-if (i0) { goto l7; }
+if (!i0) {
 i0 = v5;
 i1 = UINT32_C(51);
 i0 = (i0 != i1);
 if (i0) { goto l6; }
-l7:;
+}
 j0 = v4;
 j1 = UINT64_C(8);
 j0 = j0 + j1;
@@ -64224,13 +65688,13 @@ j1 = UINT64_C(1);
 j0 = j0 + j1;
 v7 = j0;
 i0 = (j0 == 0);
-if (i0) { goto l6; }
+if (!i0) {
 j0 = v4;
 i0 = load8(p1 + 8);
 v5 = i0;
 i1 = UINT32_C(182);
 i0 = (i0 == i1);
-if (i0) { goto l10; }
+if (!i0) {
 i0 = v5;
 i1 = UINT32_C(51);
 i0 = (i0 != i1);
@@ -64239,7 +65703,7 @@ j0 = v7;
 j1 = UINT64_C(3);
 i0 = (j0 < j1);
 if (i0) { goto l9; }
-l10:;
+}
 j0 = v4;
 j1 = UINT64_C(800);
 j0 = j0 + j1;
@@ -64269,7 +65733,7 @@ j0 = v3;
 i1 = UINT32_C(0);
 store8(p5 + 0, i1);
 i0 = v5;
-if (i0) { goto l6; }
+if (!i0) {
 j0 = v4;
 j0 = load64(p1 + 792);
 v3 = j0;
@@ -64287,13 +65751,13 @@ j1 = UINT64_C(0);
 store64(p1 + 800, j1);
 j0 = v3;
 i0 = (j0 == 0);
-if (i0) { goto l6; }
+if (!i0) {
 j0 = v4;
 i0 = load8(p1 + 8);
 v5 = i0;
 i1 = UINT32_C(182);
 i0 = (i0 == i1);
-if (i0) { goto l11; }
+if (!i0) {
 i0 = v5;
 i1 = UINT32_C(51);
 i0 = (i0 != i1);
@@ -64302,7 +65766,7 @@ j0 = v3;
 j1 = UINT64_C(2);
 i0 = (j0 <= j1);
 if (i0) { goto l6; }
-l11:;
+}
 j0 = v4;
 j1 = UINT64_C(800);
 j0 = j0 + j1;
@@ -64315,11 +65779,15 @@ j0 = v4;
 i0 = load8(p1 + 800);
 i0 = (i0 == 0);
 if (i0) { goto l3; }
+}
+}
+}
+}
 l6:;
 j0 = v2;
 j1 = UINT64_C(2);
 i0 = (j0 < j1);
-if (i0) { goto l12; }
+if (!i0) {
 j0 = v4;
 j1 = UINT64_C(0);
 store64(p1 + 32, j1);
@@ -64337,7 +65805,7 @@ j1 = UINT64_C(18446744073709551614);
 j0 = j0 + j1;
 v3 = j0;
 i0 = (j0 == 0);
-if (i0) { goto l12; }
+if (!i0) {
 j0 = v1;
 j1 = UINT64_C(2);
 j0 = j0 + j1;
@@ -64347,7 +65815,7 @@ i0 = load8(p6 + 0);
 v5 = i0;
 i1 = UINT32_C(182);
 i0 = (i0 == i1);
-if (i0) { goto l16; }
+if (!i0) {
 i0 = v5;
 i1 = UINT32_C(51);
 i0 = (i0 != i1);
@@ -64356,7 +65824,7 @@ j0 = v3;
 j1 = UINT64_C(3);
 i0 = (j0 < j1);
 if (i0) { goto l15; }
-l16:;
+}
 j0 = v4;
 j1 = UINT64_C(8);
 j0 = j0 + j1;
@@ -64408,7 +65876,7 @@ i0 = load8(p7 + 0);
 v5 = i0;
 i1 = UINT32_C(182);
 i0 = (i0 == i1);
-if (i0) { goto l17; }
+if (!i0) {
 i0 = v5;
 i1 = UINT32_C(51);
 i0 = (i0 != i1);
@@ -64417,7 +65885,7 @@ j0 = v3;
 j1 = UINT64_C(2);
 i0 = (j0 <= j1);
 if (i0) { goto l12; }
-l17:;
+}
 j0 = v4;
 j1 = UINT64_C(8);
 j0 = j0 + j1;
@@ -64428,6 +65896,8 @@ j0 = v4;
 i0 = load8(p1 + 8);
 i0 = (i0 == 0);
 if (i0) { goto l4; }
+}
+}
 l12:;
 j0 = v4;
 j1 = UINT64_C(0);
@@ -64446,14 +65916,14 @@ j1 = UINT64_C(18446744073709550843);
 j0 = j0 + j1;
 j1 = UINT64_C(18446744073709550844);
 i0 = (j0 < j1);
-if (i0) { goto l19; }
+if (!i0) {
 j0 = v1;
 p8 = read_at(j0, m, 1u);
 i0 = load8(p8 + 0);
 v5 = i0;
 i1 = UINT32_C(182);
 i0 = (i0 == i1);
-if (i0) { goto l20; }
+if (!i0) {
 i0 = v5;
 i1 = UINT32_C(51);
 i0 = (i0 != i1);
@@ -64462,7 +65932,7 @@ j0 = v2;
 j1 = UINT64_C(3);
 i0 = (j0 < j1);
 if (i0) { goto l19; }
-l20:;
+}
 j0 = v4;
 j1 = UINT64_C(8);
 j0 = j0 + j1;
@@ -64474,6 +65944,7 @@ i0 = load8(p1 + 8);
 i1 = UINT32_C(1);
 i0 = (i0 == i1);
 if (i0) { goto l18; }
+}
 l19:;
 i0 = UINT32_C(0);
 v8 = i0;
@@ -64500,7 +65971,7 @@ v8 = i2;
 i0 = i2 ? i0 : i1;
 v5 = i0;
 goto l2;
-l5:;
+}
 fio2070_trap();
 l4:;
 i0 = UINT32_C(9);
@@ -64525,7 +65996,6 @@ j0 = v4;
 j1 = UINT64_C(832);
 j0 = j0 + j1;
 m->g0 = j0;
-return;
 }
 static uint32_t fio_log_judge_shapes_Shapes_add_good(struct machine *m, uint64_t v0, uint64_t v1)
 {
@@ -64553,7 +66023,7 @@ uint64_t j0;
 uint64_t j1;
 uint64_t j2;
 uint64_t j3;
-uint32_t r;
+uint32_t r = 0;
 uint8_t *p1;
 uint8_t *p2;
 uint8_t *p3;
@@ -64582,7 +66052,7 @@ j0 = v2;
 v3 = j0;
 j1 = UINT64_C(16);
 i0 = (SIGNED64(j0) < SIGNED64(j1));
-if (i0) { goto l2; }
+if (!i0) {
 j0 = v1;
 j1 = UINT64_C(16);
 j0 = j0 + j1;
@@ -64689,7 +66159,7 @@ j0 = j0 & j1;
 j1 = UINT64_C(38430716820228232);
 j0 = j0 & j1;
 i0 = (j0 == 0);
-if (i0) { goto l6; }
+if (!i0) {
 j0 = v1;
 j1 = UINT64_C(64);
 j0 = j0 + j1;
@@ -64698,7 +66168,7 @@ j0 = load8(p9 + 0);
 v2 = j0;
 j1 = UINT64_C(10);
 i0 = (j0 > j1);
-if (i0) { goto l6; }
+if (!i0) {
 j0 = v0;
 j1 = v2;
 j0 = j0 + j1;
@@ -64707,7 +66177,8 @@ j0 = j0 + j1;
 i1 = UINT32_C(1);
 p10 = write_at(j0, m, 1u);
 store8(p10 + 0, i1);
-l6:;
+}
+}
 j0 = v1;
 j1 = UINT64_C(32);
 j0 = j0 + j1;
@@ -64740,7 +66211,7 @@ p11 = read_at(j0, m, 8u);
 j0 = load64(p11 + 0);
 v15 = j0;
 i0 = (j0 == 0);
-if (i0) { goto l8; }
+if (!i0) {
 j0 = v12;
 j1 = v10;
 j0 = j0 + j1;
@@ -64852,7 +66323,7 @@ i0 = UINT32_C(0);
 v7 = i0;
 j0 = v3;
 i0 = load8(p1 + 216);
-if (i0) { goto l13; }
+if (!i0) {
 j0 = v3;
 j1 = UINT64_C(18446744073709551615);
 j2 = v3;
@@ -64868,16 +66339,16 @@ j0 = v3;
 j0 = load64(p1 + 200);
 v4 = j0;
 i0 = (j0 == 0);
-if (i0) { goto l15; }
+if (!i0) {
 j0 = v3;
 j0 = load64(p1 + 8);
 j1 = v15;
 i0 = (j0 != j1);
-if (i0) { goto l17; }
+if (!i0) {
 j0 = UINT64_C(0);
 v4 = j0;
 goto l16;
-l17:;
+}
 j0 = v4;
 j1 = UINT64_C(1);
 i0 = (j0 == j1);
@@ -64886,11 +66357,11 @@ j0 = v3;
 j0 = load64(p1 + 32);
 j1 = v15;
 i0 = (j0 != j1);
-if (i0) { goto l18; }
+if (!i0) {
 j0 = UINT64_C(24);
 v4 = j0;
 goto l16;
-l18:;
+}
 j0 = v4;
 j1 = UINT64_C(2);
 i0 = (j0 == j1);
@@ -64899,11 +66370,11 @@ j0 = v3;
 j0 = load64(p1 + 56);
 j1 = v15;
 i0 = (j0 != j1);
-if (i0) { goto l19; }
+if (!i0) {
 j0 = UINT64_C(48);
 v4 = j0;
 goto l16;
-l19:;
+}
 j0 = v4;
 j1 = UINT64_C(3);
 i0 = (j0 == j1);
@@ -64912,11 +66383,11 @@ j0 = v3;
 j0 = load64(p1 + 80);
 j1 = v15;
 i0 = (j0 != j1);
-if (i0) { goto l20; }
+if (!i0) {
 j0 = UINT64_C(72);
 v4 = j0;
 goto l16;
-l20:;
+}
 j0 = v4;
 j1 = UINT64_C(4);
 i0 = (j0 == j1);
@@ -64925,11 +66396,11 @@ j0 = v3;
 j0 = load64(p1 + 104);
 j1 = v15;
 i0 = (j0 != j1);
-if (i0) { goto l21; }
+if (!i0) {
 j0 = UINT64_C(96);
 v4 = j0;
 goto l16;
-l21:;
+}
 j0 = v4;
 j1 = UINT64_C(5);
 i0 = (j0 == j1);
@@ -64938,11 +66409,11 @@ j0 = v3;
 j0 = load64(p1 + 128);
 j1 = v15;
 i0 = (j0 != j1);
-if (i0) { goto l22; }
+if (!i0) {
 j0 = UINT64_C(120);
 v4 = j0;
 goto l16;
-l22:;
+}
 j0 = v4;
 j1 = UINT64_C(6);
 i0 = (j0 == j1);
@@ -64951,11 +66422,11 @@ j0 = v3;
 j0 = load64(p1 + 152);
 j1 = v15;
 i0 = (j0 != j1);
-if (i0) { goto l23; }
+if (!i0) {
 j0 = UINT64_C(144);
 v4 = j0;
 goto l16;
-l23:;
+}
 j0 = v4;
 j1 = UINT64_C(7);
 i0 = (j0 == j1);
@@ -64989,11 +66460,12 @@ i3 = v17;
 i1 = i3 ? i1 : i2;
 store32(p17 + 0, i1);
 goto l13;
+}
 l15:;
 j0 = v15;
 j1 = UINT64_C(1);
 i0 = (j0 == j1);
-if (i0) { goto l14; }
+if (!i0) {
 j0 = v11;
 j1 = v4;
 j2 = UINT64_C(24);
@@ -65022,12 +66494,14 @@ j0 = v3;
 i0 = load8(p1 + 216);
 v7 = i0;
 goto l13;
+}
 l14:;
 i0 = UINT32_C(1);
 v7 = i0;
 j0 = v3;
 i1 = UINT32_C(1);
 store8(p1 + 216, i1);
+}
 l13:;
 j0 = v2;
 j1 = v3;
@@ -65037,6 +66511,7 @@ i0 = v13;
 i1 = v7;
 i0 = i0 | i1;
 v13 = i0;
+}
 l8:;
 j0 = v12;
 j1 = UINT64_C(1);
@@ -65054,7 +66529,7 @@ i1 = UINT32_C(1);
 i0 = i0 & i1;
 r = i0;
 return r;
-l2:;
+}
 fio2070_trap();
 return r;
 }
@@ -65081,7 +66556,7 @@ uint64_t j0;
 uint64_t j1;
 uint64_t j2;
 uint64_t j3;
-uint32_t r;
+uint32_t r = 0;
 uint8_t *p1;
 uint8_t *p2;
 uint8_t *p3;
@@ -65116,7 +66591,7 @@ j0 = v2;
 v3 = j0;
 j1 = UINT64_C(16);
 i0 = (SIGNED64(j0) < SIGNED64(j1));
-if (i0) { goto l2; }
+if (!i0) {
 j0 = v1;
 j1 = UINT64_C(16);
 j0 = j0 + j1;
@@ -65228,7 +66703,7 @@ p9 = read_at(j0, m, 8u);
 j0 = load64(p9 + 0);
 v14 = j0;
 i0 = (j0 == 0);
-if (i0) { goto l9; }
+if (!i0) {
 j0 = v13;
 j1 = v4;
 j0 = j0 + j1;
@@ -65251,7 +66726,7 @@ p10 = read_at(j0, m, 8u);
 j0 = load64(p10 + 0);
 j1 = v6;
 i0 = (j0 == j1);
-if (i0) { goto l12; }
+if (!i0) {
 j0 = v0;
 j1 = UINT64_C(1);
 j0 = j0 | j1;
@@ -65266,7 +66741,7 @@ i0 = (j0 != j1);
 if (i0) { goto l11; }
 j0 = v2;
 v1 = j0;
-l12:;
+}
 j0 = v1;
 p12 = read_at(j0 + UINT64_C(216), m, 1u);
 i0 = load8(p12 + 0);
@@ -65318,11 +66793,11 @@ j0 = v3;
 j0 = load64(p1 + 8);
 j1 = v14;
 i0 = (j0 != j1);
-if (i0) { goto l14; }
+if (!i0) {
 j0 = UINT64_C(0);
 v2 = j0;
 goto l13;
-l14:;
+}
 j0 = v2;
 j1 = UINT64_C(1);
 i0 = (j0 == j1);
@@ -65331,11 +66806,11 @@ j0 = v3;
 j0 = load64(p1 + 32);
 j1 = v14;
 i0 = (j0 != j1);
-if (i0) { goto l15; }
+if (!i0) {
 j0 = UINT64_C(24);
 v2 = j0;
 goto l13;
-l15:;
+}
 j0 = v2;
 j1 = UINT64_C(2);
 i0 = (j0 == j1);
@@ -65344,11 +66819,11 @@ j0 = v3;
 j0 = load64(p1 + 56);
 j1 = v14;
 i0 = (j0 != j1);
-if (i0) { goto l16; }
+if (!i0) {
 j0 = UINT64_C(48);
 v2 = j0;
 goto l13;
-l16:;
+}
 j0 = v2;
 j1 = UINT64_C(3);
 i0 = (j0 == j1);
@@ -65357,11 +66832,11 @@ j0 = v3;
 j0 = load64(p1 + 80);
 j1 = v14;
 i0 = (j0 != j1);
-if (i0) { goto l17; }
+if (!i0) {
 j0 = UINT64_C(72);
 v2 = j0;
 goto l13;
-l17:;
+}
 j0 = v2;
 j1 = UINT64_C(4);
 i0 = (j0 == j1);
@@ -65370,11 +66845,11 @@ j0 = v3;
 j0 = load64(p1 + 104);
 j1 = v14;
 i0 = (j0 != j1);
-if (i0) { goto l18; }
+if (!i0) {
 j0 = UINT64_C(96);
 v2 = j0;
 goto l13;
-l18:;
+}
 j0 = v2;
 j1 = UINT64_C(5);
 i0 = (j0 == j1);
@@ -65383,11 +66858,11 @@ j0 = v3;
 j0 = load64(p1 + 128);
 j1 = v14;
 i0 = (j0 != j1);
-if (i0) { goto l19; }
+if (!i0) {
 j0 = UINT64_C(120);
 v2 = j0;
 goto l13;
-l19:;
+}
 j0 = v2;
 j1 = UINT64_C(6);
 i0 = (j0 == j1);
@@ -65396,11 +66871,11 @@ j0 = v3;
 j0 = load64(p1 + 152);
 j1 = v14;
 i0 = (j0 != j1);
-if (i0) { goto l20; }
+if (!i0) {
 j0 = UINT64_C(144);
 v2 = j0;
 goto l13;
-l20:;
+}
 j0 = v2;
 j1 = UINT64_C(7);
 i0 = (j0 == j1);
@@ -65442,6 +66917,7 @@ v0 = j0;
 j1 = UINT64_C(64);
 i0 = (j0 != j1);
 if (i0) { goto l10; }
+}
 l9:;
 j0 = v13;
 j1 = UINT64_C(1);
@@ -65461,7 +66937,7 @@ p16 = read_at(j0, m, 8u);
 j0 = load64(p16 + 0);
 v8 = j0;
 i0 = (j0 == 0);
-if (i0) { goto l3; }
+if (!i0) {
 j0 = v1;
 j1 = UINT64_C(32);
 j0 = j0 + j1;
@@ -65490,7 +66966,7 @@ p17 = read_at(j0, m, 8u);
 j0 = load64(p17 + 0);
 v14 = j0;
 i0 = (j0 == 0);
-if (i0) { goto l22; }
+if (!i0) {
 j0 = v13;
 j1 = v4;
 j0 = j0 + j1;
@@ -65513,7 +66989,7 @@ p18 = read_at(j0, m, 8u);
 j0 = load64(p18 + 0);
 j1 = v6;
 i0 = (j0 == j1);
-if (i0) { goto l25; }
+if (!i0) {
 j0 = v0;
 j1 = UINT64_C(1);
 j0 = j0 | j1;
@@ -65528,7 +67004,7 @@ i0 = (j0 != j1);
 if (i0) { goto l24; }
 j0 = v2;
 v1 = j0;
-l25:;
+}
 j0 = v1;
 p20 = read_at(j0 + UINT64_C(216), m, 1u);
 i0 = load8(p20 + 0);
@@ -65580,11 +67056,11 @@ j0 = v3;
 j0 = load64(p1 + 8);
 j1 = v14;
 i0 = (j0 != j1);
-if (i0) { goto l27; }
+if (!i0) {
 j0 = UINT64_C(0);
 v2 = j0;
 goto l26;
-l27:;
+}
 j0 = v2;
 j1 = UINT64_C(1);
 i0 = (j0 == j1);
@@ -65593,11 +67069,11 @@ j0 = v3;
 j0 = load64(p1 + 32);
 j1 = v14;
 i0 = (j0 != j1);
-if (i0) { goto l28; }
+if (!i0) {
 j0 = UINT64_C(24);
 v2 = j0;
 goto l26;
-l28:;
+}
 j0 = v2;
 j1 = UINT64_C(2);
 i0 = (j0 == j1);
@@ -65606,11 +67082,11 @@ j0 = v3;
 j0 = load64(p1 + 56);
 j1 = v14;
 i0 = (j0 != j1);
-if (i0) { goto l29; }
+if (!i0) {
 j0 = UINT64_C(48);
 v2 = j0;
 goto l26;
-l29:;
+}
 j0 = v2;
 j1 = UINT64_C(3);
 i0 = (j0 == j1);
@@ -65619,11 +67095,11 @@ j0 = v3;
 j0 = load64(p1 + 80);
 j1 = v14;
 i0 = (j0 != j1);
-if (i0) { goto l30; }
+if (!i0) {
 j0 = UINT64_C(72);
 v2 = j0;
 goto l26;
-l30:;
+}
 j0 = v2;
 j1 = UINT64_C(4);
 i0 = (j0 == j1);
@@ -65632,11 +67108,11 @@ j0 = v3;
 j0 = load64(p1 + 104);
 j1 = v14;
 i0 = (j0 != j1);
-if (i0) { goto l31; }
+if (!i0) {
 j0 = UINT64_C(96);
 v2 = j0;
 goto l26;
-l31:;
+}
 j0 = v2;
 j1 = UINT64_C(5);
 i0 = (j0 == j1);
@@ -65645,11 +67121,11 @@ j0 = v3;
 j0 = load64(p1 + 128);
 j1 = v14;
 i0 = (j0 != j1);
-if (i0) { goto l32; }
+if (!i0) {
 j0 = UINT64_C(120);
 v2 = j0;
 goto l26;
-l32:;
+}
 j0 = v2;
 j1 = UINT64_C(6);
 i0 = (j0 == j1);
@@ -65658,11 +67134,11 @@ j0 = v3;
 j0 = load64(p1 + 152);
 j1 = v14;
 i0 = (j0 != j1);
-if (i0) { goto l33; }
+if (!i0) {
 j0 = UINT64_C(144);
 v2 = j0;
 goto l26;
-l33:;
+}
 j0 = v2;
 j1 = UINT64_C(7);
 i0 = (j0 == j1);
@@ -65710,6 +67186,7 @@ v0 = j0;
 j1 = UINT64_C(64);
 i0 = (j0 != j1);
 if (i0) { goto l23; }
+}
 l22:;
 j0 = v13;
 j1 = UINT64_C(1);
@@ -65718,6 +67195,7 @@ v13 = j0;
 j1 = UINT64_C(4);
 i0 = (j0 != j1);
 if (i0) { goto l21; }
+}
 l3:;
 j0 = v3;
 j1 = UINT64_C(224);
@@ -65726,7 +67204,7 @@ m->g0 = j0;
 i0 = v7;
 r = i0;
 return r;
-l2:;
+}
 fio2070_trap();
 return r;
 }
@@ -65751,7 +67229,7 @@ uint32_t i2;
 uint64_t j0;
 uint64_t j1;
 uint64_t j2;
-uint32_t r;
+uint32_t r = 0;
 uint8_t *p1;
 uint8_t *p2;
 uint8_t *p3;
@@ -65798,7 +67276,7 @@ j0 = v2;
 v3 = j0;
 j1 = UINT64_C(16);
 i0 = (SIGNED64(j0) < SIGNED64(j1));
-if (i0) { goto l2; }
+if (!i0) {
 j0 = v1;
 j1 = UINT64_C(64);
 j0 = j0 + j1;
@@ -65807,7 +67285,7 @@ i0 = load8(p2 + 0);
 v4 = i0;
 i1 = UINT32_C(10);
 i0 = (i0 > i1);
-if (i0) { goto l3; }
+if (!i0) {
 j0 = v0;
 i1 = v4;
 i2 = UINT32_C(3);
@@ -65829,7 +67307,7 @@ p4 = write_at(j2, m, 8u);
 j2 = load64(p4 + 0);
 j1 = j1 | j2;
 store64(p4 + 0, j1);
-l3:;
+}
 j0 = v0;
 j1 = UINT64_C(34816);
 j0 = j0 + j1;
@@ -65838,11 +67316,11 @@ j0 = load64(p5 + 0);
 v5 = j0;
 i0 = (j0 == 0);
 i0 = (i0 == 0);
-if (i0) { goto l5; }
+if (!i0) {
 i0 = UINT32_C(0);
 v4 = i0;
 goto l4;
-l5:;
+}
 j0 = v1;
 j1 = UINT64_C(16);
 j0 = j0 + j1;
@@ -65861,7 +67339,7 @@ j0 = j0 + j1;
 j0 = load64(p6 + 16);
 v8 = j0;
 i0 = (j0 == 0);
-if (i0) { goto l6; }
+if (!i0) {
 j0 = v0;
 j1 = UINT64_C(20704);
 j0 = j0 + j1;
@@ -65882,7 +67360,7 @@ p7 = read_at(j0, m, 8u);
 j0 = load64(p7 + 0);
 j1 = v6;
 i0 = (j0 == j1);
-if (i0) { goto l12; }
+if (!i0) {
 j0 = v9;
 j1 = UINT64_C(1);
 j0 = j0 | j1;
@@ -65897,7 +67375,7 @@ i0 = (j0 != j1);
 if (i0) { goto l11; }
 j0 = v2;
 v11 = j0;
-l12:;
+}
 j0 = v3;
 j1 = v11;
 j2 = UINT64_C(224);
@@ -65943,11 +67421,11 @@ j0 = v3;
 j0 = load64(p1 + 32);
 j1 = v8;
 i0 = (j0 != j1);
-if (i0) { goto l13; }
+if (!i0) {
 j0 = UINT64_C(24);
 v2 = j0;
 goto l8;
-l13:;
+}
 j0 = v2;
 j1 = UINT64_C(2);
 i0 = (j0 == j1);
@@ -65956,11 +67434,11 @@ j0 = v3;
 j0 = load64(p1 + 56);
 j1 = v8;
 i0 = (j0 != j1);
-if (i0) { goto l14; }
+if (!i0) {
 j0 = UINT64_C(48);
 v2 = j0;
 goto l8;
-l14:;
+}
 j0 = v2;
 j1 = UINT64_C(3);
 i0 = (j0 == j1);
@@ -65969,11 +67447,11 @@ j0 = v3;
 j0 = load64(p1 + 80);
 j1 = v8;
 i0 = (j0 != j1);
-if (i0) { goto l15; }
+if (!i0) {
 j0 = UINT64_C(72);
 v2 = j0;
 goto l8;
-l15:;
+}
 j0 = v2;
 j1 = UINT64_C(4);
 i0 = (j0 == j1);
@@ -65982,11 +67460,11 @@ j0 = v3;
 j0 = load64(p1 + 104);
 j1 = v8;
 i0 = (j0 != j1);
-if (i0) { goto l16; }
+if (!i0) {
 j0 = UINT64_C(96);
 v2 = j0;
 goto l8;
-l16:;
+}
 j0 = v2;
 j1 = UINT64_C(5);
 i0 = (j0 == j1);
@@ -65995,11 +67473,11 @@ j0 = v3;
 j0 = load64(p1 + 128);
 j1 = v8;
 i0 = (j0 != j1);
-if (i0) { goto l17; }
+if (!i0) {
 j0 = UINT64_C(120);
 v2 = j0;
 goto l8;
-l17:;
+}
 j0 = v2;
 j1 = UINT64_C(6);
 i0 = (j0 == j1);
@@ -66008,11 +67486,11 @@ j0 = v3;
 j0 = load64(p1 + 152);
 j1 = v8;
 i0 = (j0 != j1);
-if (i0) { goto l18; }
+if (!i0) {
 j0 = UINT64_C(144);
 v2 = j0;
 goto l8;
-l18:;
+}
 j0 = v2;
 j1 = UINT64_C(7);
 i0 = (j0 == j1);
@@ -66044,6 +67522,7 @@ j0 = v11;
 j1 = v3;
 j2 = UINT64_C(224);
 copy(m, j0, j1, j2);
+}
 l6:;
 j0 = v1;
 j1 = UINT64_C(40);
@@ -66052,7 +67531,7 @@ p10 = read_at(j0, m, 8u);
 j0 = load64(p10 + 0);
 v12 = j0;
 i0 = (j0 == 0);
-if (i0) { goto l19; }
+if (!i0) {
 j0 = v0;
 j1 = UINT64_C(20704);
 j0 = j0 + j1;
@@ -66082,7 +67561,7 @@ p12 = read_at(j0, m, 8u);
 j0 = load64(p12 + 0);
 j1 = v5;
 i0 = (j0 == j1);
-if (i0) { goto l25; }
+if (!i0) {
 j0 = v9;
 j1 = UINT64_C(1);
 j0 = j0 | j1;
@@ -66097,7 +67576,7 @@ i0 = (j0 != j1);
 if (i0) { goto l24; }
 j0 = v2;
 v11 = j0;
-l25:;
+}
 j0 = v3;
 j1 = v11;
 j2 = UINT64_C(224);
@@ -66143,11 +67622,11 @@ j0 = v3;
 j0 = load64(p1 + 32);
 j1 = v12;
 i0 = (j0 != j1);
-if (i0) { goto l26; }
+if (!i0) {
 j0 = UINT64_C(24);
 v2 = j0;
 goto l21;
-l26:;
+}
 j0 = v2;
 j1 = UINT64_C(2);
 i0 = (j0 == j1);
@@ -66156,11 +67635,11 @@ j0 = v3;
 j0 = load64(p1 + 56);
 j1 = v12;
 i0 = (j0 != j1);
-if (i0) { goto l27; }
+if (!i0) {
 j0 = UINT64_C(48);
 v2 = j0;
 goto l21;
-l27:;
+}
 j0 = v2;
 j1 = UINT64_C(3);
 i0 = (j0 == j1);
@@ -66169,11 +67648,11 @@ j0 = v3;
 j0 = load64(p1 + 80);
 j1 = v12;
 i0 = (j0 != j1);
-if (i0) { goto l28; }
+if (!i0) {
 j0 = UINT64_C(72);
 v2 = j0;
 goto l21;
-l28:;
+}
 j0 = v2;
 j1 = UINT64_C(4);
 i0 = (j0 == j1);
@@ -66182,11 +67661,11 @@ j0 = v3;
 j0 = load64(p1 + 104);
 j1 = v12;
 i0 = (j0 != j1);
-if (i0) { goto l29; }
+if (!i0) {
 j0 = UINT64_C(96);
 v2 = j0;
 goto l21;
-l29:;
+}
 j0 = v2;
 j1 = UINT64_C(5);
 i0 = (j0 == j1);
@@ -66195,11 +67674,11 @@ j0 = v3;
 j0 = load64(p1 + 128);
 j1 = v12;
 i0 = (j0 != j1);
-if (i0) { goto l30; }
+if (!i0) {
 j0 = UINT64_C(120);
 v2 = j0;
 goto l21;
-l30:;
+}
 j0 = v2;
 j1 = UINT64_C(6);
 i0 = (j0 == j1);
@@ -66208,11 +67687,11 @@ j0 = v3;
 j0 = load64(p1 + 152);
 j1 = v12;
 i0 = (j0 != j1);
-if (i0) { goto l31; }
+if (!i0) {
 j0 = UINT64_C(144);
 v2 = j0;
 goto l21;
-l31:;
+}
 j0 = v2;
 j1 = UINT64_C(7);
 i0 = (j0 == j1);
@@ -66248,6 +67727,7 @@ i0 = v4;
 i1 = v13;
 i0 = i0 | i1;
 v4 = i0;
+}
 l19:;
 j0 = v1;
 j1 = UINT64_C(48);
@@ -66256,7 +67736,7 @@ p15 = read_at(j0, m, 8u);
 j0 = load64(p15 + 0);
 v12 = j0;
 i0 = (j0 == 0);
-if (i0) { goto l32; }
+if (!i0) {
 j0 = v0;
 j1 = UINT64_C(20704);
 j0 = j0 + j1;
@@ -66286,7 +67766,7 @@ p17 = read_at(j0, m, 8u);
 j0 = load64(p17 + 0);
 j1 = v5;
 i0 = (j0 == j1);
-if (i0) { goto l38; }
+if (!i0) {
 j0 = v9;
 j1 = UINT64_C(1);
 j0 = j0 | j1;
@@ -66301,7 +67781,7 @@ i0 = (j0 != j1);
 if (i0) { goto l37; }
 j0 = v2;
 v11 = j0;
-l38:;
+}
 j0 = v3;
 j1 = v11;
 j2 = UINT64_C(224);
@@ -66347,11 +67827,11 @@ j0 = v3;
 j0 = load64(p1 + 32);
 j1 = v12;
 i0 = (j0 != j1);
-if (i0) { goto l39; }
+if (!i0) {
 j0 = UINT64_C(24);
 v2 = j0;
 goto l34;
-l39:;
+}
 j0 = v2;
 j1 = UINT64_C(2);
 i0 = (j0 == j1);
@@ -66360,11 +67840,11 @@ j0 = v3;
 j0 = load64(p1 + 56);
 j1 = v12;
 i0 = (j0 != j1);
-if (i0) { goto l40; }
+if (!i0) {
 j0 = UINT64_C(48);
 v2 = j0;
 goto l34;
-l40:;
+}
 j0 = v2;
 j1 = UINT64_C(3);
 i0 = (j0 == j1);
@@ -66373,11 +67853,11 @@ j0 = v3;
 j0 = load64(p1 + 80);
 j1 = v12;
 i0 = (j0 != j1);
-if (i0) { goto l41; }
+if (!i0) {
 j0 = UINT64_C(72);
 v2 = j0;
 goto l34;
-l41:;
+}
 j0 = v2;
 j1 = UINT64_C(4);
 i0 = (j0 == j1);
@@ -66386,11 +67866,11 @@ j0 = v3;
 j0 = load64(p1 + 104);
 j1 = v12;
 i0 = (j0 != j1);
-if (i0) { goto l42; }
+if (!i0) {
 j0 = UINT64_C(96);
 v2 = j0;
 goto l34;
-l42:;
+}
 j0 = v2;
 j1 = UINT64_C(5);
 i0 = (j0 == j1);
@@ -66399,11 +67879,11 @@ j0 = v3;
 j0 = load64(p1 + 128);
 j1 = v12;
 i0 = (j0 != j1);
-if (i0) { goto l43; }
+if (!i0) {
 j0 = UINT64_C(120);
 v2 = j0;
 goto l34;
-l43:;
+}
 j0 = v2;
 j1 = UINT64_C(6);
 i0 = (j0 == j1);
@@ -66412,11 +67892,11 @@ j0 = v3;
 j0 = load64(p1 + 152);
 j1 = v12;
 i0 = (j0 != j1);
-if (i0) { goto l44; }
+if (!i0) {
 j0 = UINT64_C(144);
 v2 = j0;
 goto l34;
-l44:;
+}
 j0 = v2;
 j1 = UINT64_C(7);
 i0 = (j0 == j1);
@@ -66452,6 +67932,7 @@ i0 = v4;
 i1 = v13;
 i0 = i0 | i1;
 v4 = i0;
+}
 l32:;
 j0 = v1;
 j1 = UINT64_C(56);
@@ -66460,7 +67941,7 @@ p20 = read_at(j0, m, 8u);
 j0 = load64(p20 + 0);
 v8 = j0;
 i0 = (j0 == 0);
-if (i0) { goto l4; }
+if (!i0) {
 j0 = v0;
 j1 = UINT64_C(20704);
 j0 = j0 + j1;
@@ -66490,7 +67971,7 @@ p22 = read_at(j0, m, 8u);
 j0 = load64(p22 + 0);
 j1 = v6;
 i0 = (j0 == j1);
-if (i0) { goto l50; }
+if (!i0) {
 j0 = v9;
 j1 = UINT64_C(1);
 j0 = j0 | j1;
@@ -66505,7 +67986,7 @@ i0 = (j0 != j1);
 if (i0) { goto l49; }
 j0 = v2;
 v5 = j0;
-l50:;
+}
 j0 = v3;
 j1 = v5;
 j2 = UINT64_C(224);
@@ -66551,11 +68032,11 @@ j0 = v3;
 j0 = load64(p1 + 32);
 j1 = v8;
 i0 = (j0 != j1);
-if (i0) { goto l51; }
+if (!i0) {
 j0 = UINT64_C(24);
 v2 = j0;
 goto l46;
-l51:;
+}
 j0 = v2;
 j1 = UINT64_C(2);
 i0 = (j0 == j1);
@@ -66564,11 +68045,11 @@ j0 = v3;
 j0 = load64(p1 + 56);
 j1 = v8;
 i0 = (j0 != j1);
-if (i0) { goto l52; }
+if (!i0) {
 j0 = UINT64_C(48);
 v2 = j0;
 goto l46;
-l52:;
+}
 j0 = v2;
 j1 = UINT64_C(3);
 i0 = (j0 == j1);
@@ -66577,11 +68058,11 @@ j0 = v3;
 j0 = load64(p1 + 80);
 j1 = v8;
 i0 = (j0 != j1);
-if (i0) { goto l53; }
+if (!i0) {
 j0 = UINT64_C(72);
 v2 = j0;
 goto l46;
-l53:;
+}
 j0 = v2;
 j1 = UINT64_C(4);
 i0 = (j0 == j1);
@@ -66590,11 +68071,11 @@ j0 = v3;
 j0 = load64(p1 + 104);
 j1 = v8;
 i0 = (j0 != j1);
-if (i0) { goto l54; }
+if (!i0) {
 j0 = UINT64_C(96);
 v2 = j0;
 goto l46;
-l54:;
+}
 j0 = v2;
 j1 = UINT64_C(5);
 i0 = (j0 == j1);
@@ -66603,11 +68084,11 @@ j0 = v3;
 j0 = load64(p1 + 128);
 j1 = v8;
 i0 = (j0 != j1);
-if (i0) { goto l55; }
+if (!i0) {
 j0 = UINT64_C(120);
 v2 = j0;
 goto l46;
-l55:;
+}
 j0 = v2;
 j1 = UINT64_C(6);
 i0 = (j0 == j1);
@@ -66616,11 +68097,11 @@ j0 = v3;
 j0 = load64(p1 + 152);
 j1 = v8;
 i0 = (j0 != j1);
-if (i0) { goto l56; }
+if (!i0) {
 j0 = UINT64_C(144);
 v2 = j0;
 goto l46;
-l56:;
+}
 j0 = v2;
 j1 = UINT64_C(7);
 i0 = (j0 == j1);
@@ -66656,6 +68137,7 @@ i0 = v4;
 i1 = v13;
 i0 = i0 | i1;
 v4 = i0;
+}
 l4:;
 j0 = v1;
 j1 = UINT64_C(72);
@@ -66754,11 +68236,12 @@ i0 = load8(p30 + 0);
 i1 = UINT32_C(1);
 i0 = i0 & i1;
 i0 = (i0 == 0);
-if (i0) { goto l58; }
+if (!i0) {
 j0 = v6;
 j1 = v1;
 i0 = (j0 == j1);
 if (i0) { goto l57; }
+}
 l58:;
 j0 = v0;
 j1 = UINT64_C(34832);
@@ -66865,7 +68348,7 @@ i1 = UINT32_C(1);
 i0 = i0 & i1;
 r = i0;
 return r;
-l2:;
+}
 fio2070_trap();
 return r;
 }
@@ -66925,7 +68408,7 @@ j0 = m->g0;
 v3 = j0;
 j1 = UINT64_C(16);
 i0 = (SIGNED64(j0) < SIGNED64(j1));
-if (i0) { goto l6; }
+if (!i0) {
 j0 = v0;
 j1 = v2;
 j2 = UINT64_C(144);
@@ -67000,7 +68483,7 @@ p4 = read_at(j0, m, 8u);
 j0 = load64(p4 + 0);
 j1 = v13;
 i0 = (j0 < j1);
-if (i0) { goto l13; }
+if (!i0) {
 j0 = UINT64_C(66616);
 j1 = v4;
 j2 = UINT64_C(18446744073709550840);
@@ -67017,20 +68500,20 @@ i0 = (uint32_t)extend(load8(p6 + 0), 7);
 v9 = i0;
 i1 = UINT32_C(4294967295);
 i0 = (SIGNED32(i0) > SIGNED32(i1));
-if (i0) { goto l13; }
+if (!i0) {
 i0 = v9;
 i1 = UINT32_C(126);
 i0 = i0 & i1;
 i1 = UINT32_C(56);
 i0 = (i0 == i1);
-if (i0) { goto l13; }
+if (!i0) {
 i0 = v9;
 i1 = UINT32_C(127);
 i0 = i0 & i1;
 v19 = i0;
 i1 = UINT32_C(59);
 i0 = (i0 == i1);
-if (i0) { goto l13; }
+if (!i0) {
 i0 = v19;
 j1 = UINT64_C(66616);
 j2 = v12;
@@ -67048,15 +68531,15 @@ i1 = load8(p8 + 0);
 i2 = UINT32_C(255);
 i1 = i1 & i2;
 i0 = (i0 != i1);
-if (i0) { goto l13; }
+if (!i0) {
 j0 = v20;
 j1 = UINT64_C(1);
 i0 = (j0 > j1);
-if (i0) { goto l14; }
+if (!i0) {
 i0 = v9;
 i1 = UINT32_C(4294967223);
 i0 = (i0 < i1);
-if (i0) { goto l14; }
+if (!i0) {
 i0 = v9;
 i1 = UINT32_C(4294967226);
 i0 = (i0 < i1);
@@ -67064,12 +68547,14 @@ if (i0) { goto l13; }
 i0 = v9;
 i1 = UINT32_C(4294967226);
 i0 = (i0 == i1);
-if (i0) { goto l14; }
+if (!i0) {
 i0 = v9;
 i1 = UINT32_C(4294967229);
 i0 = (i0 < i1);
 if (i0) { goto l13; }
-l14:;
+}
+}
+}
 i0 = v19;
 i1 = UINT32_C(54);
 i0 = (i0 != i1);
@@ -67077,11 +68562,11 @@ if (i0) { goto l11; }
 j0 = v20;
 j1 = UINT64_C(2);
 i0 = (j0 < j1);
-if (i0) { goto l15; }
+if (!i0) {
 j0 = v10;
 j1 = UINT64_C(2);
 i0 = (j0 < j1);
-if (i0) { goto l15; }
+if (!i0) {
 j0 = v21;
 j1 = UINT64_C(1);
 j0 = j0 + j1;
@@ -67095,13 +68580,19 @@ i1 = load8(p10 + 0);
 i0 = (i0 != i1);
 if (i0) { goto l13; }
 goto l11;
-l15:;
+}
+}
 j0 = v10;
 j1 = v20;
 j0 = j0 | j1;
 j1 = UINT64_C(2);
 i0 = (j0 < j1);
 if (i0) { goto l11; }
+}
+}
+}
+}
+}
 l13:;
 j0 = v4;
 j1 = UINT64_C(904);
@@ -67149,7 +68640,7 @@ i0 = v17;
 i1 = UINT32_C(1);
 i0 = i0 & i1;
 i0 = (i0 == 0);
-if (i0) { goto l16; }
+if (!i0) {
 j0 = v7;
 j1 = v5;
 j2 = v16;
@@ -67168,7 +68659,7 @@ j3 = v14;
 i0 = fio_log_judge_entries_say_same(m, j0, j1, j2, j3);
 i0 = (i0 == 0);
 if (i0) { goto l7; }
-l16:;
+}
 j0 = v14;
 j1 = UINT64_C(1);
 j0 = j0 + j1;
@@ -67240,7 +68731,7 @@ l19:;
 j0 = v14;
 j1 = UINT64_C(2);
 i0 = (j0 > j1);
-if (i0) { goto l23; }
+if (!i0) {
 i0 = UINT32_C(1);
 v9 = i0;
 j0 = v18;
@@ -67250,7 +68741,7 @@ p12 = read_at(j0, m, 1u);
 i0 = load8(p12 + 0);
 i1 = UINT32_C(1);
 i0 = (i0 != i1);
-if (i0) { goto l23; }
+if (!i0) {
 j0 = v4;
 j1 = UINT64_C(928);
 j0 = j0 + j1;
@@ -67258,11 +68749,12 @@ p13 = read_at(j0, m, 1u);
 i0 = load8(p13 + 0);
 v19 = i0;
 goto l22;
-l23:;
+}
+}
 j0 = v14;
 j1 = v5;
 i0 = (j0 < j1);
-if (i0) { goto l24; }
+if (!i0) {
 j0 = v4;
 j1 = UINT64_C(928);
 j0 = j0 + j1;
@@ -67272,7 +68764,7 @@ v19 = i0;
 i0 = UINT32_C(0);
 v9 = i0;
 goto l21;
-l24:;
+}
 j0 = v4;
 j1 = UINT64_C(928);
 j0 = j0 + j1;
@@ -67284,12 +68776,12 @@ l22:;
 i0 = v19;
 i1 = UINT32_C(1);
 i0 = i0 & i1;
-if (i0) { goto l21; }
+if (!i0) {
 i0 = v9;
 i1 = UINT32_C(1);
 i0 = i0 & i1;
 i0 = (i0 == 0);
-if (i0) { goto l21; }
+if (!i0) {
 j0 = v4;
 j1 = UINT64_C(904);
 j0 = j0 + j1;
@@ -67321,6 +68813,8 @@ i0 = load8(p18 + 0);
 i0 = (i0 == 0);
 if (i0) { goto l18; }
 goto l20;
+}
+}
 l21:;
 i0 = v19;
 i1 = UINT32_C(1);
@@ -67364,7 +68858,7 @@ i0 = v17;
 i1 = UINT32_C(1);
 i0 = i0 & i1;
 i0 = (i0 == 0);
-if (i0) { goto l25; }
+if (!i0) {
 j0 = v12;
 v4 = j0;
 j0 = v7;
@@ -67372,7 +68866,7 @@ j1 = v5;
 j2 = v12;
 j3 = v14;
 i0 = fio_log_judge_entries_say_same(m, j0, j1, j2, j3);
-if (i0) { goto l25; }
+if (!i0) {
 j0 = v1;
 j1 = UINT64_C(18446744073709550744);
 j0 = j0 + j1;
@@ -67425,7 +68919,7 @@ i0 = v19;
 i1 = UINT32_C(1);
 i0 = i0 & i1;
 i0 = (i0 == 0);
-if (i0) { goto l30; }
+if (!i0) {
 j0 = v13;
 v14 = j0;
 j0 = v7;
@@ -67435,7 +68929,7 @@ j3 = v4;
 i0 = fio_log_judge_entries_say_same(m, j0, j1, j2, j3);
 i0 = (i0 == 0);
 if (i0) { goto l3; }
-l30:;
+}
 j0 = v4;
 j1 = UINT64_C(1);
 j0 = j0 + j1;
@@ -67466,7 +68960,8 @@ j0 = j0 + j1;
 i1 = UINT32_C(1);
 store16(p19 + 0, i1);
 goto l4;
-l25:;
+}
+}
 i0 = UINT32_C(0);
 v22 = i0;
 j0 = v14;
@@ -67477,7 +68972,7 @@ j1 = v5;
 i0 = (j0 < j1);
 if (i0) { goto l17; }
 goto l5;
-l6:;
+}
 fio2070_trap();
 l5:;
 j0 = v6;
@@ -67534,7 +69029,6 @@ store64(p21 + 16, j1);
 l2:;
 j0 = v3;
 m->g0 = j0;
-return;
 }
 static void fio_log_judge_decide_Decider_decide(struct machine *m, uint64_t v0, uint64_t v1, uint64_t v2)
 {
@@ -67693,7 +69187,7 @@ j0 = v3;
 v4 = j0;
 j1 = UINT64_C(16);
 i0 = (SIGNED64(j0) < SIGNED64(j1));
-if (i0) { goto l3; }
+if (!i0) {
 i0 = UINT32_C(1);
 v5 = i0;
 j0 = v1;
@@ -67711,7 +69205,7 @@ j0 = load64(p2 + 0);
 v8 = j0;
 j1 = UINT64_C(1);
 i0 = (j0 > j1);
-if (i0) { goto l4; }
+if (!i0) {
 j0 = v8;
 i0 = (uint32_t)j0;
 switch (i0) {
@@ -67731,7 +69225,7 @@ j0 = load64(p3 + 0);
 v8 = j0;
 j1 = UINT64_C(0);
 i0 = (j0 != j1);
-if (i0) { goto l8; }
+if (!i0) {
 j0 = v0;
 j1 = UINT64_C(73672);
 j0 = j0 + j1;
@@ -67739,7 +69233,7 @@ i1 = UINT32_C(1);
 p4 = write_at(j0, m, 1u);
 store8(p4 + 0, i1);
 goto l7;
-l8:;
+}
 j0 = v0;
 j1 = v2;
 j2 = UINT64_C(144);
@@ -67767,12 +69261,12 @@ j0 = j0 + j1;
 p5 = read_at(j0, m, 1u);
 i0 = load8(p5 + 0);
 v12 = i0;
-if (i0) { goto l11; }
+if (!i0) {
 i0 = v5;
 i1 = UINT32_C(1);
 i0 = i0 & i1;
 if (i0) { goto l10; }
-l11:;
+}
 j0 = v4;
 j1 = v3;
 j2 = UINT64_C(88);
@@ -67816,7 +69310,7 @@ i1 = UINT32_C(1);
 store8(p7 + 56, i1);
 j0 = v13;
 i0 = (j0 == 0);
-if (i0) { goto l7; }
+if (!i0) {
 j0 = v0;
 j1 = UINT64_C(20704);
 j0 = j0 + j1;
@@ -67840,7 +69334,7 @@ j0 = j0 + j1;
 v9 = j0;
 j0 = v17;
 i0 = (j0 == 0);
-if (i0) { goto l14; }
+if (!i0) {
 j0 = UINT64_C(0);
 v8 = j0;
 j0 = v15;
@@ -67857,7 +69351,7 @@ p8 = read_at(j0, m, 1u);
 i0 = load8(p8 + 0);
 i1 = UINT32_C(1);
 i0 = (i0 != i1);
-if (i0) { goto l16; }
+if (!i0) {
 j0 = v3;
 p9 = read_at(j0, m, 8u);
 j0 = load64(p9 + 0);
@@ -67868,7 +69362,7 @@ p10 = read_at(j1, m, 8u);
 j1 = load64(p10 + 0);
 i0 = (j0 == j1);
 if (i0) { goto l13; }
-l16:;
+}
 j0 = v3;
 j1 = UINT64_C(96);
 j0 = j0 + j1;
@@ -67880,6 +69374,7 @@ j1 = j1 + j2;
 v8 = j1;
 i0 = (j0 != j1);
 if (i0) { goto l15; }
+}
 l14:;
 j0 = v9;
 j1 = UINT64_C(88);
@@ -67888,7 +69383,7 @@ p11 = read_at(j0, m, 1u);
 i0 = load8(p11 + 0);
 i1 = UINT32_C(1);
 i0 = (i0 != i1);
-if (i0) { goto l13; }
+if (!i0) {
 j0 = v9;
 j1 = UINT64_C(16);
 j0 = j0 + j1;
@@ -68001,7 +69496,7 @@ p18 = read_at(j0, m, 8u);
 j0 = load64(p18 + 0);
 v20 = j0;
 i0 = (j0 == 0);
-if (i0) { goto l21; }
+if (!i0) {
 j0 = v19;
 j1 = v6;
 j0 = j0 + j1;
@@ -68029,7 +69524,7 @@ p20 = read_at(j0, m, 8u);
 j0 = load64(p20 + 0);
 j1 = v10;
 i0 = (j0 == j1);
-if (i0) { goto l27; }
+if (!i0) {
 j0 = v9;
 j1 = UINT64_C(1);
 j0 = j0 | j1;
@@ -68044,7 +69539,7 @@ i0 = (j0 != j1);
 if (i0) { goto l26; }
 j0 = v3;
 v21 = j0;
-l27:;
+}
 j0 = v4;
 j1 = v21;
 j2 = UINT64_C(224);
@@ -68088,11 +69583,11 @@ j0 = v4;
 j0 = load64(p1 + 32);
 j1 = v20;
 i0 = (j0 != j1);
-if (i0) { goto l28; }
+if (!i0) {
 j0 = UINT64_C(24);
 v3 = j0;
 goto l23;
-l28:;
+}
 j0 = v3;
 j1 = UINT64_C(2);
 i0 = (j0 == j1);
@@ -68101,11 +69596,11 @@ j0 = v4;
 j0 = load64(p1 + 56);
 j1 = v20;
 i0 = (j0 != j1);
-if (i0) { goto l29; }
+if (!i0) {
 j0 = UINT64_C(48);
 v3 = j0;
 goto l23;
-l29:;
+}
 j0 = v3;
 j1 = UINT64_C(3);
 i0 = (j0 == j1);
@@ -68114,11 +69609,11 @@ j0 = v4;
 j0 = load64(p1 + 80);
 j1 = v20;
 i0 = (j0 != j1);
-if (i0) { goto l30; }
+if (!i0) {
 j0 = UINT64_C(72);
 v3 = j0;
 goto l23;
-l30:;
+}
 j0 = v3;
 j1 = UINT64_C(4);
 i0 = (j0 == j1);
@@ -68127,11 +69622,11 @@ j0 = v4;
 j0 = load64(p1 + 104);
 j1 = v20;
 i0 = (j0 != j1);
-if (i0) { goto l31; }
+if (!i0) {
 j0 = UINT64_C(96);
 v3 = j0;
 goto l23;
-l31:;
+}
 j0 = v3;
 j1 = UINT64_C(5);
 i0 = (j0 == j1);
@@ -68140,11 +69635,11 @@ j0 = v4;
 j0 = load64(p1 + 128);
 j1 = v20;
 i0 = (j0 != j1);
-if (i0) { goto l32; }
+if (!i0) {
 j0 = UINT64_C(120);
 v3 = j0;
 goto l23;
-l32:;
+}
 j0 = v3;
 j1 = UINT64_C(6);
 i0 = (j0 == j1);
@@ -68153,11 +69648,11 @@ j0 = v4;
 j0 = load64(p1 + 152);
 j1 = v20;
 i0 = (j0 != j1);
-if (i0) { goto l33; }
+if (!i0) {
 j0 = UINT64_C(144);
 v3 = j0;
 goto l23;
-l33:;
+}
 j0 = v3;
 j1 = UINT64_C(7);
 i0 = (j0 == j1);
@@ -68195,6 +69690,7 @@ j0 = v21;
 j1 = v4;
 j2 = UINT64_C(224);
 copy(m, j0, j1, j2);
+}
 l21:;
 j0 = v19;
 j1 = UINT64_C(1);
@@ -68203,6 +69699,7 @@ v19 = j0;
 j1 = UINT64_C(4);
 i0 = (j0 != j1);
 if (i0) { goto l20; }
+}
 l13:;
 j0 = v17;
 j1 = UINT64_C(1);
@@ -68211,6 +69708,7 @@ v17 = j0;
 j1 = v13;
 i0 = (j0 != j1);
 if (i0) { goto l12; }
+}
 l7:;
 j0 = v0;
 j1 = v7;
@@ -68226,7 +69724,7 @@ i0 = load8(p23 + 0);
 i1 = UINT32_C(1);
 i0 = i0 ^ i1;
 v5 = i0;
-l4:;
+}
 j0 = v7;
 j1 = UINT64_C(32);
 j0 = j0 + j1;
@@ -68248,7 +69746,7 @@ p25 = read_at(j0, m, 8u);
 j0 = load64(p25 + 0);
 v10 = j0;
 i0 = (j0 == 0);
-if (i0) { goto l34; }
+if (!i0) {
 j0 = v1;
 j1 = v6;
 j0 = j0 + j1;
@@ -68266,7 +69764,7 @@ j0 = j0 + j1;
 v21 = j0;
 j0 = v9;
 i0 = (j0 == 0);
-if (i0) { goto l37; }
+if (!i0) {
 j0 = UINT64_C(0);
 v8 = j0;
 j0 = v19;
@@ -68283,7 +69781,7 @@ p26 = read_at(j0, m, 1u);
 i0 = load8(p26 + 0);
 i1 = UINT32_C(1);
 i0 = (i0 != i1);
-if (i0) { goto l39; }
+if (!i0) {
 j0 = v3;
 p27 = read_at(j0, m, 8u);
 j0 = load64(p27 + 0);
@@ -68294,7 +69792,7 @@ p28 = read_at(j1, m, 8u);
 j1 = load64(p28 + 0);
 i0 = (j0 == j1);
 if (i0) { goto l36; }
-l39:;
+}
 j0 = v3;
 j1 = UINT64_C(904);
 j0 = j0 + j1;
@@ -68306,6 +69804,7 @@ j1 = j1 + j2;
 v8 = j1;
 i0 = (j0 != j1);
 if (i0) { goto l38; }
+}
 l37:;
 j0 = v21;
 j1 = UINT64_C(897);
@@ -68314,7 +69813,7 @@ p29 = read_at(j0, m, 1u);
 i0 = load8(p29 + 0);
 i1 = UINT32_C(1);
 i0 = (i0 != i1);
-if (i0) { goto l36; }
+if (!i0) {
 j0 = v0;
 j1 = UINT64_C(73673);
 j0 = j0 + j1;
@@ -68329,6 +69828,7 @@ p30 = write_at(j2, m, 1u);
 i2 = load8(p30 + 0);
 i1 = i1 | i2;
 store8(p30 + 0, i1);
+}
 l36:;
 j0 = v9;
 j1 = UINT64_C(1);
@@ -68344,13 +69844,13 @@ p31 = read_at(j0, m, 8u);
 j0 = load64(p31 + 0);
 j1 = UINT64_C(1);
 i0 = (j0 != j1);
-if (i0) { goto l34; }
+if (!i0) {
 j0 = v0;
 j1 = UINT64_C(73673);
 j0 = j0 + j1;
 p32 = read_at(j0, m, 1u);
 i0 = load8(p32 + 0);
-if (i0) { goto l34; }
+if (!i0) {
 j0 = v0;
 j1 = v2;
 j2 = UINT64_C(144);
@@ -68361,7 +69861,7 @@ j1 = UINT64_C(43144);
 j0 = j0 + j1;
 p33 = read_at(j0, m, 1u);
 i0 = load8(p33 + 0);
-if (i0) { goto l34; }
+if (!i0) {
 j0 = v0;
 j1 = UINT64_C(70096);
 j0 = j0 + j1;
@@ -68369,7 +69869,7 @@ p34 = read_at(j0, m, 1u);
 i0 = load8(p34 + 0);
 i1 = UINT32_C(1);
 i0 = (i0 != i1);
-if (i0) { goto l40; }
+if (!i0) {
 j0 = v0;
 j1 = v0;
 j2 = UINT64_C(70104);
@@ -68385,7 +69885,7 @@ p36 = read_at(j0, m, 1u);
 i0 = load8(p36 + 0);
 i0 = (i0 == 0);
 if (i0) { goto l34; }
-l40:;
+}
 j0 = v7;
 j1 = UINT64_C(864);
 j0 = j0 + j1;
@@ -68462,13 +69962,13 @@ i0 = load8(p42 + 0);
 i1 = UINT32_C(1);
 i0 = i0 & i1;
 i0 = (i0 == 0);
-if (i0) { goto l34; }
+if (!i0) {
 i0 = v5;
 i1 = UINT32_C(255);
 i0 = i0 & i1;
 i1 = UINT32_C(10);
 i0 = (i0 > i1);
-if (i0) { goto l34; }
+if (!i0) {
 j0 = v7;
 j1 = UINT64_C(912);
 j0 = j0 + j1;
@@ -68482,7 +69982,7 @@ v3 = j1;
 j0 = j0 | j1;
 j1 = v3;
 i0 = (j0 != j1);
-if (i0) { goto l34; }
+if (!i0) {
 j0 = v0;
 i1 = v5;
 i2 = UINT32_C(3);
@@ -68500,47 +70000,47 @@ j1 = v8;
 j0 = j0 | j1;
 j1 = v3;
 i0 = (j0 != j1);
-if (i0) { goto l34; }
+if (!i0) {
 j0 = v7;
 j1 = UINT64_C(872);
 j0 = j0 + j1;
 j0 = load64(p37 + 8);
 j1 = UINT64_C(0);
 i0 = (j0 != j1);
-if (i0) { goto l34; }
+if (!i0) {
 j0 = v7;
 j1 = UINT64_C(880);
 j0 = j0 + j1;
 j0 = load64(p37 + 16);
 j1 = UINT64_C(0);
 i0 = (j0 != j1);
-if (i0) { goto l34; }
+if (!i0) {
 j0 = v7;
 j1 = UINT64_C(888);
 j0 = j0 + j1;
 j0 = load64(p37 + 24);
 j1 = UINT64_C(0);
 i0 = (j0 != j1);
-if (i0) { goto l34; }
+if (!i0) {
 j0 = v7;
 j1 = UINT64_C(896);
 j0 = j0 + j1;
 j0 = load64(p37 + 32);
 j1 = UINT64_C(0);
 i0 = (j0 != j1);
-if (i0) { goto l34; }
+if (!i0) {
 j0 = v7;
 j1 = UINT64_C(928);
 j0 = j0 + j1;
 p46 = read_at(j0, m, 1u);
 i0 = load8(p46 + 0);
-if (i0) { goto l43; }
+if (!i0) {
 j0 = v14;
 j1 = v0;
 i0 = fio_log_judge_message_run_MessageRun_is_known(m, j0, j1);
 i0 = (i0 == 0);
 if (i0) { goto l34; }
-l43:;
+}
 j0 = v21;
 j1 = UINT64_C(43152);
 j0 = j0 + j1;
@@ -68596,7 +70096,7 @@ p49 = read_at(j0, m, 1u);
 i0 = load8(p49 + 0);
 i1 = UINT32_C(1);
 i0 = (i0 != i1);
-if (i0) { goto l45; }
+if (!i0) {
 j0 = v7;
 j1 = UINT64_C(923);
 j0 = j0 + j1;
@@ -68617,7 +70117,7 @@ i1 = load8(p51 + 0);
 i2 = UINT32_C(7);
 i1 = i1 >> (i2 & 31);
 i0 = (i0 != i1);
-if (i0) { goto l46; }
+if (!i0) {
 j0 = v0;
 j1 = UINT64_C(34824);
 j0 = j0 + j1;
@@ -68633,7 +70133,7 @@ i3 = v5;
 i1 = i3 ? i1 : i2;
 store32(p52 + 0, i1);
 goto l45;
-l46:;
+}
 j0 = v0;
 j1 = UINT64_C(34828);
 j0 = j0 + j1;
@@ -68648,13 +70148,14 @@ i2 = UINT32_C(4294967295);
 i3 = v5;
 i1 = i3 ? i1 : i2;
 store32(p53 + 0, i1);
+}
 l45:;
 j0 = v7;
 j1 = UINT64_C(929);
 j0 = j0 + j1;
 p54 = read_at(j0, m, 1u);
 i0 = load8(p54 + 0);
-if (i0) { goto l48; }
+if (!i0) {
 j0 = v7;
 j1 = UINT64_C(840);
 j0 = j0 + j1;
@@ -68665,7 +70166,7 @@ j2 = UINT64_C(848);
 j1 = j1 + j2;
 j1 = load64(p55 + 8);
 i0 = (j0 == j1);
-if (i0) { goto l49; }
+if (!i0) {
 j0 = v7;
 j1 = UINT64_C(920);
 j0 = j0 + j1;
@@ -68676,14 +70177,14 @@ i0 = i0 & i1;
 i1 = UINT32_C(1);
 i0 = (i0 != i1);
 if (i0) { goto l47; }
-l49:;
+}
 j0 = v7;
 j1 = UINT64_C(925);
 j0 = j0 + j1;
 p57 = read_at(j0, m, 1u);
 i0 = load8(p57 + 0);
 if (i0) { goto l47; }
-l48:;
+}
 j0 = v0;
 j1 = UINT64_C(70104);
 j0 = j0 + j1;
@@ -68701,23 +70202,24 @@ j0 = j0 + j1;
 j0 = load64(p58 + 2728);
 v8 = j0;
 i0 = (j0 == 0);
-if (i0) { goto l47; }
+if (!i0) {
 j0 = v8;
 j1 = UINT64_C(904);
 j0 = j0 * j1;
 v8 = j0;
 i0 = (j0 == 0);
-if (i0) { goto l50; }
+if (!i0) {
 j0 = v9;
 i1 = UINT32_C(0);
 j2 = v8;
 fill(m, j0, i1, j2);
-l50:;
+}
 j0 = v0;
 j1 = UINT64_C(72824);
 j0 = j0 + j1;
 j1 = UINT64_C(0);
 store64(p58 + 2728, j1);
+}
 l47:;
 j0 = v7;
 j1 = UINT64_C(904);
@@ -68730,6 +70232,18 @@ v3 = j0;
 i0 = (j0 == 0);
 if (i0) { goto l2; }
 goto l44;
+}
+}
+}
+}
+}
+}
+}
+}
+}
+}
+}
+}
 l34:;
 j0 = v0;
 j1 = UINT64_C(73616);
@@ -68738,7 +70252,7 @@ p59 = read_at(j0, m, 8u);
 j0 = load64(p59 + 0);
 v8 = j0;
 i0 = (j0 == 0);
-if (i0) { goto l51; }
+if (!i0) {
 j0 = v0;
 j1 = UINT64_C(72848);
 j0 = j0 + j1;
@@ -68764,7 +70278,7 @@ p60 = read_at(j0, m, 1u);
 i0 = load8(p60 + 0);
 i1 = UINT32_C(1);
 i0 = (i0 != i1);
-if (i0) { goto l53; }
+if (!i0) {
 j0 = v4;
 j1 = v3;
 j2 = UINT64_C(88);
@@ -68779,7 +70293,7 @@ j0 = v9;
 j1 = v4;
 j2 = UINT64_C(88);
 copy(m, j0, j1, j2);
-l53:;
+}
 j0 = v3;
 j1 = UINT64_C(96);
 j0 = j0 + j1;
@@ -68791,7 +70305,7 @@ v8 = j0;
 j1 = UINT64_C(0);
 i0 = (j0 != j1);
 if (i0) { goto l52; }
-l51:;
+}
 j0 = v0;
 j1 = UINT64_C(70096);
 j0 = j0 + j1;
@@ -68800,7 +70314,7 @@ i0 = load8(p62 + 0);
 v22 = i0;
 i1 = UINT32_C(1);
 i0 = (i0 != i1);
-if (i0) { goto l55; }
+if (!i0) {
 j0 = v0;
 j1 = v0;
 j2 = UINT64_C(70104);
@@ -68873,7 +70387,7 @@ v15 = j0;
 i0 = UINT32_C(1);
 v24 = i0;
 goto l54;
-l55:;
+}
 j0 = v0;
 j1 = UINT64_C(70112);
 j0 = j0 + j1;
@@ -68901,7 +70415,7 @@ v17 = j0;
 l54:;
 j0 = v17;
 i0 = (j0 == 0);
-if (i0) { goto l59; }
+if (!i0) {
 j0 = v1;
 j1 = v6;
 j0 = j0 + j1;
@@ -68917,7 +70431,7 @@ v18 = j0;
 l61:;
 i0 = v24;
 i0 = (i0 == 0);
-if (i0) { goto l62; }
+if (!i0) {
 j0 = v18;
 j1 = UINT64_C(1);
 j0 = j0 + j1;
@@ -68943,7 +70457,7 @@ j2 = i4 ? j2 : j3;
 j1 = j1 + j2;
 i0 = (j0 > j1);
 if (i0) { goto l60; }
-l62:;
+}
 j0 = v7;
 j1 = UINT64_C(2744);
 j0 = j0 + j1;
@@ -68951,7 +70465,7 @@ p68 = read_at(j0, m, 8u);
 j0 = load64(p68 + 0);
 v10 = j0;
 i0 = (j0 == 0);
-if (i0) { goto l63; }
+if (!i0) {
 j0 = UINT64_C(66616);
 j1 = v23;
 j2 = v18;
@@ -69004,20 +70518,20 @@ i0 = (uint32_t)extend(load8(p71 + 0), 7);
 v5 = i0;
 i1 = UINT32_C(4294967295);
 i0 = (SIGNED32(i0) > SIGNED32(i1));
-if (i0) { goto l67; }
+if (!i0) {
 i0 = v5;
 i1 = UINT32_C(126);
 i0 = i0 & i1;
 i1 = UINT32_C(56);
 i0 = (i0 == i1);
-if (i0) { goto l67; }
+if (!i0) {
 i0 = v5;
 i1 = UINT32_C(127);
 i0 = i0 & i1;
 v12 = i0;
 i1 = UINT32_C(59);
 i0 = (i0 == i1);
-if (i0) { goto l67; }
+if (!i0) {
 i0 = v12;
 j1 = v20;
 p72 = read_at(j1, m, 1u);
@@ -69025,15 +70539,15 @@ i1 = load8(p72 + 0);
 i2 = UINT32_C(255);
 i1 = i1 & i2;
 i0 = (i0 != i1);
-if (i0) { goto l67; }
+if (!i0) {
 j0 = v6;
 j1 = UINT64_C(1);
 i0 = (j0 > j1);
-if (i0) { goto l68; }
+if (!i0) {
 i0 = v5;
 i1 = UINT32_C(4294967223);
 i0 = (i0 < i1);
-if (i0) { goto l68; }
+if (!i0) {
 i0 = v5;
 i1 = UINT32_C(4294967226);
 i0 = (i0 < i1);
@@ -69041,24 +70555,26 @@ if (i0) { goto l67; }
 i0 = v5;
 i1 = UINT32_C(4294967226);
 i0 = (i0 == i1);
-if (i0) { goto l68; }
+if (!i0) {
 i0 = v5;
 i1 = UINT32_C(4294967229);
 i0 = (i0 < i1);
 if (i0) { goto l67; }
-l68:;
+}
+}
+}
 i0 = v12;
 i1 = UINT32_C(54);
 i0 = (i0 != i1);
-if (i0) { goto l69; }
+if (!i0) {
 j0 = v6;
 j1 = UINT64_C(2);
 i0 = (j0 < j1);
-if (i0) { goto l70; }
+if (!i0) {
 j0 = v9;
 j1 = UINT64_C(2);
 i0 = (j0 < j1);
-if (i0) { goto l70; }
+if (!i0) {
 j0 = v20;
 j1 = UINT64_C(1);
 j0 = j0 + j1;
@@ -69072,20 +70588,22 @@ i1 = load8(p74 + 0);
 i0 = (i0 == i1);
 if (i0) { goto l69; }
 goto l67;
-l70:;
+}
+}
 j0 = v9;
 j1 = v6;
 j0 = j0 | j1;
 j1 = UINT64_C(1);
 i0 = (j0 > j1);
 if (i0) { goto l67; }
+}
 l69:;
 j0 = v19;
 j1 = UINT64_C(897);
 j0 = j0 + j1;
 p75 = read_at(j0, m, 1u);
 i0 = load8(p75 + 0);
-if (i0) { goto l71; }
+if (!i0) {
 j0 = v19;
 j1 = UINT64_C(808);
 j0 = j0 + j1;
@@ -69096,7 +70614,7 @@ j2 = UINT64_C(816);
 j1 = j1 + j2;
 j1 = load64(p76 + 8);
 i0 = (j0 == j1);
-if (i0) { goto l72; }
+if (!i0) {
 j0 = v19;
 j1 = UINT64_C(888);
 j0 = j0 + j1;
@@ -69107,26 +70625,26 @@ i0 = i0 & i1;
 i1 = UINT32_C(1);
 i0 = (i0 != i1);
 if (i0) { goto l67; }
-l72:;
+}
 j0 = v19;
 j1 = UINT64_C(893);
 j0 = j0 + j1;
 p78 = read_at(j0, m, 1u);
 i0 = load8(p78 + 0);
 if (i0) { goto l67; }
-l71:;
+}
 j0 = v0;
 j1 = v13;
 i0 = fio_log_judge_shapes_Shapes_is_mostly_good(m, j0, j1);
 i0 = (i0 == 0);
-if (i0) { goto l67; }
+if (!i0) {
 j0 = v0;
 j1 = v3;
 j2 = UINT64_C(840);
 j1 = j1 + j2;
 i0 = fio_log_judge_shapes_Shapes_is_mostly_good(m, j0, j1);
 i0 = (i0 == 0);
-if (i0) { goto l67; }
+if (!i0) {
 j0 = v0;
 j1 = UINT64_C(34828);
 j0 = j0 + j1;
@@ -69145,13 +70663,13 @@ p80 = read_at(j0, m, 1u);
 i0 = load8(p80 + 0);
 i1 = UINT32_C(1);
 i0 = (i0 != i1);
-if (i0) { goto l73; }
+if (!i0) {
 j0 = v19;
 j1 = UINT64_C(891);
 j0 = j0 + j1;
 p81 = read_at(j0, m, 1u);
 i0 = load8(p81 + 0);
-if (i0) { goto l74; }
+if (!i0) {
 i0 = v5;
 if (i0) { goto l73; }
 i0 = v12;
@@ -69159,14 +70677,16 @@ i1 = UINT32_C(7);
 i0 = (i0 <= i1);
 if (i0) { goto l73; }
 goto l67;
-l74:;
+}
 i0 = v5;
 i1 = UINT32_C(8);
 i0 = (i0 < i1);
-if (i0) { goto l73; }
+if (!i0) {
 i0 = v12;
 i0 = (i0 == 0);
 if (i0) { goto l67; }
+}
+}
 l73:;
 j0 = v3;
 j1 = UINT64_C(922);
@@ -69183,7 +70703,7 @@ p83 = read_at(j0, m, 1u);
 i0 = load8(p83 + 0);
 i1 = UINT32_C(1);
 i0 = (i0 != i1);
-if (i0) { goto l75; }
+if (!i0) {
 i0 = v5;
 if (i0) { goto l65; }
 i0 = v12;
@@ -69191,13 +70711,19 @@ i1 = UINT32_C(7);
 i0 = (i0 > i1);
 if (i0) { goto l67; }
 goto l65;
-l75:;
+}
 i0 = v5;
 i1 = UINT32_C(8);
 i0 = (i0 < i1);
 if (i0) { goto l65; }
 i0 = v12;
 if (i0) { goto l65; }
+}
+}
+}
+}
+}
+}
 l67:;
 j0 = v3;
 j1 = UINT64_C(904);
@@ -69224,7 +70750,7 @@ i0 = v26;
 i1 = UINT32_C(255);
 i0 = i0 & i1;
 i0 = (i0 == 0);
-if (i0) { goto l76; }
+if (!i0) {
 j0 = v23;
 j1 = v17;
 j2 = v16;
@@ -69243,7 +70769,7 @@ j3 = v8;
 i0 = fio_log_judge_entries_say_same(m, j0, j1, j2, j3);
 i0 = (i0 == 0);
 if (i0) { goto l59; }
-l76:;
+}
 i0 = UINT32_C(1);
 v26 = i0;
 j0 = v8;
@@ -69253,6 +70779,7 @@ v8 = j0;
 j1 = v10;
 i0 = (j0 < j1);
 if (i0) { goto l64; }
+}
 l63:;
 j0 = v18;
 j1 = UINT64_C(1);
@@ -69267,7 +70794,7 @@ i1 = UINT32_C(255);
 i0 = i0 & i1;
 i1 = UINT32_C(1);
 i0 = (i0 != i1);
-if (i0) { goto l59; }
+if (!i0) {
 j0 = UINT64_C(0);
 v10 = j0;
 j0 = v0;
@@ -69328,7 +70855,7 @@ store8(p85 + 2, i1);
 i0 = v22;
 i1 = UINT32_C(1);
 i0 = (i0 != i1);
-if (i0) { goto l59; }
+if (!i0) {
 j0 = v6;
 j1 = v0;
 j2 = UINT64_C(70104);
@@ -69417,7 +70944,7 @@ j0 = j0 + j1;
 j0 = load64(p89 + 0);
 v3 = j0;
 i0 = (j0 == 0);
-if (i0) { goto l78; }
+if (!i0) {
 j0 = v3;
 j1 = UINT64_C(66);
 j2 = v3;
@@ -69451,7 +70978,7 @@ j0 = j0 + j1;
 i0 = load8(p86 + 3528);
 i1 = UINT32_C(1);
 i0 = (i0 != i1);
-if (i0) { goto l81; }
+if (!i0) {
 j0 = v8;
 j1 = v0;
 j2 = UINT64_C(73640);
@@ -69459,7 +70986,7 @@ j1 = j1 + j2;
 j1 = load64(p86 + 3536);
 i0 = (j0 == j1);
 if (i0) { goto l80; }
-l81:;
+}
 j0 = v0;
 j1 = v1;
 j2 = v8;
@@ -69476,7 +71003,7 @@ j1 = j1 + j2;
 v3 = j1;
 i0 = (j0 != j1);
 if (i0) { goto l79; }
-l78:;
+}
 j0 = v10;
 j1 = UINT64_C(1);
 j0 = j0 + j1;
@@ -69484,6 +71011,9 @@ v10 = j0;
 j1 = UINT64_C(66);
 i0 = (j0 != j1);
 if (i0) { goto l77; }
+}
+}
+}
 l59:;
 j0 = v7;
 j1 = UINT64_C(2744);
@@ -69492,7 +71022,7 @@ p91 = read_at(j0, m, 8u);
 j0 = load64(p91 + 0);
 v8 = j0;
 i0 = (j0 == 0);
-if (i0) { goto l82; }
+if (!i0) {
 j0 = v7;
 v3 = j0;
 l84:;
@@ -69512,7 +71042,7 @@ j2 = UINT64_C(848);
 j1 = j1 + j2;
 j1 = load64(p93 + 8);
 i0 = (j0 == j1);
-if (i0) { goto l86; }
+if (!i0) {
 j0 = v3;
 j1 = UINT64_C(920);
 j0 = j0 + j1;
@@ -69523,7 +71053,7 @@ i0 = i0 & i1;
 i1 = UINT32_C(1);
 i0 = (i0 != i1);
 if (i0) { goto l85; }
-l86:;
+}
 j0 = v3;
 j1 = UINT64_C(925);
 j0 = j0 + j1;
@@ -69563,25 +71093,27 @@ j0 = j0 + j1;
 j0 = load64(p96 + 2728);
 v3 = j0;
 i0 = (j0 == 0);
-if (i0) { goto l82; }
+if (!i0) {
 j0 = v3;
 j1 = UINT64_C(904);
 j0 = j0 * j1;
 v3 = j0;
 i0 = (j0 == 0);
-if (i0) { goto l87; }
+if (!i0) {
 j0 = v0;
 j1 = UINT64_C(70112);
 j0 = j0 + j1;
 i1 = UINT32_C(0);
 j2 = v3;
 fill(m, j0, i1, j2);
-l87:;
+}
 j0 = v0;
 j1 = UINT64_C(72824);
 j0 = j0 + j1;
 j1 = UINT64_C(0);
 store64(p96 + 2728, j1);
+}
+}
 l82:;
 j0 = v0;
 j1 = v7;
@@ -69609,7 +71141,7 @@ j0 = j0 + j1;
 j0 = load64(p98 + 0);
 v3 = j0;
 i0 = (j0 == 0);
-if (i0) { goto l90; }
+if (!i0) {
 j0 = v3;
 j1 = UINT64_C(66);
 j2 = v3;
@@ -69643,7 +71175,7 @@ j0 = j0 + j1;
 i0 = load8(p98 + 3544);
 i1 = UINT32_C(1);
 i0 = (i0 != i1);
-if (i0) { goto l93; }
+if (!i0) {
 j0 = v8;
 j1 = v0;
 j2 = UINT64_C(73640);
@@ -69651,7 +71183,7 @@ j1 = j1 + j2;
 j1 = load64(p98 + 3552);
 i0 = (j0 == j1);
 if (i0) { goto l92; }
-l93:;
+}
 j0 = v0;
 j1 = v1;
 j2 = v8;
@@ -69668,7 +71200,7 @@ j1 = j1 + j2;
 v3 = j1;
 i0 = (j0 != j1);
 if (i0) { goto l91; }
-l90:;
+}
 j0 = v10;
 j1 = UINT64_C(1);
 j0 = j0 + j1;
@@ -69704,7 +71236,7 @@ p102 = read_at(j0, m, 1u);
 i0 = load8(p102 + 0);
 i1 = UINT32_C(1);
 i0 = (i0 != i1);
-if (i0) { goto l95; }
+if (!i0) {
 j0 = v21;
 j1 = UINT64_C(72);
 j0 = j0 + j1;
@@ -69776,7 +71308,7 @@ i0 = load8(p108 + 0);
 i1 = UINT32_C(1);
 i0 = i0 & i1;
 i0 = (i0 == 0);
-if (i0) { goto l95; }
+if (!i0) {
 j0 = UINT64_C(18446744073709551615);
 v3 = j0;
 j0 = v0;
@@ -69792,6 +71324,8 @@ j3 = UINT64_C(80);
 j2 = j2 + j3;
 i0 = fio_log_sources_Sources_is_another(m, j0, j1, j2);
 if (i0) { goto l94; }
+}
+}
 l95:;
 j0 = UINT64_C(18446744073709551615);
 j1 = v1;
@@ -69817,14 +71351,13 @@ j1 = v3;
 p110 = write_at(j0, m, 8u);
 store64(p110 + 0, j1);
 goto l2;
-l3:;
+}
 fio2070_trap();
 l2:;
 j0 = v4;
 j1 = UINT64_C(224);
 j0 = j0 + j1;
 m->g0 = j0;
-return;
 }
 static void fio_log_judge_decide_Decider_pass_over(struct machine *m, uint64_t v0, uint64_t v1, uint64_t v2)
 {
@@ -69883,7 +71416,7 @@ j0 = m->g0;
 v3 = j0;
 j1 = UINT64_C(16);
 i0 = (SIGNED64(j0) < SIGNED64(j1));
-if (i0) { goto l4; }
+if (!i0) {
 j0 = v1;
 j1 = UINT64_C(2744);
 j0 = j0 + j1;
@@ -69891,7 +71424,7 @@ p1 = read_at(j0, m, 8u);
 j0 = load64(p1 + 0);
 v4 = j0;
 i0 = (j0 == 0);
-if (i0) { goto l5; }
+if (!i0) {
 j0 = v1;
 j1 = UINT64_C(32);
 j0 = j0 + j1;
@@ -69958,7 +71491,7 @@ i0 = v10;
 i1 = UINT32_C(1);
 i0 = i0 & i1;
 i0 = (i0 == 0);
-if (i0) { goto l9; }
+if (!i0) {
 j0 = v9;
 v1 = j0;
 j0 = v5;
@@ -69966,13 +71499,14 @@ j1 = v4;
 j2 = v9;
 j3 = v8;
 i0 = fio_log_judge_entries_say_same(m, j0, j1, j2, j3);
-if (i0) { goto l9; }
+if (!i0) {
 i0 = UINT32_C(5);
 v10 = i0;
 i0 = UINT32_C(3);
 v7 = i0;
 goto l2;
-l9:;
+}
+}
 j0 = v8;
 j1 = UINT64_C(1);
 j0 = j0 + j1;
@@ -69985,7 +71519,7 @@ v7 = i0;
 i0 = UINT32_C(3);
 v10 = i0;
 goto l2;
-l5:;
+}
 j0 = v0;
 j1 = UINT64_C(72936);
 j0 = j0 + j1;
@@ -70011,11 +71545,11 @@ j2 = UINT64_C(1);
 j1 = j1 + j2;
 v4 = j1;
 i0 = (j0 != j1);
-if (i0) { goto l11; }
+if (!i0) {
 i0 = UINT32_C(1);
 v7 = i0;
 goto l2;
-l11:;
+}
 j0 = v1;
 p5 = read_at(j0, m, 1u);
 i0 = load8(p5 + 0);
@@ -70030,7 +71564,7 @@ i0 = (i0 != i1);
 if (i0) { goto l10; }
 j0 = v9;
 i0 = (j0 == 0);
-if (i0) { goto l12; }
+if (!i0) {
 j0 = v0;
 j1 = UINT64_C(34840);
 j0 = j0 + j1;
@@ -70051,12 +71585,12 @@ p6 = read_at(j0, m, 1u);
 i0 = load8(p6 + 0);
 i1 = UINT32_C(1);
 i0 = (i0 != i1);
-if (i0) { goto l14; }
+if (!i0) {
 j0 = v0;
 j1 = v8;
 i0 = fio_log_judge_shapes_Shapes_is_mostly_good(m, j0, j1);
 i0 = (i0 == 0);
-if (i0) { goto l14; }
+if (!i0) {
 j0 = v8;
 j1 = UINT64_C(64);
 j0 = j0 + j1;
@@ -70065,7 +71599,7 @@ j0 = load8(p7 + 0);
 v1 = j0;
 j1 = UINT64_C(10);
 i0 = (j0 > j1);
-if (i0) { goto l15; }
+if (!i0) {
 j0 = v8;
 j1 = UINT64_C(72);
 j0 = j0 + j1;
@@ -70073,20 +71607,22 @@ p8 = read_at(j0, m, 8u);
 j0 = load64(p8 + 0);
 v4 = j0;
 i0 = (j0 == 0);
-if (i0) { goto l15; }
+if (!i0) {
 j0 = v4;
 j1 = UINT64_C(18408313356889323383);
 j0 = j0 & j1;
 j1 = UINT64_C(0);
 i0 = (j0 != j1);
-if (i0) { goto l15; }
+if (!i0) {
 j0 = v13;
 j1 = v1;
 j0 = j0 + j1;
 p9 = read_at(j0, m, 1u);
 i0 = load8(p9 + 0);
 if (i0) { goto l14; }
-l15:;
+}
+}
+}
 j0 = v8;
 j1 = UINT64_C(24);
 j0 = j0 + j1;
@@ -70158,7 +71694,7 @@ i0 = load8(p15 + 0);
 i1 = UINT32_C(1);
 i0 = i0 & i1;
 i0 = (i0 == 0);
-if (i0) { goto l14; }
+if (!i0) {
 j0 = v1;
 p16 = read_at(j0 + UINT64_C(16), m, 8u);
 j0 = load64(p16 + 0);
@@ -70173,7 +71709,7 @@ j2 = v8;
 j3 = UINT64_C(32);
 j2 = j2 + j3;
 i0 = fio_log_sources_Sources_is_another(m, j0, j1, j2);
-if (i0) { goto l14; }
+if (!i0) {
 j0 = v8;
 j1 = UINT64_C(72);
 j0 = j0 + j1;
@@ -70188,6 +71724,10 @@ j0 = j0 & j1;
 j1 = UINT64_C(0);
 i0 = (j0 != j1);
 if (i0) { goto l3; }
+}
+}
+}
+}
 l14:;
 j0 = v8;
 j1 = UINT64_C(89);
@@ -70196,7 +71736,7 @@ p19 = read_at(j0, m, 1u);
 i0 = load8(p19 + 0);
 i1 = UINT32_C(1);
 i0 = (i0 != i1);
-if (i0) { goto l18; }
+if (!i0) {
 j0 = v8;
 j1 = UINT64_C(64);
 j0 = j0 + j1;
@@ -70205,7 +71745,7 @@ i0 = load8(p20 + 0);
 v7 = i0;
 i1 = UINT32_C(10);
 i0 = (i0 > i1);
-if (i0) { goto l18; }
+if (!i0) {
 j0 = v8;
 j1 = UINT64_C(72);
 j0 = j0 + j1;
@@ -70213,7 +71753,7 @@ p21 = read_at(j0, m, 8u);
 j0 = load64(p21 + 0);
 v1 = j0;
 i0 = (j0 == 0);
-if (i0) { goto l18; }
+if (!i0) {
 j0 = v11;
 i1 = v7;
 i2 = UINT32_C(3);
@@ -70227,7 +71767,7 @@ j0 = load64(p22 + 0);
 j1 = v1;
 j0 = j0 & j1;
 i0 = (j0 == 0);
-if (i0) { goto l18; }
+if (!i0) {
 j0 = v8;
 j1 = UINT64_C(24);
 j0 = j0 + j1;
@@ -70312,7 +71852,10 @@ j2 = j2 + j3;
 i0 = fio_log_sources_Sources_is_another(m, j0, j1, j2);
 i0 = (i0 == 0);
 if (i0) { goto l3; }
-l18:;
+}
+}
+}
+}
 j0 = v8;
 j1 = UINT64_C(96);
 j0 = j0 + j1;
@@ -70324,7 +71867,7 @@ v9 = j0;
 i0 = (j0 == 0);
 i0 = (i0 == 0);
 if (i0) { goto l13; }
-l12:;
+}
 j0 = v0;
 j1 = UINT64_C(73625);
 j0 = j0 + j1;
@@ -70340,7 +71883,7 @@ i2 = (i2 == i3);
 i0 = i2 ? i0 : i1;
 v7 = i0;
 goto l2;
-l4:;
+}
 fio2070_trap();
 l3:;
 j0 = v0;
@@ -70393,7 +71936,6 @@ j1 = UINT64_C(0);
 store64(p32 + 16, j1);
 j0 = v3;
 m->g0 = j0;
-return;
 }
 static uint32_t fio_log_judge_message_run_MessageRun_is_known(struct machine *m, uint64_t v0, uint64_t v1)
 {
@@ -70413,7 +71955,7 @@ uint64_t j1;
 uint64_t j2;
 uint64_t j3;
 uint64_t j4;
-uint32_t r;
+uint32_t r = 0;
 uint8_t *p1;
 uint8_t *p2;
 uint8_t *p3;
@@ -70434,7 +71976,7 @@ j0 = m->g0;
 v2 = j0;
 j1 = UINT64_C(16);
 i0 = (SIGNED64(j0) < SIGNED64(j1));
-if (i0) { goto l2; }
+if (!i0) {
 i0 = UINT32_C(0);
 v3 = i0;
 j0 = v1;
@@ -70443,7 +71985,7 @@ j2 = UINT64_C(808);
 j1 = j1 + j2;
 i0 = fio_log_judge_shapes_Shapes_is_mostly_good(m, j0, j1);
 i0 = (i0 == 0);
-if (i0) { goto l3; }
+if (!i0) {
 j0 = v0;
 j1 = UINT64_C(872);
 j0 = j0 + j1;
@@ -70452,7 +71994,7 @@ j0 = load8(p1 + 0);
 v4 = j0;
 j1 = UINT64_C(10);
 i0 = (j0 > j1);
-if (i0) { goto l4; }
+if (!i0) {
 j0 = v0;
 j1 = UINT64_C(880);
 j0 = j0 + j1;
@@ -70460,13 +72002,13 @@ p2 = read_at(j0, m, 8u);
 j0 = load64(p2 + 0);
 v5 = j0;
 i0 = (j0 == 0);
-if (i0) { goto l4; }
+if (!i0) {
 j0 = v5;
 j1 = UINT64_C(18408313356889323383);
 j0 = j0 & j1;
 j1 = UINT64_C(0);
 i0 = (j0 != j1);
-if (i0) { goto l4; }
+if (!i0) {
 j0 = v1;
 j1 = v4;
 j0 = j0 + j1;
@@ -70475,7 +72017,9 @@ j0 = j0 + j1;
 p3 = read_at(j0, m, 1u);
 i0 = load8(p3 + 0);
 if (i0) { goto l3; }
-l4:;
+}
+}
+}
 j0 = v0;
 j1 = UINT64_C(832);
 j0 = j0 + j1;
@@ -70547,7 +72091,7 @@ i0 = load8(p9 + 0);
 i1 = UINT32_C(1);
 i0 = i0 & i1;
 i0 = (i0 == 0);
-if (i0) { goto l3; }
+if (!i0) {
 j0 = v4;
 p10 = read_at(j0 + UINT64_C(16), m, 8u);
 j0 = load64(p10 + 0);
@@ -70564,7 +72108,7 @@ j2 = v0;
 j3 = UINT64_C(840);
 j2 = j2 + j3;
 i0 = fio_log_sources_Sources_is_another(m, j0, j1, j2);
-if (i0) { goto l3; }
+if (!i0) {
 j0 = v0;
 j1 = UINT64_C(880);
 j0 = j0 + j1;
@@ -70572,13 +72116,13 @@ p12 = read_at(j0, m, 8u);
 j0 = load64(p12 + 0);
 v5 = j0;
 i0 = (j0 == 0);
-if (i0) { goto l7; }
+if (!i0) {
 j0 = v5;
 j1 = v4;
 j0 = j0 & j1;
 i0 = (j0 == 0);
 if (i0) { goto l3; }
-l7:;
+}
 i0 = UINT32_C(0);
 v3 = i0;
 j0 = v0;
@@ -70588,7 +72132,7 @@ p13 = read_at(j0, m, 1u);
 i0 = load8(p13 + 0);
 i1 = UINT32_C(1);
 i0 = (i0 != i1);
-if (i0) { goto l8; }
+if (!i0) {
 j0 = v1;
 j1 = UINT64_C(34828);
 j0 = j0 + j1;
@@ -70618,7 +72162,7 @@ i1 = load8(p16 + 0);
 i2 = UINT32_C(7);
 i1 = i1 >> (i2 & 31);
 i0 = (i0 != i1);
-if (i0) { goto l9; }
+if (!i0) {
 i0 = v8;
 i0 = (i0 == 0);
 i1 = v3;
@@ -70627,7 +72171,7 @@ i1 = (i1 > i2);
 i0 = i0 & i1;
 v3 = i0;
 goto l8;
-l9:;
+}
 i0 = v8;
 i1 = UINT32_C(7);
 i0 = (i0 > i1);
@@ -70635,18 +72179,22 @@ i1 = v3;
 i1 = (i1 == 0);
 i0 = i0 & i1;
 v3 = i0;
+}
 l8:;
 i0 = v3;
 i1 = UINT32_C(1);
 i0 = i0 ^ i1;
 v3 = i0;
+}
+}
+}
 l3:;
 j0 = v2;
 m->g0 = j0;
 i0 = v3;
 r = i0;
 return r;
-l2:;
+}
 fio2070_trap();
 return r;
 }
@@ -70667,7 +72215,7 @@ uint64_t j1;
 uint64_t j2;
 uint64_t j3;
 uint64_t j4;
-uint32_t r;
+uint32_t r = 0;
 uint8_t *p1;
 uint8_t *p2;
 uint8_t *p3;
@@ -70688,33 +72236,33 @@ j0 = m->g0;
 v4 = j0;
 j1 = UINT64_C(16);
 i0 = (SIGNED64(j0) < SIGNED64(j1));
-if (i0) { goto l2; }
+if (!i0) {
 j0 = v2;
 j1 = v1;
 i0 = (j0 < j1);
-if (i0) { goto l3; }
+if (!i0) {
 j0 = v4;
 m->g0 = j0;
 i0 = UINT32_C(0);
 r = i0;
 return r;
-l3:;
+}
 j0 = v3;
 j1 = v1;
 i0 = (j0 < j1);
-if (i0) { goto l4; }
+if (!i0) {
 j0 = v4;
 m->g0 = j0;
 i0 = UINT32_C(0);
 r = i0;
 return r;
-l4:;
+}
 i0 = UINT32_C(1);
 v5 = i0;
 j0 = v2;
 j1 = v3;
 i0 = (j0 == j1);
-if (i0) { goto l5; }
+if (!i0) {
 j0 = v0;
 j1 = v2;
 j2 = UINT64_C(904);
@@ -70749,13 +72297,13 @@ j4 = UINT64_C(1);
 i3 = (j3 > j4);
 j1 = i3 ? j1 : j2;
 i0 = (j0 == j1);
-if (i0) { goto l6; }
+if (!i0) {
 j0 = v4;
 m->g0 = j0;
 i0 = UINT32_C(0);
 r = i0;
 return r;
-l6:;
+}
 j0 = UINT64_C(66616);
 j1 = v9;
 j2 = UINT64_C(0);
@@ -70770,7 +72318,7 @@ v3 = j0;
 j0 = v7;
 j1 = UINT64_C(4);
 i0 = (j0 < j1);
-if (i0) { goto l8; }
+if (!i0) {
 j0 = v6;
 p3 = read_at(j0, m, 1u);
 i0 = load8(p3 + 0);
@@ -70778,13 +72326,13 @@ j1 = v3;
 p4 = read_at(j1, m, 1u);
 i1 = load8(p4 + 0);
 i0 = (i0 == i1);
-if (i0) { goto l9; }
+if (!i0) {
 j0 = v4;
 m->g0 = j0;
 i0 = UINT32_C(0);
 r = i0;
 return r;
-l9:;
+}
 j0 = v6;
 j1 = UINT64_C(1);
 j0 = j0 + j1;
@@ -70800,13 +72348,13 @@ i1 = load8(p6 + 0);
 i2 = UINT32_C(255);
 i1 = i1 & i2;
 i0 = (i0 == i1);
-if (i0) { goto l10; }
+if (!i0) {
 j0 = v4;
 m->g0 = j0;
 i0 = UINT32_C(0);
 r = i0;
 return r;
-l10:;
+}
 j0 = v6;
 j1 = UINT64_C(2);
 j0 = j0 + j1;
@@ -70828,7 +72376,7 @@ m->g0 = j0;
 i0 = UINT32_C(0);
 r = i0;
 return r;
-l8:;
+}
 j0 = UINT64_C(0);
 v0 = j0;
 j0 = UINT64_C(66616);
@@ -70848,13 +72396,13 @@ j1 = v3;
 p10 = read_at(j1, m, 1u);
 i1 = load8(p10 + 0);
 i0 = (i0 != i1);
-if (i0) { goto l11; }
+if (!i0) {
 j0 = v8;
 v0 = j0;
 j0 = v7;
 j1 = UINT64_C(2);
 i0 = (j0 < j1);
-if (i0) { goto l11; }
+if (!i0) {
 j0 = UINT64_C(1);
 v0 = j0;
 j0 = v1;
@@ -70868,13 +72416,13 @@ j1 = j1 + j2;
 p12 = read_at(j1, m, 1u);
 i1 = load8(p12 + 0);
 i0 = (i0 != i1);
-if (i0) { goto l11; }
+if (!i0) {
 j0 = v8;
 v0 = j0;
 j0 = v7;
 j1 = UINT64_C(2);
 i0 = (j0 == j1);
-if (i0) { goto l11; }
+if (!i0) {
 j0 = v8;
 j1 = UINT64_C(2);
 j2 = v1;
@@ -70890,7 +72438,10 @@ i3 = load8(p14 + 0);
 i2 = (i2 == i3);
 j0 = i2 ? j0 : j1;
 v0 = j0;
-l11:;
+}
+}
+}
+}
 j0 = v4;
 m->g0 = j0;
 j0 = v0;
@@ -70916,19 +72467,20 @@ i1 = load8(p16 + 0);
 i2 = UINT32_C(255);
 i1 = i1 & i2;
 i0 = (i0 != i1);
-if (i0) { goto l5; }
+if (!i0) {
 j0 = v6;
 j1 = v8;
 j2 = v3;
 i0 = core_cmp_slices_groups_equal_i8_31_core_cmp_numbers_U8PartialEq(m, j0, j1, j2);
 v5 = i0;
-l5:;
+}
+}
 j0 = v4;
 m->g0 = j0;
 i0 = v5;
 r = i0;
 return r;
-l2:;
+}
 fio2070_trap();
 return r;
 }
@@ -70958,7 +72510,7 @@ uint64_t j4;
 uint64_t j5;
 uint64_t j6;
 uint64_t j7;
-uint32_t r;
+uint32_t r = 0;
 uint8_t *p1;
 uint8_t *p2;
 uint8_t *p3;
@@ -70983,11 +72535,11 @@ j0 = m->g0;
 v3 = j0;
 j1 = UINT64_C(16);
 i0 = (SIGNED64(j0) < SIGNED64(j1));
-if (i0) { goto l4; }
+if (!i0) {
 j0 = v1;
 j1 = UINT64_C(8);
 i0 = (j0 > j1);
-if (i0) { goto l5; }
+if (!i0) {
 j0 = v0;
 p1 = read_at(j0, m, 4u);
 i0 = load8(p1 + 0);
@@ -71087,18 +72639,18 @@ i1 = i1 | i2;
 i0 = i0 | i1;
 v5 = i0;
 goto l2;
-l5:;
+}
 j0 = v1;
 j1 = UINT64_C(32);
 i0 = (j0 > j1);
-if (i0) { goto l6; }
+if (!i0) {
 j0 = v0;
 j1 = v2;
 j2 = v1;
 i0 = core_slice_scan_any_in_quarters(m, j0, j1, j2);
 v5 = i0;
 goto l2;
-l6:;
+}
 j0 = v1;
 j1 = UINT64_C(65);
 i0 = (j0 < j1);
@@ -71118,7 +72670,7 @@ i0 = UINT32_C(0);
 v5 = i0;
 j0 = UINT64_C(0);
 v4 = j0;
-l9:;
+for (;;) {
 i0 = v5;
 j1 = v8;
 j2 = v4;
@@ -71151,7 +72703,8 @@ j0 = j0 + j1;
 v4 = j0;
 j1 = UINT64_C(64);
 i0 = (j0 != j1);
-if (i0) { goto l9; }
+if (!i0) break;
+}
 i0 = v5;
 i1 = UINT32_C(1);
 i0 = i0 & i1;
@@ -71182,7 +72735,7 @@ j0 = j0 - j1;
 v11 = j0;
 j1 = UINT64_C(32);
 i0 = (j0 < j1);
-if (i0) { goto l10; }
+if (!i0) {
 j0 = v2;
 j1 = v7;
 j0 = j0 + j1;
@@ -71471,6 +73024,7 @@ j0 = v11;
 j1 = UINT64_C(31);
 i0 = (j0 > j1);
 if (i0) { goto l2; }
+}
 l10:;
 j0 = v0;
 j1 = v1;
@@ -71740,7 +73294,7 @@ i1 = UINT32_C(0);
 i0 = (i0 != i1);
 v5 = i0;
 goto l2;
-l4:;
+}
 fio2070_trap();
 l3:;
 j0 = v0;
@@ -72420,7 +73974,7 @@ j0 = v3;
 v4 = j0;
 j1 = UINT64_C(16);
 i0 = (SIGNED64(j0) < SIGNED64(j1));
-if (i0) { goto l2; }
+if (!i0) {
 j0 = v0;
 j1 = UINT64_C(73664);
 j0 = j0 + j1;
@@ -72443,7 +73997,7 @@ p3 = read_at(j0, m, 8u);
 j0 = load64(p3 + 0);
 v5 = j0;
 i0 = (j0 == 0);
-if (i0) { goto l3; }
+if (!i0) {
 j0 = v1;
 j1 = UINT64_C(32);
 j0 = j0 + j1;
@@ -72521,7 +74075,7 @@ p6 = read_at(j0, m, 8u);
 j0 = load64(p6 + 0);
 j1 = v11;
 i0 = (j0 == j1);
-if (i0) { goto l6; }
+if (!i0) {
 j0 = v10;
 j1 = UINT64_C(24);
 j0 = j0 + j1;
@@ -72530,6 +74084,7 @@ j0 = load64(p7 + 0);
 j1 = v11;
 i0 = (j0 != j1);
 if (i0) { goto l5; }
+}
 l6:;
 j0 = v12;
 j1 = UINT64_C(890);
@@ -72538,7 +74093,7 @@ p8 = read_at(j0, m, 1u);
 i0 = load8(p8 + 0);
 i1 = UINT32_C(1);
 i0 = (i0 != i1);
-if (i0) { goto l5; }
+if (!i0) {
 j0 = v12;
 j1 = UINT64_C(891);
 j0 = j0 + j1;
@@ -72557,7 +74112,7 @@ i1 = load8(p10 + 0);
 i2 = UINT32_C(7);
 i1 = i1 >> (i2 & 31);
 i0 = (i0 != i1);
-if (i0) { goto l9; }
+if (!i0) {
 j0 = v0;
 j1 = UINT64_C(34824);
 j0 = j0 + j1;
@@ -72573,7 +74128,7 @@ i3 = v13;
 i1 = i3 ? i1 : i2;
 store32(p11 + 0, i1);
 goto l5;
-l9:;
+}
 j0 = v0;
 j1 = UINT64_C(34828);
 j0 = j0 + j1;
@@ -72588,18 +74143,19 @@ i2 = UINT32_C(4294967295);
 i3 = v13;
 i1 = i3 ? i1 : i2;
 store32(p12 + 0, i1);
+}
 l5:;
 j0 = v11;
 j1 = UINT64_C(2);
 i0 = (j0 > j1);
-if (i0) { goto l12; }
+if (!i0) {
 j0 = v9;
 j1 = v11;
 j0 = j0 + j1;
 p13 = read_at(j0, m, 1u);
 i0 = load8(p13 + 0);
 if (i0) { goto l11; }
-l12:;
+}
 j0 = v11;
 j1 = v1;
 j2 = UINT64_C(2744);
@@ -72625,7 +74181,7 @@ p15 = read_at(j0, m, 1u);
 i0 = load8(p15 + 0);
 i1 = UINT32_C(1);
 i0 = (i0 != i1);
-if (i0) { goto l10; }
+if (!i0) {
 j0 = v10;
 j1 = UINT64_C(8);
 j0 = j0 + j1;
@@ -72680,7 +74236,7 @@ j2 = j2 + j3;
 j2 = load64(p18 + 0);
 j3 = v11;
 i0 = fio_log_judge_entries_say_same(m, j0, j1, j2, j3);
-if (i0) { goto l13; }
+if (!i0) {
 j0 = v6;
 j1 = v3;
 j2 = v2;
@@ -72688,6 +74244,7 @@ j3 = v11;
 i0 = fio_log_judge_entries_say_same(m, j0, j1, j2, j3);
 i0 = (i0 == 0);
 if (i0) { goto l10; }
+}
 l13:;
 j0 = v0;
 j1 = v12;
@@ -72695,7 +74252,7 @@ j2 = UINT64_C(808);
 j1 = j1 + j2;
 i0 = fio_log_judge_shapes_Shapes_learn(m, j0, j1);
 i0 = (i0 == 0);
-if (i0) { goto l10; }
+if (!i0) {
 j0 = v0;
 j1 = UINT64_C(73673);
 j0 = j0 + j1;
@@ -72709,7 +74266,7 @@ p20 = read_at(j0, m, 8u);
 j0 = load64(p20 + 0);
 j1 = UINT64_C(0);
 i0 = (j0 != j1);
-if (i0) { goto l17; }
+if (!i0) {
 j0 = v12;
 j1 = UINT64_C(792);
 j0 = j0 + j1;
@@ -72722,7 +74279,7 @@ j0 = j0 + j1;
 j0 = load64(p21 + 0);
 v2 = j0;
 goto l16;
-l17:;
+}
 j0 = v1;
 j1 = UINT64_C(2754);
 j0 = j0 + j1;
@@ -72776,7 +74333,7 @@ i2 = (j2 < j3);
 j0 = i2 ? j0 : j1;
 v18 = j0;
 i0 = (j0 == 0);
-if (i0) { goto l18; }
+if (!i0) {
 l19:;
 j0 = v4;
 j1 = UINT64_C(16);
@@ -72795,23 +74352,24 @@ i0 = load8(p1 + 40);
 i1 = UINT32_C(1);
 i0 = i0 & i1;
 i0 = (i0 == 0);
-if (i0) { goto l20; }
+if (!i0) {
 j0 = v4;
 i0 = load8(p1 + 41);
 i1 = UINT32_C(1);
 i0 = i0 & i1;
-if (i0) { goto l21; }
+if (!i0) {
 j0 = v4;
 j0 = load64(p1 + 32);
 v3 = j0;
 goto l20;
-l21:;
+}
 j0 = v3;
 j1 = UINT64_C(48);
 j0 = j0 ^ j1;
 j1 = UINT64_C(1099511628211);
 j0 = j0 * j1;
 v3 = j0;
+}
 l20:;
 j0 = v3;
 j1 = UINT64_C(3);
@@ -72838,7 +74396,7 @@ if (i0) { goto l22; }
 j0 = v22;
 j1 = UINT64_C(0);
 i0 = (j0 == j1);
-if (i0) { goto l24; }
+if (!i0) {
 j0 = v7;
 j1 = v20;
 j2 = UINT64_C(8);
@@ -72855,7 +74413,7 @@ i0 = (j0 == j1);
 if (i0) { goto l22; }
 j0 = v22;
 i0 = (j0 == 0);
-if (i0) { goto l24; }
+if (!i0) {
 j0 = v2;
 j1 = UINT64_C(16);
 j0 = j0 + j1;
@@ -72864,7 +74422,8 @@ j1 = UINT64_C(256);
 i0 = (j0 == j1);
 if (i0) { goto l22; }
 goto l23;
-l24:;
+}
+}
 j0 = v21;
 j1 = v3;
 p28 = write_at(j0, m, 8u);
@@ -72877,11 +74436,11 @@ v17 = j0;
 j1 = v18;
 i0 = (j0 != j1);
 if (i0) { goto l19; }
-l18:;
+}
 j0 = v15;
 j1 = v14;
 i0 = (j0 < j1);
-if (i0) { goto l10; }
+if (!i0) {
 j0 = v4;
 j1 = v8;
 j2 = v14;
@@ -72912,12 +74471,12 @@ fio_log_surroundings_read_after(m, j0, j1, j2, j3, j4);
 j0 = v15;
 j1 = v14;
 i0 = (j0 <= j1);
-if (i0) { goto l10; }
+if (!i0) {
 j0 = v4;
 i0 = load8(p1 + 9);
 i1 = UINT32_C(1);
 i0 = i0 & i1;
-if (i0) { goto l10; }
+if (!i0) {
 j0 = UINT64_C(0);
 v21 = j0;
 i0 = UINT32_C(0);
@@ -72941,7 +74500,7 @@ i0 = load8(p29 + 0);
 v13 = i0;
 i1 = UINT32_C(95);
 i0 = (i0 == i1);
-if (i0) { goto l26; }
+if (!i0) {
 i0 = UINT32_C(0);
 v23 = i0;
 j0 = UINT64_C(3750763034362895578);
@@ -72949,11 +74508,11 @@ v2 = j0;
 i0 = v13;
 i1 = UINT32_C(48);
 i0 = (i0 < i1);
-if (i0) { goto l26; }
+if (!i0) {
 i0 = v13;
 i1 = UINT32_C(58);
 i0 = (i0 < i1);
-if (i0) { goto l27; }
+if (!i0) {
 i0 = UINT32_C(0);
 v23 = i0;
 j0 = UINT64_C(3750763034362895578);
@@ -72965,7 +74524,7 @@ if (i0) { goto l26; }
 i0 = v13;
 i1 = UINT32_C(91);
 i0 = (i0 < i1);
-if (i0) { goto l27; }
+if (!i0) {
 i0 = UINT32_C(0);
 v23 = i0;
 j0 = UINT64_C(3750763034362895578);
@@ -72983,7 +74542,8 @@ i0 = (uint32_t)extend(i0 & 255, 7);
 i1 = UINT32_C(123);
 i0 = (SIGNED32(i0) >= SIGNED32(i1));
 if (i0) { goto l26; }
-l27:;
+}
+}
 j0 = v3;
 i1 = v13;
 i2 = UINT32_C(32);
@@ -73022,7 +74582,7 @@ i1 = i1 & i2;
 i0 = i0 | i1;
 i1 = UINT32_C(1);
 i0 = i0 & i1;
-if (i0) { goto l26; }
+if (!i0) {
 j0 = v22;
 j1 = UINT64_C(8796093025688);
 j0 = j0 * j1;
@@ -73044,11 +74604,11 @@ j0 = load64(p30 + 0);
 v20 = j0;
 j1 = v2;
 i0 = (j0 != j1);
-if (i0) { goto l30; }
+if (!i0) {
 i0 = UINT32_C(0);
 v23 = i0;
 goto l26;
-l30:;
+}
 j0 = v20;
 j1 = UINT64_C(0);
 i0 = (j0 == j1);
@@ -73066,11 +74626,11 @@ j0 = load64(p31 + 0);
 v20 = j0;
 j1 = v2;
 i0 = (j0 != j1);
-if (i0) { goto l31; }
+if (!i0) {
 i0 = UINT32_C(0);
 v23 = i0;
 goto l26;
-l31:;
+}
 j0 = v20;
 i0 = (j0 == 0);
 if (i0) { goto l28; }
@@ -73091,6 +74651,9 @@ p32 = write_at(j0, m, 8u);
 store64(p32 + 0, j1);
 i0 = UINT32_C(0);
 v23 = i0;
+}
+}
+}
 l26:;
 j0 = v21;
 j1 = UINT64_C(1);
@@ -73099,6 +74662,11 @@ v21 = j0;
 j1 = v18;
 i0 = (j0 != j1);
 if (i0) { goto l25; }
+}
+}
+}
+}
+}
 l10:;
 j0 = v11;
 j1 = UINT64_C(1);
@@ -73107,15 +74675,14 @@ v11 = j0;
 j1 = v5;
 i0 = (j0 != j1);
 if (i0) { goto l4; }
-l3:;
+}
 j0 = v4;
 j1 = UINT64_C(48);
 j0 = j0 + j1;
 m->g0 = j0;
 return;
-l2:;
+}
 fio2070_trap();
-return;
 }
 static void fio_log_judge_Judge_put(struct machine *m, uint64_t v0, uint64_t v1, uint64_t v2, uint32_t v3, uint64_t v4, uint64_t v5)
 {
@@ -73165,7 +74732,7 @@ j0 = m->g0;
 v6 = j0;
 j1 = UINT64_C(16);
 i0 = (SIGNED64(j0) < SIGNED64(j1));
-if (i0) { goto l3; }
+if (!i0) {
 j0 = v2;
 p1 = read_at(j0, m, 25u);
 j0 = load64(p1 + 16);
@@ -73203,7 +74770,7 @@ j0 = j0 + j1;
 v12 = j0;
 j1 = UINT64_C(0);
 i0 = (j0 != j1);
-if (i0) { goto l5; }
+if (!i0) {
 j0 = v11;
 j1 = UINT64_C(1);
 j0 = j0 + j1;
@@ -73244,11 +74811,11 @@ j0 = v8;
 j1 = v7;
 i0 = fio_log_wordings_is_heading(m, j0, j1);
 i0 = (i0 == 0);
-if (i0) { goto l8; }
+if (!i0) {
 i0 = UINT32_C(11);
 v10 = i0;
 goto l2;
-l8:;
+}
 j0 = UINT64_C(0);
 v13 = j0;
 l9:;
@@ -73259,7 +74826,7 @@ j1 = v13;
 j0 = j0 - j1;
 v12 = j0;
 i0 = (j0 == 0);
-if (i0) { goto l10; }
+if (!i0) {
 j0 = v8;
 j1 = v13;
 j0 = j0 + j1;
@@ -73294,11 +74861,11 @@ l11:;
 j0 = v2;
 i0 = (j0 == 0);
 i0 = (i0 == 0);
-if (i0) { goto l13; }
+if (!i0) {
 j0 = UINT64_C(0);
 v2 = j0;
 goto l10;
-l13:;
+}
 j0 = UINT64_C(0);
 v15 = j0;
 l14:;
@@ -73312,7 +74879,7 @@ p5 = read_at(j0, m, 8u);
 j0 = load64(p5 + 0);
 j1 = v2;
 i0 = (j0 != j1);
-if (i0) { goto l15; }
+if (!i0) {
 j0 = v12;
 j1 = UINT64_C(67440);
 j0 = j0 + j1;
@@ -73378,6 +74945,7 @@ if (i0) { goto l16; }
 i0 = UINT32_C(10);
 v10 = i0;
 goto l2;
+}
 l15:;
 j0 = v15;
 j1 = UINT64_C(1);
@@ -73386,6 +74954,7 @@ v15 = j0;
 j1 = UINT64_C(15);
 i0 = (j0 != j1);
 if (i0) { goto l14; }
+}
 l10:;
 i0 = UINT32_C(1);
 v10 = i0;
@@ -73399,7 +74968,7 @@ j1 = v7;
 i0 = (j0 <= j1);
 if (i0) { goto l9; }
 goto l2;
-l5:;
+}
 j0 = v2;
 p9 = read_at(j0, m, 1u);
 i0 = load8(p9 + 0);
@@ -73413,7 +74982,7 @@ i1 = UINT32_C(2);
 i0 = (i0 != i1);
 if (i0) { goto l4; }
 goto l2;
-l3:;
+}
 fio2070_trap();
 l2:;
 j0 = v0;
@@ -73449,26 +75018,26 @@ j0 = j0 + j1;
 j0 = load64(p10 + 2744);
 v12 = j0;
 i0 = (j0 == 0);
-if (i0) { goto l17; }
+if (!i0) {
 j0 = v12;
 j1 = UINT64_C(904);
 j0 = j0 * j1;
 v12 = j0;
 i0 = (j0 == 0);
-if (i0) { goto l18; }
+if (!i0) {
 j0 = v2;
 j1 = UINT64_C(32);
 j0 = j0 + j1;
 i1 = UINT32_C(0);
 j2 = v12;
 fill(m, j0, i1, j2);
-l18:;
+}
 j0 = v2;
 j1 = UINT64_C(2744);
 j0 = j0 + j1;
 j1 = UINT64_C(0);
 store64(p10 + 2744, j1);
-l17:;
+}
 j0 = v2;
 j1 = UINT64_C(3144);
 j0 = j0 + j1;
@@ -73476,27 +75045,27 @@ p11 = read_at(j0, m, 8u);
 j0 = load64(p11 + 0);
 v12 = j0;
 i0 = (j0 == 0);
-if (i0) { goto l19; }
+if (!i0) {
 j0 = v12;
 j1 = UINT64_C(2);
 j0 = j0 << (j1 & 63);
 v12 = j0;
 i0 = (j0 == 0);
-if (i0) { goto l20; }
+if (!i0) {
 j0 = v2;
 j1 = UINT64_C(2752);
 j0 = j0 + j1;
 i1 = UINT32_C(0);
 j2 = v12;
 fill(m, j0, i1, j2);
-l20:;
+}
 j0 = v2;
 j1 = UINT64_C(3144);
 j0 = j0 + j1;
 j1 = UINT64_C(0);
 p12 = write_at(j0, m, 8u);
 store64(p12 + 0, j1);
-l19:;
+}
 j0 = v0;
 j1 = v1;
 j2 = UINT64_C(144);
@@ -73532,21 +75101,21 @@ j0 = load64(p14 + 0);
 v2 = j0;
 i0 = (j0 == 0);
 v16 = i0;
-if (i0) { goto l21; }
+if (!i0) {
 i0 = v16;
-if (i0) { goto l22; }
+if (!i0) {
 j0 = v9;
 i1 = UINT32_C(0);
 j2 = v2;
 fill(m, j0, i1, j2);
-l22:;
+}
 j0 = v9;
 j1 = UINT64_C(256);
 j0 = j0 + j1;
 j1 = UINT64_C(0);
 p15 = write_at(j0, m, 8u);
 store64(p15 + 0, j1);
-l21:;
+}
 j0 = v9;
 j1 = v8;
 j0 = j0 - j1;
@@ -73558,7 +75127,7 @@ i3 = (j3 < j4);
 j1 = i3 ? j1 : j2;
 v4 = j1;
 i0 = (j0 >= j1);
-if (i0) { goto l24; }
+if (!i0) {
 j0 = v4;
 j1 = UINT64_C(3);
 j0 = j0 & j1;
@@ -73568,14 +75137,14 @@ v12 = j0;
 j0 = v7;
 j1 = UINT64_C(4);
 i0 = (j0 < j1);
-if (i0) { goto l25; }
+if (!i0) {
 j0 = v4;
 j1 = UINT64_C(508);
 j0 = j0 & j1;
 v7 = j0;
 j0 = UINT64_C(0);
 v12 = j0;
-l26:;
+for (;;) {
 j0 = v1;
 j1 = v12;
 j0 = j0 + j1;
@@ -73620,11 +75189,12 @@ j2 = UINT64_C(4);
 j1 = j1 + j2;
 v12 = j1;
 i0 = (j0 != j1);
-if (i0) { goto l26; }
+if (!i0) break;
+}
 j0 = v11;
 i0 = (j0 == 0);
 if (i0) { goto l23; }
-l25:;
+}
 j0 = v8;
 j1 = v12;
 j0 = j0 + j1;
@@ -73660,14 +75230,15 @@ j1 = UINT64_C(0);
 i0 = (j0 != j1);
 if (i0) { goto l27; }
 goto l23;
-l24:;
+}
 j0 = v4;
 i0 = (j0 == 0);
-if (i0) { goto l23; }
+if (!i0) {
 j0 = v9;
 j1 = v8;
 j2 = v4;
 copy(m, j0, j1, j2);
+}
 l23:;
 j0 = v9;
 j1 = UINT64_C(256);
@@ -73692,7 +75263,6 @@ j1 = i3 ? j1 : j2;
 store64(p21 + 0, j1);
 j0 = v6;
 m->g0 = j0;
-return;
 }
 static uint32_t fio_log_wordings_is_heading(struct machine *m, uint64_t v0, uint64_t v1)
 {
@@ -73715,7 +75285,7 @@ uint32_t i4;
 uint64_t j0;
 uint64_t j1;
 uint64_t j2;
-uint32_t r;
+uint32_t r = 0;
 uint8_t *p1;
 uint8_t *p2;
 uint8_t *p3;
@@ -73828,12 +75398,12 @@ uint8_t *p109;
 j0 = m->g0;
 j1 = UINT64_C(16);
 i0 = (SIGNED64(j0) < SIGNED64(j1));
-if (i0) { goto l5; }
+if (!i0) {
 j0 = UINT64_C(0);
 v2 = j0;
 j0 = v1;
 i0 = (j0 == 0);
-if (i0) { goto l6; }
+if (!i0) {
 l7:;
 j0 = v0;
 j1 = v2;
@@ -73843,12 +75413,12 @@ i0 = load8(p1 + 0);
 v3 = i0;
 i1 = UINT32_C(32);
 i0 = (i0 == i1);
-if (i0) { goto l8; }
+if (!i0) {
 i0 = v3;
 i1 = UINT32_C(9);
 i0 = (i0 != i1);
 if (i0) { goto l6; }
-l8:;
+}
 j0 = v1;
 j1 = v2;
 j2 = UINT64_C(1);
@@ -73858,6 +75428,7 @@ i0 = (j0 != j1);
 if (i0) { goto l7; }
 j0 = v1;
 v2 = j0;
+}
 l6:;
 j0 = v1;
 j1 = v2;
@@ -73958,7 +75529,7 @@ if (i0) { goto l4; }
 i0 = UINT32_C(1);
 r = i0;
 return r;
-l5:;
+}
 fio2070_trap();
 l4:;
 j0 = v2;
@@ -73970,7 +75541,7 @@ i0 = i0 + i1;
 v3 = i0;
 i1 = UINT32_C(60);
 i0 = (i0 > i1);
-if (i0) { goto l12; }
+if (!i0) {
 j0 = UINT64_C(1);
 i1 = v3;
 j1 = (uint64_t)i1;
@@ -73980,7 +75551,7 @@ j0 = j0 & j1;
 j1 = UINT64_C(0);
 i0 = (j0 != j1);
 if (i0) { goto l11; }
-l12:;
+}
 i0 = v4;
 i1 = UINT32_C(126);
 i0 = (i0 != i1);
@@ -73997,7 +75568,7 @@ i0 = i0 + i1;
 v4 = i0;
 i1 = UINT32_C(60);
 i0 = (i0 > i1);
-if (i0) { goto l13; }
+if (!i0) {
 j0 = UINT64_C(1);
 i1 = v4;
 j1 = (uint64_t)i1;
@@ -74007,7 +75578,7 @@ j0 = j0 & j1;
 j1 = UINT64_C(0);
 i0 = (j0 != j1);
 if (i0) { goto l2; }
-l13:;
+}
 i0 = v5;
 i1 = UINT32_C(126);
 i0 = (i0 == i1);
@@ -74023,7 +75594,7 @@ j1 = v6;
 j0 = j0 - j1;
 v7 = j0;
 i0 = (j0 == 0);
-if (i0) { goto l17; }
+if (!i0) {
 j0 = v0;
 j1 = v6;
 j0 = j0 + j1;
@@ -74058,11 +75629,11 @@ l18:;
 j0 = v2;
 i0 = (j0 == 0);
 i0 = (i0 == 0);
-if (i0) { goto l20; }
+if (!i0) {
 j0 = UINT64_C(0);
 v2 = j0;
 goto l17;
-l20:;
+}
 j0 = UINT64_C(0);
 v9 = j0;
 l21:;
@@ -74076,7 +75647,7 @@ p8 = read_at(j0, m, 8u);
 j0 = load64(p8 + 0);
 j1 = v2;
 i0 = (j0 != j1);
-if (i0) { goto l22; }
+if (!i0) {
 j0 = v7;
 j1 = UINT64_C(66624);
 j0 = j0 + j1;
@@ -74142,6 +75713,7 @@ j1 = UINT64_C(0);
 i0 = (j0 == j1);
 if (i0) { goto l15; }
 goto l23;
+}
 l22:;
 j0 = v9;
 j1 = UINT64_C(1);
@@ -74150,6 +75722,7 @@ v9 = j0;
 j1 = UINT64_C(17);
 i0 = (j0 != j1);
 if (i0) { goto l21; }
+}
 l17:;
 j0 = v6;
 j1 = v2;
@@ -74169,11 +75742,11 @@ j0 = j0 - j1;
 v2 = j0;
 i0 = (j0 == 0);
 i0 = (i0 == 0);
-if (i0) { goto l26; }
+if (!i0) {
 j0 = UINT64_C(0);
 v10 = j0;
 goto l25;
-l26:;
+}
 j0 = v0;
 j1 = v12;
 j0 = j0 + j1;
@@ -74208,11 +75781,11 @@ l27:;
 j0 = v10;
 i0 = (j0 == 0);
 i0 = (i0 == 0);
-if (i0) { goto l29; }
+if (!i0) {
 j0 = UINT64_C(0);
 v10 = j0;
 goto l25;
-l29:;
+}
 j0 = UINT64_C(0);
 v9 = j0;
 l30:;
@@ -74226,7 +75799,7 @@ p13 = read_at(j0, m, 8u);
 j0 = load64(p13 + 0);
 j1 = v10;
 i0 = (j0 != j1);
-if (i0) { goto l31; }
+if (!i0) {
 j0 = v2;
 j1 = UINT64_C(67008);
 j0 = j0 + j1;
@@ -74292,6 +75865,7 @@ if (i0) { goto l32; }
 i0 = UINT32_C(1);
 r = i0;
 return r;
+}
 l31:;
 j0 = v9;
 j1 = UINT64_C(1);
@@ -74321,7 +75895,7 @@ j1 = v11;
 j0 = j0 - j1;
 v10 = j0;
 i0 = (j0 == 0);
-if (i0) { goto l36; }
+if (!i0) {
 j0 = v0;
 j1 = v11;
 j0 = j0 + j1;
@@ -74359,7 +75933,7 @@ j0 = j0 + j1;
 v10 = j0;
 j1 = UINT64_C(2);
 i0 = (j0 > j1);
-if (i0) { goto l36; }
+if (!i0) {
 j0 = v10;
 i0 = (uint32_t)j0;
 switch (i0) {
@@ -74392,7 +75966,7 @@ i1 = UINT32_C(255);
 i0 = i0 & i1;
 i1 = UINT32_C(108);
 i0 = (i0 != i1);
-if (i0) { goto l42; }
+if (!i0) {
 j0 = v7;
 p19 = read_at(j0 + UINT64_C(1), m, 1u);
 i0 = load8(p19 + 0);
@@ -74412,7 +75986,7 @@ i1 = UINT32_C(255);
 i0 = i0 & i1;
 i1 = UINT32_C(111);
 i0 = (i0 != i1);
-if (i0) { goto l42; }
+if (!i0) {
 j0 = v7;
 p20 = read_at(j0 + UINT64_C(2), m, 1u);
 i0 = load8(p20 + 0);
@@ -74432,7 +76006,7 @@ i1 = UINT32_C(255);
 i0 = i0 & i1;
 i1 = UINT32_C(103);
 i0 = (i0 != i1);
-if (i0) { goto l42; }
+if (!i0) {
 j0 = v7;
 p21 = read_at(j0 + UINT64_C(3), m, 1u);
 i0 = load8(p21 + 0);
@@ -74452,7 +76026,7 @@ i1 = UINT32_C(255);
 i0 = i0 & i1;
 i1 = UINT32_C(102);
 i0 = (i0 != i1);
-if (i0) { goto l42; }
+if (!i0) {
 j0 = v7;
 p22 = read_at(j0 + UINT64_C(4), m, 1u);
 i0 = load8(p22 + 0);
@@ -74472,7 +76046,7 @@ i1 = UINT32_C(255);
 i0 = i0 & i1;
 i1 = UINT32_C(105);
 i0 = (i0 != i1);
-if (i0) { goto l42; }
+if (!i0) {
 j0 = v7;
 p23 = read_at(j0 + UINT64_C(5), m, 1u);
 i0 = load8(p23 + 0);
@@ -74492,7 +76066,7 @@ i1 = UINT32_C(255);
 i0 = i0 & i1;
 i1 = UINT32_C(108);
 i0 = (i0 != i1);
-if (i0) { goto l42; }
+if (!i0) {
 j0 = v7;
 p24 = read_at(j0 + UINT64_C(6), m, 1u);
 i0 = load8(p24 + 0);
@@ -74513,7 +76087,12 @@ i0 = i0 & i1;
 i1 = UINT32_C(101);
 i0 = (i0 == i1);
 if (i0) { goto l34; }
-l42:;
+}
+}
+}
+}
+}
+}
 j0 = v7;
 p25 = read_at(j0, m, 1u);
 i0 = load8(p25 + 0);
@@ -74533,7 +76112,7 @@ i1 = UINT32_C(255);
 i0 = i0 & i1;
 i1 = UINT32_C(108);
 i0 = (i0 != i1);
-if (i0) { goto l43; }
+if (!i0) {
 j0 = v7;
 p26 = read_at(j0 + UINT64_C(1), m, 1u);
 i0 = load8(p26 + 0);
@@ -74553,7 +76132,7 @@ i1 = UINT32_C(255);
 i0 = i0 & i1;
 i1 = UINT32_C(111);
 i0 = (i0 != i1);
-if (i0) { goto l43; }
+if (!i0) {
 j0 = v7;
 p27 = read_at(j0 + UINT64_C(2), m, 1u);
 i0 = load8(p27 + 0);
@@ -74573,7 +76152,7 @@ i1 = UINT32_C(255);
 i0 = i0 & i1;
 i1 = UINT32_C(103);
 i0 = (i0 != i1);
-if (i0) { goto l43; }
+if (!i0) {
 j0 = v7;
 p28 = read_at(j0 + UINT64_C(3), m, 1u);
 i0 = load8(p28 + 0);
@@ -74593,7 +76172,7 @@ i1 = UINT32_C(255);
 i0 = i0 & i1;
 i1 = UINT32_C(103);
 i0 = (i0 != i1);
-if (i0) { goto l43; }
+if (!i0) {
 j0 = v7;
 p29 = read_at(j0 + UINT64_C(4), m, 1u);
 i0 = load8(p29 + 0);
@@ -74613,7 +76192,7 @@ i1 = UINT32_C(255);
 i0 = i0 & i1;
 i1 = UINT32_C(105);
 i0 = (i0 != i1);
-if (i0) { goto l43; }
+if (!i0) {
 j0 = v7;
 p30 = read_at(j0 + UINT64_C(5), m, 1u);
 i0 = load8(p30 + 0);
@@ -74633,7 +76212,7 @@ i1 = UINT32_C(255);
 i0 = i0 & i1;
 i1 = UINT32_C(110);
 i0 = (i0 != i1);
-if (i0) { goto l43; }
+if (!i0) {
 j0 = v7;
 p31 = read_at(j0 + UINT64_C(6), m, 1u);
 i0 = load8(p31 + 0);
@@ -74654,7 +76233,12 @@ i0 = i0 & i1;
 i1 = UINT32_C(103);
 i0 = (i0 == i1);
 if (i0) { goto l34; }
-l43:;
+}
+}
+}
+}
+}
+}
 j0 = v7;
 p32 = read_at(j0, m, 1u);
 i0 = load8(p32 + 0);
@@ -74674,7 +76258,7 @@ i1 = UINT32_C(255);
 i0 = i0 & i1;
 i1 = UINT32_C(99);
 i0 = (i0 != i1);
-if (i0) { goto l44; }
+if (!i0) {
 j0 = v7;
 p33 = read_at(j0 + UINT64_C(1), m, 1u);
 i0 = load8(p33 + 0);
@@ -74694,7 +76278,7 @@ i1 = UINT32_C(255);
 i0 = i0 & i1;
 i1 = UINT32_C(97);
 i0 = (i0 != i1);
-if (i0) { goto l44; }
+if (!i0) {
 j0 = v7;
 p34 = read_at(j0 + UINT64_C(2), m, 1u);
 i0 = load8(p34 + 0);
@@ -74714,7 +76298,7 @@ i1 = UINT32_C(255);
 i0 = i0 & i1;
 i1 = UINT32_C(112);
 i0 = (i0 != i1);
-if (i0) { goto l44; }
+if (!i0) {
 j0 = v7;
 p35 = read_at(j0 + UINT64_C(3), m, 1u);
 i0 = load8(p35 + 0);
@@ -74734,7 +76318,7 @@ i1 = UINT32_C(255);
 i0 = i0 & i1;
 i1 = UINT32_C(116);
 i0 = (i0 != i1);
-if (i0) { goto l44; }
+if (!i0) {
 j0 = v7;
 p36 = read_at(j0 + UINT64_C(4), m, 1u);
 i0 = load8(p36 + 0);
@@ -74754,7 +76338,7 @@ i1 = UINT32_C(255);
 i0 = i0 & i1;
 i1 = UINT32_C(117);
 i0 = (i0 != i1);
-if (i0) { goto l44; }
+if (!i0) {
 j0 = v7;
 p37 = read_at(j0 + UINT64_C(5), m, 1u);
 i0 = load8(p37 + 0);
@@ -74774,7 +76358,7 @@ i1 = UINT32_C(255);
 i0 = i0 & i1;
 i1 = UINT32_C(114);
 i0 = (i0 != i1);
-if (i0) { goto l44; }
+if (!i0) {
 j0 = v7;
 p38 = read_at(j0 + UINT64_C(6), m, 1u);
 i0 = load8(p38 + 0);
@@ -74795,7 +76379,12 @@ i0 = i0 & i1;
 i1 = UINT32_C(101);
 i0 = (i0 == i1);
 if (i0) { goto l34; }
-l44:;
+}
+}
+}
+}
+}
+}
 j0 = v2;
 j1 = UINT64_C(18446744073709551608);
 j0 = j0 + j1;
@@ -74833,7 +76422,7 @@ i1 = UINT32_C(255);
 i0 = i0 & i1;
 i1 = UINT32_C(99);
 i0 = (i0 != i1);
-if (i0) { goto l45; }
+if (!i0) {
 j0 = v7;
 p40 = read_at(j0 + UINT64_C(1), m, 1u);
 i0 = load8(p40 + 0);
@@ -74853,7 +76442,7 @@ i1 = UINT32_C(255);
 i0 = i0 & i1;
 i1 = UINT32_C(97);
 i0 = (i0 != i1);
-if (i0) { goto l45; }
+if (!i0) {
 j0 = v7;
 p41 = read_at(j0 + UINT64_C(2), m, 1u);
 i0 = load8(p41 + 0);
@@ -74873,7 +76462,7 @@ i1 = UINT32_C(255);
 i0 = i0 & i1;
 i1 = UINT32_C(112);
 i0 = (i0 != i1);
-if (i0) { goto l45; }
+if (!i0) {
 j0 = v7;
 p42 = read_at(j0 + UINT64_C(3), m, 1u);
 i0 = load8(p42 + 0);
@@ -74893,7 +76482,7 @@ i1 = UINT32_C(255);
 i0 = i0 & i1;
 i1 = UINT32_C(116);
 i0 = (i0 != i1);
-if (i0) { goto l45; }
+if (!i0) {
 j0 = v7;
 p43 = read_at(j0 + UINT64_C(4), m, 1u);
 i0 = load8(p43 + 0);
@@ -74913,7 +76502,7 @@ i1 = UINT32_C(255);
 i0 = i0 & i1;
 i1 = UINT32_C(117);
 i0 = (i0 != i1);
-if (i0) { goto l45; }
+if (!i0) {
 j0 = v7;
 p44 = read_at(j0 + UINT64_C(5), m, 1u);
 i0 = load8(p44 + 0);
@@ -74933,7 +76522,7 @@ i1 = UINT32_C(255);
 i0 = i0 & i1;
 i1 = UINT32_C(114);
 i0 = (i0 != i1);
-if (i0) { goto l45; }
+if (!i0) {
 j0 = v7;
 p45 = read_at(j0 + UINT64_C(6), m, 1u);
 i0 = load8(p45 + 0);
@@ -74953,7 +76542,7 @@ i1 = UINT32_C(255);
 i0 = i0 & i1;
 i1 = UINT32_C(105);
 i0 = (i0 != i1);
-if (i0) { goto l45; }
+if (!i0) {
 j0 = v7;
 p46 = read_at(j0 + UINT64_C(7), m, 1u);
 i0 = load8(p46 + 0);
@@ -74973,7 +76562,7 @@ i1 = UINT32_C(255);
 i0 = i0 & i1;
 i1 = UINT32_C(110);
 i0 = (i0 != i1);
-if (i0) { goto l45; }
+if (!i0) {
 j0 = v7;
 p47 = read_at(j0 + UINT64_C(8), m, 1u);
 i0 = load8(p47 + 0);
@@ -74994,7 +76583,14 @@ i0 = i0 & i1;
 i1 = UINT32_C(103);
 i0 = (i0 == i1);
 if (i0) { goto l34; }
-l45:;
+}
+}
+}
+}
+}
+}
+}
+}
 j0 = v2;
 j1 = UINT64_C(8);
 i0 = (j0 != j1);
@@ -75019,7 +76615,7 @@ i1 = UINT32_C(255);
 i0 = i0 & i1;
 i1 = UINT32_C(115);
 i0 = (i0 != i1);
-if (i0) { goto l46; }
+if (!i0) {
 j0 = v7;
 p49 = read_at(j0 + UINT64_C(1), m, 1u);
 i0 = load8(p49 + 0);
@@ -75039,7 +76635,7 @@ i1 = UINT32_C(255);
 i0 = i0 & i1;
 i1 = UINT32_C(110);
 i0 = (i0 != i1);
-if (i0) { goto l46; }
+if (!i0) {
 j0 = v7;
 p50 = read_at(j0 + UINT64_C(2), m, 1u);
 i0 = load8(p50 + 0);
@@ -75059,7 +76655,7 @@ i1 = UINT32_C(255);
 i0 = i0 & i1;
 i1 = UINT32_C(97);
 i0 = (i0 != i1);
-if (i0) { goto l46; }
+if (!i0) {
 j0 = v7;
 p51 = read_at(j0 + UINT64_C(3), m, 1u);
 i0 = load8(p51 + 0);
@@ -75079,7 +76675,7 @@ i1 = UINT32_C(255);
 i0 = i0 & i1;
 i1 = UINT32_C(112);
 i0 = (i0 != i1);
-if (i0) { goto l46; }
+if (!i0) {
 j0 = v7;
 p52 = read_at(j0 + UINT64_C(4), m, 1u);
 i0 = load8(p52 + 0);
@@ -75099,7 +76695,7 @@ i1 = UINT32_C(255);
 i0 = i0 & i1;
 i1 = UINT32_C(115);
 i0 = (i0 != i1);
-if (i0) { goto l46; }
+if (!i0) {
 j0 = v7;
 p53 = read_at(j0 + UINT64_C(5), m, 1u);
 i0 = load8(p53 + 0);
@@ -75119,7 +76715,7 @@ i1 = UINT32_C(255);
 i0 = i0 & i1;
 i1 = UINT32_C(104);
 i0 = (i0 != i1);
-if (i0) { goto l46; }
+if (!i0) {
 j0 = v7;
 p54 = read_at(j0 + UINT64_C(6), m, 1u);
 i0 = load8(p54 + 0);
@@ -75139,7 +76735,7 @@ i1 = UINT32_C(255);
 i0 = i0 & i1;
 i1 = UINT32_C(111);
 i0 = (i0 != i1);
-if (i0) { goto l46; }
+if (!i0) {
 j0 = v7;
 p55 = read_at(j0 + UINT64_C(7), m, 1u);
 i0 = load8(p55 + 0);
@@ -75160,7 +76756,13 @@ i0 = i0 & i1;
 i1 = UINT32_C(116);
 i0 = (i0 == i1);
 if (i0) { goto l34; }
-l46:;
+}
+}
+}
+}
+}
+}
+}
 j0 = v7;
 p56 = read_at(j0, m, 1u);
 i0 = load8(p56 + 0);
@@ -75180,7 +76782,7 @@ i1 = UINT32_C(255);
 i0 = i0 & i1;
 i1 = UINT32_C(116);
 i0 = (i0 != i1);
-if (i0) { goto l36; }
+if (!i0) {
 j0 = v7;
 p57 = read_at(j0 + UINT64_C(1), m, 1u);
 i0 = load8(p57 + 0);
@@ -75200,7 +76802,7 @@ i1 = UINT32_C(255);
 i0 = i0 & i1;
 i1 = UINT32_C(101);
 i0 = (i0 != i1);
-if (i0) { goto l36; }
+if (!i0) {
 j0 = v7;
 p58 = read_at(j0 + UINT64_C(2), m, 1u);
 i0 = load8(p58 + 0);
@@ -75220,7 +76822,7 @@ i1 = UINT32_C(255);
 i0 = i0 & i1;
 i1 = UINT32_C(114);
 i0 = (i0 != i1);
-if (i0) { goto l36; }
+if (!i0) {
 j0 = v7;
 p59 = read_at(j0 + UINT64_C(3), m, 1u);
 i0 = load8(p59 + 0);
@@ -75240,7 +76842,7 @@ i1 = UINT32_C(255);
 i0 = i0 & i1;
 i1 = UINT32_C(109);
 i0 = (i0 != i1);
-if (i0) { goto l36; }
+if (!i0) {
 j0 = v7;
 p60 = read_at(j0 + UINT64_C(4), m, 1u);
 i0 = load8(p60 + 0);
@@ -75260,7 +76862,7 @@ i1 = UINT32_C(255);
 i0 = i0 & i1;
 i1 = UINT32_C(105);
 i0 = (i0 != i1);
-if (i0) { goto l36; }
+if (!i0) {
 j0 = v7;
 p61 = read_at(j0 + UINT64_C(5), m, 1u);
 i0 = load8(p61 + 0);
@@ -75280,7 +76882,7 @@ i1 = UINT32_C(255);
 i0 = i0 & i1;
 i1 = UINT32_C(110);
 i0 = (i0 != i1);
-if (i0) { goto l36; }
+if (!i0) {
 j0 = v7;
 p62 = read_at(j0 + UINT64_C(6), m, 1u);
 i0 = load8(p62 + 0);
@@ -75300,7 +76902,7 @@ i1 = UINT32_C(255);
 i0 = i0 & i1;
 i1 = UINT32_C(97);
 i0 = (i0 != i1);
-if (i0) { goto l36; }
+if (!i0) {
 j0 = v7;
 p63 = read_at(j0 + UINT64_C(7), m, 1u);
 i0 = load8(p63 + 0);
@@ -75321,6 +76923,15 @@ i0 = i0 & i1;
 i1 = UINT32_C(108);
 i0 = (i0 == i1);
 if (i0) { goto l34; }
+}
+}
+}
+}
+}
+}
+}
+}
+}
 l36:;
 j0 = v11;
 j1 = v2;
@@ -75343,7 +76954,7 @@ j1 = v11;
 j0 = j0 - j1;
 v10 = j0;
 i0 = (j0 == 0);
-if (i0) { goto l48; }
+if (!i0) {
 j0 = v0;
 j1 = v11;
 j0 = j0 + j1;
@@ -75381,7 +76992,7 @@ j0 = j0 + j1;
 v10 = j0;
 j1 = UINT64_C(7);
 i0 = (j0 > j1);
-if (i0) { goto l48; }
+if (!i0) {
 j0 = v10;
 i0 = (uint32_t)j0;
 switch (i0) {
@@ -75424,7 +77035,7 @@ i1 = UINT32_C(255);
 i0 = i0 & i1;
 i1 = UINT32_C(101);
 i0 = (i0 != i1);
-if (i0) { goto l57; }
+if (!i0) {
 j0 = v7;
 p66 = read_at(j0 + UINT64_C(1), m, 1u);
 i0 = load8(p66 + 0);
@@ -75444,7 +77055,7 @@ i1 = UINT32_C(255);
 i0 = i0 & i1;
 i1 = UINT32_C(110);
 i0 = (i0 != i1);
-if (i0) { goto l57; }
+if (!i0) {
 j0 = v7;
 p67 = read_at(j0 + UINT64_C(2), m, 1u);
 i0 = load8(p67 + 0);
@@ -75464,7 +77075,7 @@ i1 = UINT32_C(255);
 i0 = i0 & i1;
 i1 = UINT32_C(97);
 i0 = (i0 != i1);
-if (i0) { goto l57; }
+if (!i0) {
 j0 = v7;
 p68 = read_at(j0 + UINT64_C(3), m, 1u);
 i0 = load8(p68 + 0);
@@ -75484,7 +77095,7 @@ i1 = UINT32_C(255);
 i0 = i0 & i1;
 i1 = UINT32_C(98);
 i0 = (i0 != i1);
-if (i0) { goto l57; }
+if (!i0) {
 j0 = v7;
 p69 = read_at(j0 + UINT64_C(4), m, 1u);
 i0 = load8(p69 + 0);
@@ -75504,7 +77115,7 @@ i1 = UINT32_C(255);
 i0 = i0 & i1;
 i1 = UINT32_C(108);
 i0 = (i0 != i1);
-if (i0) { goto l57; }
+if (!i0) {
 j0 = v7;
 p70 = read_at(j0 + UINT64_C(5), m, 1u);
 i0 = load8(p70 + 0);
@@ -75524,7 +77135,7 @@ i1 = UINT32_C(255);
 i0 = i0 & i1;
 i1 = UINT32_C(101);
 i0 = (i0 != i1);
-if (i0) { goto l57; }
+if (!i0) {
 j0 = v7;
 p71 = read_at(j0 + UINT64_C(6), m, 1u);
 i0 = load8(p71 + 0);
@@ -75544,11 +77155,17 @@ i1 = UINT32_C(255);
 i0 = i0 & i1;
 i1 = UINT32_C(100);
 i0 = (i0 != i1);
-if (i0) { goto l57; }
+if (!i0) {
 i0 = UINT32_C(1);
 r = i0;
 return r;
-l57:;
+}
+}
+}
+}
+}
+}
+}
 j0 = v2;
 j1 = UINT64_C(18446744073709551614);
 j0 = j0 + j1;
@@ -75598,7 +77215,7 @@ i1 = UINT32_C(255);
 i0 = i0 & i1;
 i1 = UINT32_C(101);
 i0 = (i0 != i1);
-if (i0) { goto l58; }
+if (!i0) {
 j0 = v7;
 p73 = read_at(j0 + UINT64_C(1), m, 1u);
 i0 = load8(p73 + 0);
@@ -75618,7 +77235,7 @@ i1 = UINT32_C(255);
 i0 = i0 & i1;
 i1 = UINT32_C(110);
 i0 = (i0 != i1);
-if (i0) { goto l58; }
+if (!i0) {
 j0 = v7;
 p74 = read_at(j0 + UINT64_C(2), m, 1u);
 i0 = load8(p74 + 0);
@@ -75638,7 +77255,7 @@ i1 = UINT32_C(255);
 i0 = i0 & i1;
 i1 = UINT32_C(97);
 i0 = (i0 != i1);
-if (i0) { goto l58; }
+if (!i0) {
 j0 = v7;
 p75 = read_at(j0 + UINT64_C(3), m, 1u);
 i0 = load8(p75 + 0);
@@ -75658,7 +77275,7 @@ i1 = UINT32_C(255);
 i0 = i0 & i1;
 i1 = UINT32_C(98);
 i0 = (i0 != i1);
-if (i0) { goto l58; }
+if (!i0) {
 j0 = v7;
 p76 = read_at(j0 + UINT64_C(4), m, 1u);
 i0 = load8(p76 + 0);
@@ -75678,7 +77295,7 @@ i1 = UINT32_C(255);
 i0 = i0 & i1;
 i1 = UINT32_C(108);
 i0 = (i0 != i1);
-if (i0) { goto l58; }
+if (!i0) {
 j0 = v7;
 p77 = read_at(j0 + UINT64_C(5), m, 1u);
 i0 = load8(p77 + 0);
@@ -75698,7 +77315,7 @@ i1 = UINT32_C(255);
 i0 = i0 & i1;
 i1 = UINT32_C(105);
 i0 = (i0 != i1);
-if (i0) { goto l58; }
+if (!i0) {
 j0 = v7;
 p78 = read_at(j0 + UINT64_C(6), m, 1u);
 i0 = load8(p78 + 0);
@@ -75718,7 +77335,7 @@ i1 = UINT32_C(255);
 i0 = i0 & i1;
 i1 = UINT32_C(110);
 i0 = (i0 != i1);
-if (i0) { goto l58; }
+if (!i0) {
 j0 = v7;
 p79 = read_at(j0 + UINT64_C(7), m, 1u);
 i0 = load8(p79 + 0);
@@ -75738,11 +77355,18 @@ i1 = UINT32_C(255);
 i0 = i0 & i1;
 i1 = UINT32_C(103);
 i0 = (i0 != i1);
-if (i0) { goto l58; }
+if (!i0) {
 i0 = UINT32_C(1);
 r = i0;
 return r;
-l58:;
+}
+}
+}
+}
+}
+}
+}
+}
 j0 = v2;
 j1 = UINT64_C(18446744073709551614);
 j0 = j0 + j1;
@@ -75792,7 +77416,7 @@ i1 = UINT32_C(255);
 i0 = i0 & i1;
 i1 = UINT32_C(108);
 i0 = (i0 != i1);
-if (i0) { goto l59; }
+if (!i0) {
 j0 = v7;
 p81 = read_at(j0 + UINT64_C(1), m, 1u);
 i0 = load8(p81 + 0);
@@ -75812,7 +77436,7 @@ i1 = UINT32_C(255);
 i0 = i0 & i1;
 i1 = UINT32_C(105);
 i0 = (i0 != i1);
-if (i0) { goto l59; }
+if (!i0) {
 j0 = v7;
 p82 = read_at(j0 + UINT64_C(2), m, 1u);
 i0 = load8(p82 + 0);
@@ -75832,7 +77456,7 @@ i1 = UINT32_C(255);
 i0 = i0 & i1;
 i1 = UINT32_C(115);
 i0 = (i0 != i1);
-if (i0) { goto l59; }
+if (!i0) {
 j0 = v7;
 p83 = read_at(j0 + UINT64_C(3), m, 1u);
 i0 = load8(p83 + 0);
@@ -75852,7 +77476,7 @@ i1 = UINT32_C(255);
 i0 = i0 & i1;
 i1 = UINT32_C(116);
 i0 = (i0 != i1);
-if (i0) { goto l59; }
+if (!i0) {
 j0 = v7;
 p84 = read_at(j0 + UINT64_C(4), m, 1u);
 i0 = load8(p84 + 0);
@@ -75872,7 +77496,7 @@ i1 = UINT32_C(255);
 i0 = i0 & i1;
 i1 = UINT32_C(101);
 i0 = (i0 != i1);
-if (i0) { goto l59; }
+if (!i0) {
 j0 = v7;
 p85 = read_at(j0 + UINT64_C(5), m, 1u);
 i0 = load8(p85 + 0);
@@ -75892,7 +77516,7 @@ i1 = UINT32_C(255);
 i0 = i0 & i1;
 i1 = UINT32_C(110);
 i0 = (i0 != i1);
-if (i0) { goto l59; }
+if (!i0) {
 j0 = v7;
 p86 = read_at(j0 + UINT64_C(6), m, 1u);
 i0 = load8(p86 + 0);
@@ -75912,7 +77536,7 @@ i1 = UINT32_C(255);
 i0 = i0 & i1;
 i1 = UINT32_C(105);
 i0 = (i0 != i1);
-if (i0) { goto l59; }
+if (!i0) {
 j0 = v7;
 p87 = read_at(j0 + UINT64_C(7), m, 1u);
 i0 = load8(p87 + 0);
@@ -75932,7 +77556,7 @@ i1 = UINT32_C(255);
 i0 = i0 & i1;
 i1 = UINT32_C(110);
 i0 = (i0 != i1);
-if (i0) { goto l59; }
+if (!i0) {
 j0 = v7;
 p88 = read_at(j0 + UINT64_C(8), m, 1u);
 i0 = load8(p88 + 0);
@@ -75952,11 +77576,19 @@ i1 = UINT32_C(255);
 i0 = i0 & i1;
 i1 = UINT32_C(103);
 i0 = (i0 != i1);
-if (i0) { goto l59; }
+if (!i0) {
 i0 = UINT32_C(1);
 r = i0;
 return r;
-l59:;
+}
+}
+}
+}
+}
+}
+}
+}
+}
 j0 = v2;
 j1 = UINT64_C(18446744073709551614);
 j0 = j0 + j1;
@@ -76000,7 +77632,7 @@ i1 = UINT32_C(255);
 i0 = i0 & i1;
 i1 = UINT32_C(111);
 i0 = (i0 != i1);
-if (i0) { goto l60; }
+if (!i0) {
 j0 = v7;
 p90 = read_at(j0 + UINT64_C(1), m, 1u);
 i0 = load8(p90 + 0);
@@ -76020,11 +77652,12 @@ i1 = UINT32_C(255);
 i0 = i0 & i1;
 i1 = UINT32_C(110);
 i0 = (i0 != i1);
-if (i0) { goto l60; }
+if (!i0) {
 i0 = UINT32_C(1);
 r = i0;
 return r;
-l60:;
+}
+}
 j0 = v2;
 j1 = UINT64_C(18446744073709551611);
 j0 = j0 + j1;
@@ -76062,7 +77695,7 @@ i1 = UINT32_C(255);
 i0 = i0 & i1;
 i1 = UINT32_C(114);
 i0 = (i0 != i1);
-if (i0) { goto l61; }
+if (!i0) {
 j0 = v7;
 p92 = read_at(j0 + UINT64_C(1), m, 1u);
 i0 = load8(p92 + 0);
@@ -76082,7 +77715,7 @@ i1 = UINT32_C(255);
 i0 = i0 & i1;
 i1 = UINT32_C(101);
 i0 = (i0 != i1);
-if (i0) { goto l61; }
+if (!i0) {
 j0 = v7;
 p93 = read_at(j0 + UINT64_C(2), m, 1u);
 i0 = load8(p93 + 0);
@@ -76102,7 +77735,7 @@ i1 = UINT32_C(255);
 i0 = i0 & i1;
 i1 = UINT32_C(97);
 i0 = (i0 != i1);
-if (i0) { goto l61; }
+if (!i0) {
 j0 = v7;
 p94 = read_at(j0 + UINT64_C(3), m, 1u);
 i0 = load8(p94 + 0);
@@ -76122,7 +77755,7 @@ i1 = UINT32_C(255);
 i0 = i0 & i1;
 i1 = UINT32_C(100);
 i0 = (i0 != i1);
-if (i0) { goto l61; }
+if (!i0) {
 j0 = v7;
 p95 = read_at(j0 + UINT64_C(4), m, 1u);
 i0 = load8(p95 + 0);
@@ -76142,11 +77775,15 @@ i1 = UINT32_C(255);
 i0 = i0 & i1;
 i1 = UINT32_C(121);
 i0 = (i0 != i1);
-if (i0) { goto l61; }
+if (!i0) {
 i0 = UINT32_C(1);
 r = i0;
 return r;
-l61:;
+}
+}
+}
+}
+}
 j0 = v2;
 j1 = UINT64_C(6);
 i0 = (j0 != j1);
@@ -76171,7 +77808,7 @@ i1 = UINT32_C(255);
 i0 = i0 & i1;
 i1 = UINT32_C(116);
 i0 = (i0 != i1);
-if (i0) { goto l48; }
+if (!i0) {
 j0 = v7;
 p97 = read_at(j0 + UINT64_C(1), m, 1u);
 i0 = load8(p97 + 0);
@@ -76191,7 +77828,7 @@ i1 = UINT32_C(255);
 i0 = i0 & i1;
 i1 = UINT32_C(117);
 i0 = (i0 != i1);
-if (i0) { goto l48; }
+if (!i0) {
 j0 = v7;
 p98 = read_at(j0 + UINT64_C(2), m, 1u);
 i0 = load8(p98 + 0);
@@ -76211,7 +77848,7 @@ i1 = UINT32_C(255);
 i0 = i0 & i1;
 i1 = UINT32_C(114);
 i0 = (i0 != i1);
-if (i0) { goto l48; }
+if (!i0) {
 j0 = v7;
 p99 = read_at(j0 + UINT64_C(3), m, 1u);
 i0 = load8(p99 + 0);
@@ -76231,7 +77868,7 @@ i1 = UINT32_C(255);
 i0 = i0 & i1;
 i1 = UINT32_C(110);
 i0 = (i0 != i1);
-if (i0) { goto l48; }
+if (!i0) {
 j0 = v7;
 p100 = read_at(j0 + UINT64_C(4), m, 1u);
 i0 = load8(p100 + 0);
@@ -76251,7 +77888,7 @@ i1 = UINT32_C(255);
 i0 = i0 & i1;
 i1 = UINT32_C(101);
 i0 = (i0 != i1);
-if (i0) { goto l48; }
+if (!i0) {
 j0 = v7;
 p101 = read_at(j0 + UINT64_C(5), m, 1u);
 i0 = load8(p101 + 0);
@@ -76271,10 +77908,18 @@ i1 = UINT32_C(255);
 i0 = i0 & i1;
 i1 = UINT32_C(100);
 i0 = (i0 != i1);
-if (i0) { goto l48; }
+if (!i0) {
 i0 = UINT32_C(1);
 r = i0;
 return r;
+}
+}
+}
+}
+}
+}
+}
+}
 l48:;
 j0 = v11;
 j1 = v2;
@@ -76296,7 +77941,7 @@ j1 = v11;
 j0 = j0 - j1;
 v10 = j0;
 i0 = (j0 == 0);
-if (i0) { goto l63; }
+if (!i0) {
 j0 = v0;
 j1 = v11;
 j0 = j0 + j1;
@@ -76331,7 +77976,7 @@ l64:;
 j0 = v2;
 j1 = UINT64_C(7);
 i0 = (j0 != j1);
-if (i0) { goto l63; }
+if (!i0) {
 j0 = v7;
 p103 = read_at(j0, m, 1u);
 i0 = load8(p103 + 0);
@@ -76351,7 +77996,7 @@ i1 = UINT32_C(255);
 i0 = i0 & i1;
 i1 = UINT32_C(119);
 i0 = (i0 != i1);
-if (i0) { goto l63; }
+if (!i0) {
 j0 = v7;
 p104 = read_at(j0 + UINT64_C(1), m, 1u);
 i0 = load8(p104 + 0);
@@ -76371,7 +78016,7 @@ i1 = UINT32_C(255);
 i0 = i0 & i1;
 i1 = UINT32_C(101);
 i0 = (i0 != i1);
-if (i0) { goto l63; }
+if (!i0) {
 j0 = v7;
 p105 = read_at(j0 + UINT64_C(2), m, 1u);
 i0 = load8(p105 + 0);
@@ -76391,7 +78036,7 @@ i1 = UINT32_C(255);
 i0 = i0 & i1;
 i1 = UINT32_C(108);
 i0 = (i0 != i1);
-if (i0) { goto l63; }
+if (!i0) {
 j0 = v7;
 p106 = read_at(j0 + UINT64_C(3), m, 1u);
 i0 = load8(p106 + 0);
@@ -76411,7 +78056,7 @@ i1 = UINT32_C(255);
 i0 = i0 & i1;
 i1 = UINT32_C(99);
 i0 = (i0 != i1);
-if (i0) { goto l63; }
+if (!i0) {
 j0 = v7;
 p107 = read_at(j0 + UINT64_C(4), m, 1u);
 i0 = load8(p107 + 0);
@@ -76431,7 +78076,7 @@ i1 = UINT32_C(255);
 i0 = i0 & i1;
 i1 = UINT32_C(111);
 i0 = (i0 != i1);
-if (i0) { goto l63; }
+if (!i0) {
 j0 = v7;
 p108 = read_at(j0 + UINT64_C(5), m, 1u);
 i0 = load8(p108 + 0);
@@ -76451,7 +78096,7 @@ i1 = UINT32_C(255);
 i0 = i0 & i1;
 i1 = UINT32_C(109);
 i0 = (i0 != i1);
-if (i0) { goto l63; }
+if (!i0) {
 j0 = v7;
 p109 = read_at(j0 + UINT64_C(6), m, 1u);
 i0 = load8(p109 + 0);
@@ -76471,11 +78116,19 @@ i1 = UINT32_C(255);
 i0 = i0 & i1;
 i1 = UINT32_C(101);
 i0 = (i0 != i1);
-if (i0) { goto l63; }
+if (!i0) {
 i0 = UINT32_C(1);
 r = i0;
 return r;
-l63:;
+}
+}
+}
+}
+}
+}
+}
+}
+}
 j0 = v11;
 j1 = v2;
 j0 = j0 + j1;
@@ -76568,11 +78221,11 @@ j0 = v6;
 v7 = j0;
 j1 = UINT64_C(16);
 i0 = (SIGNED64(j0) < SIGNED64(j1));
-if (i0) { goto l2; }
+if (!i0) {
 j0 = v5;
 i0 = (j0 == 0);
 v8 = i0;
-if (i0) { goto l11; }
+if (!i0) {
 j0 = v0;
 j1 = UINT64_C(776);
 j0 = j0 + j1;
@@ -76580,11 +78233,11 @@ p2 = read_at(j0, m, 8u);
 j0 = load64(p2 + 0);
 j1 = v5;
 i0 = (j0 != j1);
-if (i0) { goto l12; }
+if (!i0) {
 j0 = v5;
 j1 = UINT64_C(4);
 i0 = (j0 < j1);
-if (i0) { goto l14; }
+if (!i0) {
 i0 = UINT32_C(0);
 v9 = i0;
 j0 = v0;
@@ -76649,7 +78302,7 @@ j2 = v4;
 i0 = core_cmp_slices_groups_equal_i8_31_core_cmp_numbers_U8PartialEq(m, j0, j1, j2);
 v9 = i0;
 goto l13;
-l14:;
+}
 j0 = UINT64_C(0);
 v6 = j0;
 j0 = v0;
@@ -76659,13 +78312,13 @@ j1 = v4;
 p12 = read_at(j1, m, 1u);
 i1 = load8(p12 + 0);
 i0 = (i0 != i1);
-if (i0) { goto l15; }
+if (!i0) {
 j0 = v5;
 v6 = j0;
 j0 = v5;
 j1 = UINT64_C(1);
 i0 = (j0 == j1);
-if (i0) { goto l15; }
+if (!i0) {
 j0 = UINT64_C(1);
 v6 = j0;
 j0 = v0;
@@ -76679,13 +78332,13 @@ j1 = j1 + j2;
 p14 = read_at(j1, m, 1u);
 i1 = load8(p14 + 0);
 i0 = (i0 != i1);
-if (i0) { goto l15; }
+if (!i0) {
 j0 = v5;
 v6 = j0;
 j0 = v5;
 j1 = UINT64_C(2);
 i0 = (j0 == j1);
-if (i0) { goto l15; }
+if (!i0) {
 j0 = v5;
 j1 = UINT64_C(2);
 j2 = v0;
@@ -76701,7 +78354,10 @@ i3 = load8(p16 + 0);
 i2 = (i2 == i3);
 j0 = i2 ? j0 : j1;
 v6 = j0;
-l15:;
+}
+}
+}
+}
 j0 = v6;
 j1 = v5;
 i0 = (j0 >= j1);
@@ -76736,7 +78392,7 @@ v6 = j1;
 i0 = (j0 != j1);
 if (i0) { goto l16; }
 goto l7;
-l12:;
+}
 i0 = UINT32_C(0);
 v9 = i0;
 i0 = UINT32_C(0);
@@ -76747,13 +78403,13 @@ i0 = v1;
 i0 = (i0 == 0);
 if (i0) { goto l6; }
 goto l5;
-l11:;
+}
 i0 = v1;
-if (i0) { goto l17; }
+if (!i0) {
 i0 = UINT32_C(0);
 v9 = i0;
 goto l8;
-l17:;
+}
 i0 = UINT32_C(0);
 v9 = i0;
 j0 = v7;
@@ -76771,11 +78427,11 @@ j1 = v4;
 p20 = read_at(j1, m, 1u);
 i1 = load8(p20 + 0);
 i0 = (i0 == i1);
-if (i0) { goto l18; }
+if (!i0) {
 i0 = UINT32_C(0);
 v11 = i0;
 goto l6;
-l18:;
+}
 j0 = v0;
 j1 = UINT64_C(1);
 j0 = j0 + j1;
@@ -76791,11 +78447,11 @@ i1 = load8(p22 + 0);
 i2 = UINT32_C(255);
 i1 = i1 & i2;
 i0 = (i0 == i1);
-if (i0) { goto l19; }
+if (!i0) {
 i0 = UINT32_C(0);
 v11 = i0;
 goto l6;
-l19:;
+}
 j0 = v0;
 j1 = UINT64_C(2);
 j0 = j0 + j1;
@@ -76811,11 +78467,11 @@ i1 = load8(p24 + 0);
 i2 = UINT32_C(255);
 i1 = i1 & i2;
 i0 = (i0 == i1);
-if (i0) { goto l20; }
+if (!i0) {
 i0 = UINT32_C(0);
 v11 = i0;
 goto l6;
-l20:;
+}
 j0 = v0;
 j1 = UINT64_C(3);
 j0 = j0 + j1;
@@ -76831,11 +78487,11 @@ i1 = load8(p26 + 0);
 i2 = UINT32_C(255);
 i1 = i1 & i2;
 i0 = (i0 == i1);
-if (i0) { goto l21; }
+if (!i0) {
 i0 = UINT32_C(0);
 v11 = i0;
 goto l6;
-l21:;
+}
 j0 = v0;
 j1 = v5;
 j2 = v4;
@@ -76864,11 +78520,11 @@ j0 = j0 + j1;
 p27 = read_at(j0, m, 1u);
 i0 = load8(p27 + 0);
 i0 = (i0 == 0);
-if (i0) { goto l22; }
+if (!i0) {
 i0 = UINT32_C(0);
 v10 = i0;
 goto l6;
-l22:;
+}
 j0 = v0;
 j1 = UINT64_C(784);
 j0 = j0 + j1;
@@ -76876,21 +78532,21 @@ p28 = read_at(j0, m, 1u);
 i0 = load8(p28 + 0);
 i1 = UINT32_C(1);
 i0 = (i0 == i1);
-if (i0) { goto l23; }
+if (!i0) {
 i0 = UINT32_C(1);
 v10 = i0;
 goto l6;
-l23:;
+}
 i0 = UINT32_C(1);
 v10 = i0;
 i0 = v2;
 i1 = UINT32_C(1);
 i0 = i0 & i1;
-if (i0) { goto l24; }
+if (!i0) {
 i0 = UINT32_C(1);
 v10 = i0;
 goto l6;
-l24:;
+}
 j0 = v0;
 j1 = UINT64_C(785);
 j0 = j0 + j1;
@@ -76961,12 +78617,12 @@ i0 = (j0 > j1);
 if (i0) { goto l3; }
 l4:;
 i0 = v8;
-if (i0) { goto l25; }
+if (!i0) {
 j0 = v7;
 j1 = v4;
 j2 = v5;
 copy(m, j0, j1, j2);
-l25:;
+}
 j0 = v7;
 j1 = v5;
 store64(p1 + 776, j1);
@@ -76992,9 +78648,9 @@ j0 = j0 + j1;
 i1 = v2;
 store8(p31 + 0, i1);
 i0 = v1;
-if (i0) { goto l26; }
+if (!i0) {
 i0 = v8;
-if (i0) { goto l26; }
+if (!i0) {
 j0 = UINT64_C(8);
 v6 = j0;
 j0 = v4;
@@ -77051,7 +78707,7 @@ if (i0) { goto l26; }
 i0 = v1;
 i1 = UINT32_C(180);
 i0 = (i0 < i1);
-if (i0) { goto l28; }
+if (!i0) {
 j0 = UINT64_C(13);
 v6 = j0;
 i0 = v1;
@@ -77065,6 +78721,7 @@ i1 = UINT32_C(189);
 i0 = (i0 < i1);
 if (i0) { goto l27; }
 goto l26;
+}
 l28:;
 j0 = UINT64_C(2);
 v6 = j0;
@@ -77072,11 +78729,11 @@ l27:;
 j0 = v5;
 j1 = UINT64_C(773);
 i0 = (j0 > j1);
-if (i0) { goto l26; }
+if (!i0) {
 j0 = v6;
 j1 = v5;
 i0 = (j0 != j1);
-if (i0) { goto l26; }
+if (!i0) {
 j0 = v5;
 j1 = UINT64_C(18446744073709551615);
 j0 = j0 + j1;
@@ -77169,7 +78826,7 @@ p36 = read_at(j0, m, 1u);
 i0 = load8(p36 + 0);
 i1 = UINT32_C(1);
 i0 = (i0 != i1);
-if (i0) { goto l34; }
+if (!i0) {
 j0 = v0;
 j1 = UINT64_C(804);
 j0 = j0 + j1;
@@ -77181,7 +78838,7 @@ i1 = i1 + i2;
 i2 = UINT32_C(255);
 i1 = i1 & i2;
 i0 = (i0 != i1);
-if (i0) { goto l34; }
+if (!i0) {
 i0 = v8;
 j1 = v0;
 j2 = UINT64_C(808);
@@ -77197,7 +78854,8 @@ i2 = UINT32_C(0);
 i1 = (SIGNED32(i1) < SIGNED32(i2));
 i0 = i0 | i1;
 v9 = i0;
-l34:;
+}
+}
 j0 = v6;
 i1 = UINT32_C(1);
 p39 = write_at(j0, m, 4u);
@@ -77257,7 +78915,7 @@ i0 = load8(p40 + 16);
 v9 = i0;
 i1 = UINT32_C(1);
 i0 = (i0 != i1);
-if (i0) { goto l35; }
+if (!i0) {
 i0 = v8;
 i1 = UINT32_C(255);
 i0 = i0 & i1;
@@ -77269,13 +78927,13 @@ i2 = UINT32_C(255);
 i1 = i1 & i2;
 i0 = (i0 == i1);
 v3 = i0;
-if (i0) { goto l36; }
+if (!i0) {
 i0 = v1;
 i1 = UINT32_C(255);
 i0 = i0 & i1;
 i1 = v2;
 i0 = (i0 == i1);
-if (i0) { goto l36; }
+if (!i0) {
 i0 = v1;
 i1 = UINT32_C(255);
 i0 = i0 & i1;
@@ -77286,7 +78944,8 @@ i2 = UINT32_C(255);
 i1 = i1 & i2;
 i0 = (i0 != i1);
 if (i0) { goto l35; }
-l36:;
+}
+}
 j0 = v0;
 j1 = UINT64_C(820);
 j0 = j0 + j1;
@@ -77301,6 +78960,7 @@ i3 = v3;
 i1 = i3 ? i1 : i2;
 store8(p40 + 17, i1);
 goto l26;
+}
 l35:;
 j0 = v0;
 j1 = UINT64_C(823);
@@ -77315,7 +78975,7 @@ i0 = load8(p41 + 0);
 v2 = i0;
 i1 = UINT32_C(1);
 i0 = (i0 != i1);
-if (i0) { goto l37; }
+if (!i0) {
 j0 = v5;
 p42 = read_at(j0, m, 1u);
 i0 = load8(p42 + 0);
@@ -77330,13 +78990,13 @@ i2 = UINT32_C(255);
 i1 = i1 & i2;
 i0 = (i0 == i1);
 v11 = i0;
-if (i0) { goto l38; }
+if (!i0) {
 i0 = v1;
 i1 = UINT32_C(255);
 i0 = i0 & i1;
 i1 = v10;
 i0 = (i0 == i1);
-if (i0) { goto l38; }
+if (!i0) {
 i0 = v1;
 i1 = UINT32_C(255);
 i0 = i0 & i1;
@@ -77347,7 +79007,8 @@ i2 = UINT32_C(255);
 i1 = i1 & i2;
 i0 = (i0 != i1);
 if (i0) { goto l37; }
-l38:;
+}
+}
 j0 = v0;
 j1 = UINT64_C(823);
 j0 = j0 + j1;
@@ -77386,6 +79047,7 @@ i3 = v1;
 i1 = i3 ? i1 : i2;
 store32(p43 + 2, i1);
 goto l26;
+}
 l37:;
 j0 = v5;
 i1 = v8;
@@ -77425,15 +79087,19 @@ i4 = UINT32_C(1);
 i3 = (i3 == i4);
 i1 = i3 ? i1 : i2;
 store32(p46 + 8, i1);
+}
+}
+}
+}
 l26:;
 j0 = v7;
 j1 = UINT64_C(784);
 j0 = j0 + j1;
 m->g0 = j0;
 return;
+}
 l2:;
 fio2070_trap();
-return;
 }
 static void fio_c_log_judge_log_judge_from(struct machine *m, uint64_t v0, uint64_t v1)
 {
@@ -77505,7 +79171,7 @@ j0 = v2;
 v2 = j0;
 j1 = UINT64_C(16);
 i0 = (SIGNED64(j0) < SIGNED64(j1));
-if (i0) { goto l2; }
+if (!i0) {
 j0 = v1;
 j1 = UINT64_C(722);
 j0 = j0 + j1;
@@ -77575,7 +79241,7 @@ j1 = UINT64_C(739);
 j0 = j0 + j1;
 p2 = read_at(j0, m, 1u);
 i0 = load8(p2 + 0);
-if (i0) { goto l4; }
+if (!i0) {
 i0 = UINT32_C(0);
 v19 = i0;
 i0 = UINT32_C(0);
@@ -77593,7 +79259,7 @@ v25 = i0;
 i0 = UINT32_C(0);
 v26 = i0;
 goto l3;
-l4:;
+}
 j0 = v1;
 j1 = UINT64_C(744);
 j0 = j0 + j1;
@@ -77711,7 +79377,7 @@ i0 = load8(p4 + 40);
 v27 = i0;
 i1 = UINT32_C(2);
 i0 = (i0 > i1);
-if (i0) { goto l5; }
+if (!i0) {
 i0 = UINT32_C(65536);
 i1 = v27;
 i2 = UINT32_C(3);
@@ -77725,7 +79391,7 @@ i0 = UINT32_C(65792);
 i1 = v27;
 i0 = i0 >> (i1 & 31);
 v28 = i0;
-l5:;
+}
 j0 = v1;
 j1 = UINT64_C(728);
 j0 = j0 + j1;
@@ -77942,9 +79608,8 @@ j1 = UINT64_C(704);
 j0 = j0 + j1;
 m->g0 = j0;
 return;
-l2:;
+}
 fio2070_trap();
-return;
 }
 static void fio_check_log_counts_LogCounts_frame(struct machine *m, uint64_t v0, uint64_t v1, uint32_t v2, uint64_t v3, uint64_t v4, uint64_t v5)
 {
@@ -78016,7 +79681,7 @@ uint8_t *p47;
 j0 = m->g0;
 j1 = UINT64_C(16);
 i0 = (SIGNED64(j0) < SIGNED64(j1));
-if (i0) { goto l2; }
+if (!i0) {
 j0 = v1;
 j1 = v1;
 p1 = write_at(j1, m, 8u);
@@ -78030,7 +79695,7 @@ j0 = UINT64_C(0);
 v7 = j0;
 j0 = v5;
 i0 = (j0 == 0);
-if (i0) { goto l3; }
+if (!i0) {
 j0 = v4;
 p2 = read_at(j0, m, 1u);
 i0 = load8(p2 + 0);
@@ -78080,13 +79745,13 @@ l12:;
 j0 = v5;
 j1 = UINT64_C(1);
 i0 = (j0 != j1);
-if (i0) { goto l14; }
+if (!i0) {
 j0 = UINT64_C(0);
 v12 = j0;
 j0 = UINT64_C(2);
 v10 = j0;
 goto l5;
-l14:;
+}
 j0 = v4;
 j1 = UINT64_C(1);
 j0 = j0 + j1;
@@ -78145,7 +79810,7 @@ l5:;
 j0 = v10;
 j1 = v5;
 i0 = (j0 != j1);
-if (i0) { goto l4; }
+if (!i0) {
 i0 = UINT32_C(0);
 v13 = i0;
 i0 = UINT32_C(0);
@@ -78250,7 +79915,7 @@ v5 = j0;
 p8 = read_at(j0, m, 1u);
 i0 = load8(p8 + 0);
 i0 = (i0 == 0);
-if (i0) { goto l22; }
+if (!i0) {
 j0 = v1;
 j1 = UINT64_C(24);
 j0 = j0 + j1;
@@ -78261,7 +79926,7 @@ j1 = load64(p9 + 0);
 j2 = UINT64_C(1);
 j1 = j1 + j2;
 store64(p9 + 0, j1);
-l22:;
+}
 j0 = v1;
 j1 = UINT64_C(5186);
 j0 = j0 + j1;
@@ -78315,7 +79980,7 @@ j0 = j0 + j1;
 v5 = j0;
 i0 = load8(p12 + 5180);
 i0 = (i0 == 0);
-if (i0) { goto l23; }
+if (!i0) {
 j0 = v1;
 j1 = UINT64_C(5187);
 j0 = j0 + j1;
@@ -78324,7 +79989,7 @@ i1 = v11;
 i2 = UINT32_C(255);
 i1 = i1 & i2;
 i0 = (i0 != i1);
-if (i0) { goto l23; }
+if (!i0) {
 j0 = v1;
 j1 = UINT64_C(16);
 j0 = j0 + j1;
@@ -78334,7 +79999,8 @@ j1 = load64(p12 + 8);
 j2 = UINT64_C(1);
 j1 = j1 + j2;
 store64(p12 + 8, j1);
-l23:;
+}
+}
 j0 = v5;
 i1 = UINT32_C(257);
 p13 = write_at(j0, m, 2u);
@@ -78345,6 +80011,7 @@ j0 = j0 + j1;
 i1 = v11;
 store8(p12 + 5179, i1);
 goto l3;
+}
 l4:;
 j0 = UINT64_C(8);
 v10 = j0;
@@ -78401,7 +80068,7 @@ if (i0) { goto l24; }
 i0 = v8;
 i1 = UINT32_C(180);
 i0 = (i0 < i1);
-if (i0) { goto l26; }
+if (!i0) {
 j0 = UINT64_C(13);
 v10 = j0;
 i0 = v8;
@@ -78415,6 +80082,7 @@ i1 = UINT32_C(189);
 i0 = (i0 < i1);
 if (i0) { goto l25; }
 goto l24;
+}
 l26:;
 j0 = UINT64_C(2);
 v10 = j0;
@@ -78427,9 +80095,9 @@ l24:;
 j0 = v5;
 j1 = UINT64_C(773);
 i0 = (j0 > j1);
-if (i0) { goto l3; }
+if (!i0) {
 i0 = v11;
-if (i0) { goto l3; }
+if (!i0) {
 j0 = v5;
 j1 = UINT64_C(18446744073709551615);
 j0 = j0 + j1;
@@ -78650,7 +80318,7 @@ i0 = v2;
 i1 = UINT32_C(255);
 i0 = i0 & i1;
 i0 = (i0 == 0);
-if (i0) { goto l45; }
+if (!i0) {
 i0 = v6;
 i1 = UINT32_C(255);
 i0 = i0 & i1;
@@ -78700,7 +80368,7 @@ j1 = v4;
 i0 = (j0 >= j1);
 v6 = i0;
 goto l44;
-l45:;
+}
 i0 = v6;
 i1 = UINT32_C(255);
 i0 = i0 & i1;
@@ -78743,15 +80411,15 @@ i1 = v11;
 i0 = i0 << (i1 & 31);
 i1 = UINT32_C(222);
 i0 = i0 & i1;
-if (i0) { goto l3; }
+if (!i0) {
 i0 = v11;
-if (i0) { goto l46; }
+if (!i0) {
 j0 = v1;
 j1 = UINT64_C(5194);
 j0 = j0 + j1;
 p30 = read_at(j0, m, 1u);
 i0 = load8(p30 + 0);
-if (i0) { goto l48; }
+if (!i0) {
 j0 = v1;
 j1 = UINT64_C(5193);
 j0 = j0 + j1;
@@ -78763,18 +80431,18 @@ i1 = i1 >> (i2 & 31);
 p31 = write_at(j0, m, 1u);
 store8(p31 + 0, i1);
 goto l47;
-l48:;
+}
 i0 = v13;
 i0 = (uint32_t)extend(i0 & 255, 7);
 i1 = UINT32_C(4294967295);
 i0 = (SIGNED32(i0) > SIGNED32(i1));
-if (i0) { goto l47; }
+if (!i0) {
 j0 = v1;
 j1 = UINT64_C(5192);
 j0 = j0 + j1;
 p32 = read_at(j0, m, 1u);
 i0 = load8(p32 + 0);
-if (i0) { goto l47; }
+if (!i0) {
 j0 = v1;
 j1 = UINT64_C(48);
 j0 = j0 + j1;
@@ -78785,6 +80453,8 @@ j1 = load64(p33 + 0);
 j2 = UINT64_C(1);
 j1 = j1 + j2;
 store64(p33 + 0, j1);
+}
+}
 l47:;
 j0 = v1;
 j1 = UINT64_C(5194);
@@ -78802,12 +80472,12 @@ i2 = UINT32_C(7);
 i1 = i1 >> (i2 & 31);
 store8(p34 + 0, i1);
 goto l3;
-l46:;
+}
 i0 = v14;
 i1 = UINT32_C(2);
 i0 = i0 & i1;
 i0 = (i0 == 0);
-if (i0) { goto l51; }
+if (!i0) {
 j0 = v1;
 j1 = UINT64_C(5191);
 j0 = j0 + j1;
@@ -78815,7 +80485,7 @@ v4 = j0;
 p35 = read_at(j0, m, 1u);
 i0 = load8(p35 + 0);
 if (i0) { goto l50; }
-l51:;
+}
 j0 = v1;
 j1 = UINT64_C(5191);
 j0 = j0 + j1;
@@ -78864,7 +80534,7 @@ i0 = v14;
 i1 = UINT32_C(4);
 i0 = i0 & i1;
 i0 = (i0 == 0);
-if (i0) { goto l52; }
+if (!i0) {
 j0 = v1;
 j1 = UINT64_C(32);
 j0 = j0 + j1;
@@ -78875,7 +80545,7 @@ j1 = load64(p39 + 0);
 j2 = UINT64_C(1);
 j1 = j1 + j2;
 store64(p39 + 0, j1);
-l52:;
+}
 j0 = v1;
 j1 = UINT64_C(40);
 j0 = j0 + j1;
@@ -78910,7 +80580,7 @@ store64(p41 + 0, j1);
 j0 = v10;
 j1 = UINT64_C(3);
 i0 = (j0 < j1);
-if (i0) { goto l3; }
+if (!i0) {
 j0 = v1;
 j1 = UINT64_C(2104);
 j0 = j0 + j1;
@@ -78924,7 +80594,7 @@ j0 = divide64(j0, j1);
 i0 = (uint32_t)j0;
 i1 = UINT32_C(1);
 i0 = i0 & i1;
-if (i0) { goto l53; }
+if (!i0) {
 j0 = v1;
 j1 = v5;
 p42 = read_at(j1, m, 1u);
@@ -78947,12 +80617,12 @@ j0 = j0 + j1;
 v5 = j0;
 j0 = v4;
 v10 = j0;
-l53:;
+}
 j0 = v4;
 j1 = UINT64_C(3);
 i0 = (j0 < j1);
-if (i0) { goto l3; }
-l54:;
+if (!i0) {
+for (;;) {
 j0 = v1;
 j1 = v5;
 p44 = read_at(j1, m, 4u);
@@ -78996,7 +80666,14 @@ j0 = j0 + j1;
 v10 = j0;
 j1 = UINT64_C(3);
 i0 = (j0 >= j1);
-if (i0) { goto l54; }
+if (!i0) break;
+}
+}
+}
+}
+}
+}
+}
 l3:;
 j0 = v0;
 j1 = v7;
@@ -79006,9 +80683,9 @@ j0 = v0;
 i1 = v6;
 store8(p47 + 0, i1);
 return;
+}
 l2:;
 fio2070_trap();
-return;
 }
 static void fio_check_log_judge_LogJudge_frame(struct machine *m, uint64_t v0, uint64_t v1, uint32_t v2, uint32_t v3, uint32_t v4, uint64_t v5, uint64_t v6)
 {
@@ -79074,7 +80751,7 @@ j0 = v7;
 v7 = j0;
 j1 = UINT64_C(16);
 i0 = (SIGNED64(j0) < SIGNED64(j1));
-if (i0) { goto l6; }
+if (!i0) {
 j0 = v7;
 j1 = UINT64_C(0);
 store64(p1 + 24, j1);
@@ -79113,13 +80790,13 @@ i0 = v3;
 i1 = UINT32_C(1);
 i0 = i0 & i1;
 i0 = (i0 == 0);
-if (i0) { goto l7; }
+if (!i0) {
 i0 = v2;
 i1 = v4;
 i0 = i0 ^ i1;
 i1 = UINT32_C(1);
 i0 = i0 & i1;
-if (i0) { goto l8; }
+if (!i0) {
 j0 = v1;
 j1 = UINT64_C(748);
 j0 = j0 + j1;
@@ -79135,7 +80812,7 @@ i3 = v4;
 i1 = i3 ? i1 : i2;
 store32(p2 + 0, i1);
 goto l7;
-l8:;
+}
 j0 = v1;
 j1 = UINT64_C(752);
 j0 = j0 + j1;
@@ -79150,6 +80827,7 @@ i2 = UINT32_C(4294967295);
 i3 = v4;
 i1 = i3 ? i1 : i2;
 store32(p3 + 0, i1);
+}
 l7:;
 j0 = v7;
 j1 = UINT64_C(0);
@@ -79185,7 +80863,7 @@ p4 = read_at(j0, m, 1u);
 i0 = load8(p4 + 0);
 v14 = i0;
 i0 = (i0 == 0);
-if (i0) { goto l10; }
+if (!i0) {
 j0 = v7;
 j1 = v1;
 p5 = read_at(j1, m, 14u);
@@ -79210,14 +80888,14 @@ j0 = v7;
 i0 = load8(p1 + 48);
 i1 = UINT32_C(1);
 i0 = (i0 != i1);
-if (i0) { goto l11; }
+if (!i0) {
 j0 = v7;
 i0 = load8(p1 + 49);
 v4 = i0;
 i0 = v14;
 i1 = UINT32_C(2);
 i0 = (i0 != i1);
-if (i0) { goto l13; }
+if (!i0) {
 i0 = v4;
 i1 = UINT32_C(255);
 i0 = i0 & i1;
@@ -79225,7 +80903,7 @@ i1 = UINT32_C(4);
 i0 = (i0 == i1);
 if (i0) { goto l12; }
 goto l11;
-l13:;
+}
 i0 = v4;
 i1 = UINT32_C(4294967295);
 i0 = i0 + i1;
@@ -79241,7 +80919,7 @@ j0 = j0 + j1;
 i0 = load8(p5 + 13);
 i1 = UINT32_C(1);
 i0 = (i0 == i1);
-if (i0) { goto l14; }
+if (!i0) {
 j0 = v1;
 j1 = UINT64_C(0);
 p6 = write_at(j0 + UINT64_C(1), m, 13u);
@@ -79252,19 +80930,19 @@ store8(p6 + 0, i1);
 j0 = v1;
 i1 = UINT32_C(512);
 store16(p6 + 11, i1);
-l14:;
+}
 j0 = v1;
 j1 = UINT64_C(688);
 j0 = j0 + j1;
 v13 = j0;
 p7 = read_at(j0, m, 1u);
 i0 = load8(p7 + 0);
-if (i0) { goto l15; }
+if (!i0) {
 j0 = v13;
 i1 = UINT32_C(1);
 p8 = write_at(j0, m, 1u);
 store8(p8 + 0, i1);
-l15:;
+}
 j0 = v1;
 j1 = UINT64_C(736);
 j0 = j0 + j1;
@@ -79272,13 +80950,15 @@ p9 = read_at(j0, m, 1u);
 i0 = load8(p9 + 0);
 i1 = UINT32_C(1);
 i0 = (i0 != i1);
-if (i0) { goto l11; }
+if (!i0) {
 j0 = v1;
 j1 = UINT64_C(737);
 j0 = j0 + j1;
 i1 = UINT32_C(0);
 p10 = write_at(j0, m, 1u);
 store8(p10 + 0, i1);
+}
+}
 l11:;
 i0 = UINT32_C(2);
 v4 = i0;
@@ -79301,6 +80981,7 @@ l16:;
 i0 = v14;
 v4 = i0;
 goto l9;
+}
 l10:;
 i0 = UINT32_C(0);
 v4 = i0;
@@ -79322,21 +81003,21 @@ j0 = j0 + j1;
 i0 = load8(p11 + 0);
 i1 = UINT32_C(1);
 i0 = (i0 != i1);
-if (i0) { goto l18; }
+if (!i0) {
 j0 = v1;
 j1 = UINT64_C(745);
 j0 = j0 + j1;
 i0 = load8(p11 + 1);
 v14 = i0;
 goto l17;
-l18:;
+}
 i0 = UINT32_C(2);
 v14 = i0;
 i0 = v3;
 i1 = UINT32_C(1);
 i0 = i0 & i1;
 i0 = (i0 == 0);
-if (i0) { goto l17; }
+if (!i0) {
 i0 = UINT32_C(2);
 i1 = UINT32_C(0);
 j2 = v1;
@@ -79352,13 +81033,14 @@ j3 = load32(p11 + 4);
 i2 = (j2 > j3);
 i0 = i2 ? i0 : i1;
 v14 = i0;
+}
 l17:;
 j0 = v1;
 j1 = UINT64_C(736);
 j0 = j0 + j1;
 p12 = read_at(j0, m, 1u);
 i0 = load8(p12 + 0);
-if (i0) { goto l19; }
+if (!i0) {
 j0 = v7;
 j1 = v1;
 i2 = v14;
@@ -79389,7 +81071,7 @@ j0 = v7;
 i0 = load8(p1 + 0);
 v8 = i0;
 goto l2;
-l19:;
+}
 j0 = v1;
 j1 = UINT64_C(743);
 j0 = j0 + j1;
@@ -79460,7 +81142,7 @@ i1 = i1 + i2;
 i2 = UINT32_C(255);
 i1 = i1 & i2;
 i0 = (i0 != i1);
-if (i0) { goto l31; }
+if (!i0) {
 i0 = UINT32_C(1);
 v18 = i0;
 i0 = UINT32_C(1);
@@ -79475,7 +81157,7 @@ i2 = (i2 == i3);
 i0 = i2 ? i0 : i1;
 v15 = i0;
 goto l4;
-l31:;
+}
 i0 = v17;
 i1 = UINT32_C(255);
 i0 = i0 & i1;
@@ -79545,11 +81227,11 @@ i1 = UINT32_C(255);
 i0 = i0 & i1;
 i1 = UINT32_C(1);
 i0 = (i0 == i1);
-if (i0) { goto l32; }
+if (!i0) {
 i0 = UINT32_C(1);
 v15 = i0;
 goto l23;
-l32:;
+}
 i0 = UINT32_C(1);
 v15 = i0;
 i0 = v19;
@@ -79636,12 +81318,12 @@ j0 = v7;
 j1 = UINT64_C(0);
 store64(p1 + 32, j1);
 i0 = v2;
-if (i0) { goto l35; }
+if (!i0) {
 i0 = v12;
 i1 = UINT32_C(3);
 i0 = (i0 != i1);
 if (i0) { goto l34; }
-l35:;
+}
 j0 = v7;
 j1 = UINT64_C(32);
 j0 = j0 + j1;
@@ -79695,7 +81377,7 @@ store8(p1 + 56, i1);
 i0 = v12;
 i1 = UINT32_C(1);
 i0 = (i0 == i1);
-if (i0) { goto l37; }
+if (!i0) {
 j0 = v1;
 j1 = UINT64_C(13);
 j0 = j0 + j1;
@@ -79703,7 +81385,7 @@ p14 = read_at(j0, m, 1u);
 i0 = load8(p14 + 0);
 v2 = i0;
 i0 = (i0 == 0);
-if (i0) { goto l37; }
+if (!i0) {
 j0 = v7;
 i1 = UINT32_C(0);
 store8(p1 + 38, i1);
@@ -79717,7 +81399,8 @@ v14 = i0;
 i0 = UINT32_C(5);
 v10 = i0;
 goto l36;
-l37:;
+}
+}
 j0 = v7;
 j1 = UINT64_C(48);
 j0 = j0 + j1;
@@ -79768,7 +81451,7 @@ i0 = v4;
 i1 = UINT32_C(1);
 i0 = i0 & i1;
 i0 = (i0 == 0);
-if (i0) { goto l43; }
+if (!i0) {
 i0 = UINT32_C(1);
 v2 = i0;
 i0 = UINT32_C(0);
@@ -79787,7 +81470,7 @@ i0 = i0 << (i1 & 31);
 i1 = UINT32_C(239);
 i0 = i0 & i1;
 if (i0) { goto l41; }
-l43:;
+}
 i0 = UINT32_C(0);
 v2 = i0;
 j0 = v1;
@@ -80011,7 +81694,7 @@ p18 = read_at(j0, m, 1u);
 i0 = load8(p18 + 0);
 i1 = UINT32_C(1);
 i0 = (i0 == i1);
-if (i0) { goto l45; }
+if (!i0) {
 j0 = v1;
 j1 = UINT64_C(0);
 p19 = write_at(j0 + UINT64_C(1), m, 13u);
@@ -80022,19 +81705,19 @@ store8(p19 + 0, i1);
 j0 = v1;
 i1 = UINT32_C(512);
 store16(p19 + 11, i1);
-l45:;
+}
 j0 = v1;
 j1 = UINT64_C(688);
 j0 = j0 + j1;
 v6 = j0;
 p20 = read_at(j0, m, 1u);
 i0 = load8(p20 + 0);
-if (i0) { goto l46; }
+if (!i0) {
 j0 = v6;
 i1 = UINT32_C(1);
 p21 = write_at(j0, m, 1u);
 store8(p21 + 0, i1);
-l46:;
+}
 i0 = UINT32_C(0);
 v8 = i0;
 j0 = v1;
@@ -80138,7 +81821,7 @@ j0 = j0 + j1;
 i1 = UINT32_C(1);
 store8(p22 + 80, i1);
 goto l3;
-l6:;
+}
 fio2070_trap();
 l5:;
 i0 = UINT32_C(0);
@@ -80299,7 +81982,6 @@ j0 = v7;
 j1 = UINT64_C(80);
 j0 = j0 + j1;
 m->g0 = j0;
-return;
 }
 static void fio_log_lines_LineMaker_add_to_line(struct machine *m, uint64_t v0, uint32_t v1)
 {
@@ -80373,7 +82055,7 @@ uint8_t *p51;
 j0 = m->g0;
 j1 = UINT64_C(16);
 i0 = (SIGNED64(j0) < SIGNED64(j1));
-if (i0) { goto l7; }
+if (!i0) {
 j0 = v0;
 j1 = UINT64_C(65552);
 j0 = j0 + j1;
@@ -80494,13 +82176,14 @@ i1 = load8(p4 + 0);
 p5 = write_at(j0, m, 1u);
 store8(p5 + 0, i1);
 i0 = v1;
-if (i0) { goto l13; }
+if (!i0) {
 j0 = v7;
 j1 = v3;
 p6 = read_at(j1 + UINT64_C(1), m, 1u);
 i1 = load8(p6 + 0);
 p7 = write_at(j0 + UINT64_C(1), m, 1u);
 store8(p7 + 0, i1);
+}
 l13:;
 j0 = v5;
 j1 = v6;
@@ -80513,7 +82196,7 @@ l12:;
 j0 = v8;
 j1 = v9;
 i0 = (j0 >= j1);
-if (i0) { goto l22; }
+if (!i0) {
 j0 = v9;
 j1 = UINT64_C(3);
 j0 = j0 & j1;
@@ -80525,14 +82208,14 @@ j1 = UINT64_C(18446744073709486083);
 j0 = j0 + j1;
 j1 = UINT64_C(3);
 i0 = (j0 < j1);
-if (i0) { goto l23; }
+if (!i0) {
 j0 = v9;
 j1 = UINT64_C(18446744073709551612);
 j0 = j0 & j1;
 v9 = j0;
 j0 = UINT64_C(0);
 v4 = j0;
-l24:;
+for (;;) {
 j0 = v7;
 j1 = v4;
 j0 = j0 + j1;
@@ -80549,11 +82232,12 @@ j2 = UINT64_C(4);
 j1 = j1 + j2;
 v4 = j1;
 i0 = (j0 != j1);
-if (i0) { goto l24; }
+if (!i0) break;
+}
 j0 = v5;
 i0 = (j0 == 0);
 if (i0) { goto l21; }
-l23:;
+}
 j0 = v3;
 j1 = v4;
 j0 = j0 + j1;
@@ -80587,14 +82271,15 @@ j1 = UINT64_C(0);
 i0 = (j0 != j1);
 if (i0) { goto l25; }
 goto l21;
-l22:;
+}
 j0 = v9;
 i0 = (j0 == 0);
-if (i0) { goto l21; }
+if (!i0) {
 j0 = v7;
 j1 = v3;
 j2 = v9;
 copy(m, j0, j1, j2);
+}
 l21:;
 j0 = v0;
 j1 = UINT64_C(65544);
@@ -80712,13 +82397,14 @@ i1 = load8(p17 + 0);
 p18 = write_at(j0, m, 1u);
 store8(p18 + 0, i1);
 i0 = v1;
-if (i0) { goto l28; }
+if (!i0) {
 j0 = v7;
 j1 = v3;
 p19 = read_at(j1 + UINT64_C(1), m, 1u);
 i1 = load8(p19 + 0);
 p20 = write_at(j0 + UINT64_C(1), m, 1u);
 store8(p20 + 0, i1);
+}
 l28:;
 j0 = v5;
 j1 = v6;
@@ -80731,7 +82417,7 @@ l27:;
 j0 = v8;
 j1 = v9;
 i0 = (j0 >= j1);
-if (i0) { goto l37; }
+if (!i0) {
 j0 = v9;
 j1 = UINT64_C(3);
 j0 = j0 & j1;
@@ -80743,14 +82429,14 @@ j1 = UINT64_C(18446744073709486083);
 j0 = j0 + j1;
 j1 = UINT64_C(3);
 i0 = (j0 < j1);
-if (i0) { goto l38; }
+if (!i0) {
 j0 = v9;
 j1 = UINT64_C(18446744073709551612);
 j0 = j0 & j1;
 v9 = j0;
 j0 = UINT64_C(0);
 v4 = j0;
-l39:;
+for (;;) {
 j0 = v7;
 j1 = v4;
 j0 = j0 + j1;
@@ -80767,11 +82453,12 @@ j2 = UINT64_C(4);
 j1 = j1 + j2;
 v4 = j1;
 i0 = (j0 != j1);
-if (i0) { goto l39; }
+if (!i0) break;
+}
 j0 = v5;
 i0 = (j0 == 0);
 if (i0) { goto l36; }
-l38:;
+}
 j0 = v3;
 j1 = v4;
 j0 = j0 + j1;
@@ -80805,14 +82492,15 @@ j1 = UINT64_C(0);
 i0 = (j0 != j1);
 if (i0) { goto l40; }
 goto l36;
-l37:;
+}
 j0 = v9;
 i0 = (j0 == 0);
-if (i0) { goto l36; }
+if (!i0) {
 j0 = v7;
 j1 = v3;
 j2 = v9;
 copy(m, j0, j1, j2);
+}
 l36:;
 j0 = v0;
 j1 = UINT64_C(65544);
@@ -80907,10 +82595,11 @@ i1 = UINT32_C(255);
 i0 = i0 & i1;
 i1 = UINT32_C(91);
 i0 = (i0 == i1);
-if (i0) { goto l41; }
+if (!i0) {
 j0 = UINT64_C(65536);
 v3 = j0;
 goto l6;
+}
 l41:;
 j0 = UINT64_C(65536);
 j1 = v0;
@@ -80928,7 +82617,7 @@ v10 = i1;
 j1 = (uint64_t)i1;
 v3 = j1;
 i0 = (j0 < j1);
-if (i0) { goto l48; }
+if (!i0) {
 j0 = v0;
 j1 = v4;
 j0 = j0 + j1;
@@ -80941,7 +82630,7 @@ v7 = j1;
 j0 = j0 - j1;
 j1 = v3;
 i0 = (j0 >= j1);
-if (i0) { goto l50; }
+if (!i0) {
 j0 = v5;
 j1 = v7;
 p30 = read_at(j1, m, 1u);
@@ -80949,14 +82638,15 @@ i1 = load8(p30 + 0);
 p31 = write_at(j0, m, 1u);
 store8(p31 + 0, i1);
 goto l49;
-l50:;
+}
 j0 = v3;
 i0 = (j0 == 0);
-if (i0) { goto l49; }
+if (!i0) {
 j0 = v5;
 j1 = v7;
 j2 = v3;
 copy(m, j0, j1, j2);
+}
 l49:;
 j0 = v0;
 j1 = UINT64_C(65536);
@@ -80972,7 +82662,7 @@ j0 = j0 + j1;
 i0 = load8(p1 + 0);
 v2 = i0;
 goto l47;
-l48:;
+}
 j0 = v0;
 j1 = UINT64_C(65544);
 j0 = j0 + j1;
@@ -81033,7 +82723,7 @@ i1 = v10;
 p35 = write_at(j0, m, 1u);
 store8(p35 + 0, i1);
 return;
-l7:;
+}
 fio2070_trap();
 l6:;
 j0 = UINT64_C(1);
@@ -81060,7 +82750,7 @@ j2 = v6;
 j1 = j1 - j2;
 v9 = j1;
 i0 = (j0 > j1);
-if (i0) { goto l55; }
+if (!i0) {
 j0 = v8;
 j1 = v4;
 i0 = (j0 >= j1);
@@ -81080,11 +82770,11 @@ i1 = load8(p39 + 0);
 p40 = write_at(j0 + UINT64_C(1), m, 1u);
 store8(p40 + 0, i1);
 goto l3;
-l55:;
+}
 j0 = v8;
 j1 = v9;
 i0 = (j0 >= j1);
-if (i0) { goto l57; }
+if (!i0) {
 j0 = v9;
 j1 = UINT64_C(3);
 j0 = j0 & j1;
@@ -81096,14 +82786,14 @@ j1 = UINT64_C(18446744073709486083);
 j0 = j0 + j1;
 j1 = UINT64_C(3);
 i0 = (j0 < j1);
-if (i0) { goto l58; }
+if (!i0) {
 j0 = v9;
 j1 = UINT64_C(18446744073709551612);
 j0 = j0 & j1;
 v9 = j0;
 j0 = UINT64_C(0);
 v4 = j0;
-l59:;
+for (;;) {
 j0 = v7;
 j1 = v4;
 j0 = j0 + j1;
@@ -81120,11 +82810,12 @@ j2 = UINT64_C(4);
 j1 = j1 + j2;
 v4 = j1;
 i0 = (j0 != j1);
-if (i0) { goto l59; }
+if (!i0) break;
+}
 j0 = v5;
 i0 = (j0 == 0);
 if (i0) { goto l56; }
-l58:;
+}
 j0 = v3;
 j1 = v4;
 j0 = j0 + j1;
@@ -81158,14 +82849,15 @@ j1 = UINT64_C(0);
 i0 = (j0 != j1);
 if (i0) { goto l60; }
 goto l56;
-l57:;
+}
 j0 = v9;
 i0 = (j0 == 0);
-if (i0) { goto l56; }
+if (!i0) {
 j0 = v7;
 j1 = v3;
 j2 = v9;
 copy(m, j0, j1, j2);
+}
 l56:;
 j0 = v0;
 j1 = UINT64_C(65544);
@@ -81184,11 +82876,12 @@ goto l2;
 l4:;
 j0 = v4;
 i0 = (j0 == 0);
-if (i0) { goto l3; }
+if (!i0) {
 j0 = v7;
 j1 = v3;
 j2 = v4;
 copy(m, j0, j1, j2);
+}
 l3:;
 j0 = v5;
 j1 = v6;
@@ -81204,15 +82897,15 @@ i0 = i0 & i1;
 v2 = i0;
 i1 = UINT32_C(27);
 i0 = (i0 != i1);
-if (i0) { goto l63; }
+if (!i0) {
 i0 = UINT32_C(1);
 v1 = i0;
 goto l62;
-l63:;
+}
 i0 = v2;
 i1 = UINT32_C(239);
 i0 = (i0 == i1);
-if (i0) { goto l64; }
+if (!i0) {
 i0 = v2;
 i1 = UINT32_C(194);
 i0 = (i0 != i1);
@@ -81220,7 +82913,7 @@ if (i0) { goto l61; }
 i0 = UINT32_C(3);
 v1 = i0;
 goto l62;
-l64:;
+}
 i0 = UINT32_C(4);
 v1 = i0;
 l62:;
@@ -81242,11 +82935,11 @@ i0 = v1;
 i1 = UINT32_C(255);
 i0 = i0 & i1;
 i0 = (i0 == 0);
-if (i0) { goto l65; }
+if (!i0) {
 j0 = v3;
 j1 = UINT64_C(65535);
 i0 = (j0 > j1);
-if (i0) { goto l66; }
+if (!i0) {
 j0 = v0;
 j1 = v3;
 j0 = j0 + j1;
@@ -81262,15 +82955,14 @@ j1 = j1 + j2;
 p50 = write_at(j0, m, 8u);
 store64(p50 + 0, j1);
 return;
-l66:;
+}
 j0 = v0;
 j1 = UINT64_C(65544);
 j0 = j0 + j1;
 i1 = UINT32_C(1);
 p51 = write_at(j0, m, 1u);
 store8(p51 + 0, i1);
-l65:;
-return;
+}
 }
 static void fio_c_log_verdicts_fill(struct machine *m, uint64_t v0, uint64_t v1)
 {
@@ -81474,13 +83166,13 @@ j0 = v2;
 v3 = j0;
 j1 = UINT64_C(16);
 i0 = (SIGNED64(j0) < SIGNED64(j1));
-if (i0) { goto l2; }
+if (!i0) {
 j0 = v1;
 p2 = read_at(j0, m, 4u);
 i0 = load32(p2 + 0);
 i1 = UINT32_C(4095);
 i0 = (i0 > i1);
-if (i0) { goto l3; }
+if (!i0) {
 j0 = v1;
 j1 = UINT64_C(499728);
 j0 = j0 + j1;
@@ -81602,7 +83294,7 @@ p6 = read_at(j0, m, 1u);
 i0 = load8(p6 + 0);
 i1 = UINT32_C(1);
 i0 = (i0 != i1);
-if (i0) { goto l6; }
+if (!i0) {
 j0 = v0;
 j1 = UINT64_C(451747);
 j0 = j0 + j1;
@@ -81614,7 +83306,7 @@ if (i0) { goto l5; }
 j0 = v0;
 fio_log_reader_Reader_refresh(m, j0);
 goto l5;
-l6:;
+}
 j0 = v0;
 fio_log_reader_Reader_refresh(m, j0);
 j0 = v2;
@@ -81629,7 +83321,7 @@ j1 = UINT64_C(451664);
 j0 = j0 + j1;
 p9 = read_at(j0, m, 1u);
 i0 = load8(p9 + 0);
-if (i0) { goto l12; }
+if (!i0) {
 j0 = v0;
 j1 = UINT64_C(451736);
 j0 = j0 + j1;
@@ -81644,11 +83336,11 @@ j0 = j0 + j1;
 j0 = load64(p10 + 0);
 i0 = (j0 == 0);
 i0 = (i0 == 0);
-if (i0) { goto l14; }
+if (!i0) {
 i0 = UINT32_C(0);
 v27 = i0;
 goto l13;
-l14:;
+}
 j0 = v25;
 p11 = read_at(j0, m, 8u);
 j0 = load64(p11 + 0);
@@ -81661,45 +83353,45 @@ p12 = read_at(j0, m, 8u);
 j0 = load64(p12 + 0);
 v2 = j0;
 i0 = (j0 == 0);
-if (i0) { goto l15; }
+if (!i0) {
 j0 = v2;
 j1 = UINT64_C(784);
 j0 = j0 * j1;
 v2 = j0;
 i0 = (j0 == 0);
-if (i0) { goto l16; }
+if (!i0) {
 j0 = v23;
 i1 = UINT32_C(0);
 j2 = v2;
 fill(m, j0, i1, j2);
-l16:;
+}
 j0 = v22;
 j1 = UINT64_C(0);
 p13 = write_at(j0, m, 8u);
 store64(p13 + 0, j1);
-l15:;
+}
 j0 = v21;
 p14 = read_at(j0, m, 8u);
 j0 = load64(p14 + 0);
 v2 = j0;
 i0 = (j0 == 0);
-if (i0) { goto l17; }
+if (!i0) {
 j0 = v2;
 j1 = UINT64_C(5);
 j0 = j0 << (j1 & 63);
 v2 = j0;
 i0 = (j0 == 0);
-if (i0) { goto l18; }
+if (!i0) {
 j0 = v20;
 i1 = UINT32_C(0);
 j2 = v2;
 fill(m, j0, i1, j2);
-l18:;
+}
 j0 = v21;
 j1 = UINT64_C(0);
 p15 = write_at(j0, m, 8u);
 store64(p15 + 0, j1);
-l17:;
+}
 i0 = UINT32_C(0);
 v28 = i0;
 j0 = v0;
@@ -81714,7 +83406,7 @@ j0 = j0 + j1;
 j0 = load64(p16 + 0);
 v2 = j0;
 i0 = (j0 == 0);
-if (i0) { goto l20; }
+if (!i0) {
 j0 = v2;
 j1 = UINT64_C(18446744073709551615);
 j0 = j0 + j1;
@@ -81759,7 +83451,7 @@ v29 = j0;
 j1 = UINT64_C(18446744073709551615);
 i0 = (j0 != j1);
 if (i0) { goto l21; }
-l20:;
+}
 i0 = UINT32_C(0);
 i1 = UINT32_C(5);
 i2 = v27;
@@ -81793,7 +83485,7 @@ i0 = load8(p20 + 0);
 v28 = i0;
 i1 = UINT32_C(4);
 i0 = (i0 != i1);
-if (i0) { goto l22; }
+if (!i0) {
 i0 = UINT32_C(1);
 j1 = v36;
 j2 = UINT64_C(9);
@@ -81804,22 +83496,22 @@ i0 = i0 << (i1 & 31);
 i1 = UINT32_C(23);
 i0 = i0 & i1;
 i0 = (i0 == 0);
-if (i0) { goto l23; }
+if (!i0) {
 i0 = UINT32_C(4);
 v28 = i0;
 goto l22;
-l23:;
+}
 j0 = v0;
 j1 = UINT64_C(446320);
 j0 = j0 + j1;
 j0 = load64(p16 + 3576);
 i0 = (j0 == 0);
 i0 = (i0 == 0);
-if (i0) { goto l24; }
+if (!i0) {
 i0 = UINT32_C(4);
 v28 = i0;
 goto l22;
-l24:;
+}
 i0 = UINT32_C(4);
 v28 = i0;
 j0 = v36;
@@ -81831,7 +83523,7 @@ i1 = UINT32_C(255);
 i0 = i0 & i1;
 i1 = UINT32_C(6);
 i0 = (i0 == i1);
-if (i0) { goto l22; }
+if (!i0) {
 j0 = v24;
 j1 = v35;
 j2 = UINT64_C(3152);
@@ -81855,7 +83547,7 @@ j0 = load64(p24 + 0);
 v39 = j0;
 j1 = UINT64_C(1);
 i0 = (j0 != j1);
-if (i0) { goto l31; }
+if (!i0) {
 i0 = v38;
 i1 = UINT32_C(255);
 i0 = i0 & i1;
@@ -81899,7 +83591,7 @@ i1 = load8(p28 + 0);
 i2 = UINT32_C(7);
 i1 = i1 >> (i2 & 31);
 i0 = (i0 != i1);
-if (i0) { goto l33; }
+if (!i0) {
 i0 = v38;
 if (i0) { goto l28; }
 i0 = v28;
@@ -81907,7 +83599,7 @@ i1 = UINT32_C(7);
 i0 = (i0 > i1);
 if (i0) { goto l32; }
 goto l28;
-l33:;
+}
 i0 = v38;
 i1 = UINT32_C(8);
 i0 = (i0 < i1);
@@ -81987,11 +83679,11 @@ p34 = read_at(j0 + UINT64_C(9), m, 1u);
 i0 = load8(p34 + 0);
 i1 = UINT32_C(1);
 i0 = i0 & i1;
-if (i0) { goto l36; }
+if (!i0) {
 i0 = UINT32_C(0);
 v31 = i0;
 goto l29;
-l36:;
+}
 j0 = v17;
 j1 = v2;
 j2 = UINT64_C(856);
@@ -82004,16 +83696,17 @@ j2 = j2 + j3;
 i0 = fio_log_sources_Sources_is_another(m, j0, j1, j2);
 v31 = i0;
 goto l29;
-l31:;
+}
 i0 = v38;
 i1 = UINT32_C(255);
 i0 = i0 & i1;
 i1 = UINT32_C(1);
 i0 = (i0 == i1);
-if (i0) { goto l30; }
+if (!i0) {
 i0 = UINT32_C(0);
 v31 = i0;
 goto l29;
+}
 l30:;
 j0 = v36;
 j1 = UINT64_C(72);
@@ -82087,11 +83780,11 @@ p41 = read_at(j0 + UINT64_C(9), m, 1u);
 i0 = load8(p41 + 0);
 i1 = UINT32_C(1);
 i0 = i0 & i1;
-if (i0) { goto l39; }
+if (!i0) {
 i0 = UINT32_C(0);
 v31 = i0;
 goto l29;
-l39:;
+}
 j0 = v17;
 j1 = v36;
 j2 = UINT64_C(64);
@@ -82148,7 +83841,7 @@ p44 = read_at(j0, m, 1u);
 i0 = load8(p44 + 0);
 i1 = UINT32_C(1);
 i0 = (i0 != i1);
-if (i0) { goto l42; }
+if (!i0) {
 j0 = v29;
 j1 = UINT64_C(891);
 j0 = j0 + j1;
@@ -82167,11 +83860,11 @@ i1 = load8(p46 + 0);
 i2 = UINT32_C(7);
 i1 = i1 >> (i2 & 31);
 i0 = (i0 != i1);
-if (i0) { goto l44; }
+if (!i0) {
 i0 = v30;
 if (i0) { goto l43; }
 goto l42;
-l44:;
+}
 i0 = v28;
 i0 = (i0 == 0);
 if (i0) { goto l42; }
@@ -82247,7 +83940,7 @@ i0 = load8(p52 + 0);
 i1 = UINT32_C(1);
 i0 = i0 & i1;
 i0 = (i0 == 0);
-if (i0) { goto l42; }
+if (!i0) {
 j0 = v17;
 j1 = v29;
 j2 = UINT64_C(824);
@@ -82259,6 +83952,8 @@ j3 = UINT64_C(840);
 j2 = j2 + j3;
 i0 = fio_log_sources_Sources_is_another(m, j0, j1, j2);
 if (i0) { goto l41; }
+}
+}
 l42:;
 j0 = v29;
 j1 = UINT64_C(897);
@@ -82267,12 +83962,12 @@ p54 = read_at(j0, m, 1u);
 i0 = load8(p54 + 0);
 i1 = UINT32_C(1);
 i0 = (i0 != i1);
-if (i0) { goto l47; }
+if (!i0) {
 j0 = v29;
 j1 = v18;
 i0 = fio_log_judge_message_run_MessageRun_is_known(m, j0, j1);
 if (i0) { goto l26; }
-l47:;
+}
 j0 = v29;
 j1 = UINT64_C(872);
 j0 = j0 + j1;
@@ -82281,7 +83976,7 @@ i0 = load8(p55 + 0);
 v38 = i0;
 i1 = UINT32_C(10);
 i0 = (i0 > i1);
-if (i0) { goto l41; }
+if (!i0) {
 j0 = v29;
 j1 = UINT64_C(880);
 j0 = j0 + j1;
@@ -82289,7 +83984,7 @@ p56 = read_at(j0, m, 8u);
 j0 = load64(p56 + 0);
 v2 = j0;
 i0 = (j0 == 0);
-if (i0) { goto l41; }
+if (!i0) {
 j0 = v16;
 i1 = v38;
 i2 = UINT32_C(3);
@@ -82305,6 +84000,8 @@ j0 = j0 & j1;
 j1 = UINT64_C(0);
 i0 = (j0 != j1);
 if (i0) { goto l26; }
+}
+}
 l41:;
 j0 = v43;
 j1 = UINT64_C(1);
@@ -82349,7 +84046,7 @@ j0 = j0 + j1;
 i0 = load8(p16 + 3586);
 i1 = UINT32_C(1);
 i0 = (i0 != i1);
-if (i0) { goto l48; }
+if (!i0) {
 j0 = v3;
 j1 = UINT64_C(0);
 store64(p1 + 56, j1);
@@ -82366,7 +84063,7 @@ j1 = UINT64_C(14695981039346656037);
 store64(p1 + 32, j1);
 j0 = v39;
 i0 = (j0 == 0);
-if (i0) { goto l49; }
+if (!i0) {
 j0 = v3;
 j1 = UINT64_C(32);
 j0 = j0 + j1;
@@ -82384,24 +84081,26 @@ i0 = (uint32_t)j0;
 i1 = UINT32_C(1);
 i0 = i0 & i1;
 i0 = (i0 == 0);
-if (i0) { goto l49; }
+if (!i0) {
 j0 = v2;
 j1 = UINT64_C(256);
 j0 = j0 & j1;
 i0 = (j0 == 0);
 i0 = (i0 == 0);
-if (i0) { goto l50; }
+if (!i0) {
 j0 = v3;
 j0 = load64(p1 + 48);
 v29 = j0;
 goto l49;
-l50:;
+}
 j0 = v29;
 j1 = UINT64_C(48);
 j0 = j0 ^ j1;
 j1 = UINT64_C(1099511628211);
 j0 = j0 * j1;
 v29 = j0;
+}
+}
 l49:;
 j0 = v29;
 j1 = UINT64_C(3);
@@ -82455,6 +84154,7 @@ i0 = (j0 != j1);
 if (i0) { goto l51; }
 i0 = UINT32_C(0);
 v45 = i0;
+}
 l48:;
 j0 = v3;
 j1 = UINT64_C(0);
@@ -82495,7 +84195,7 @@ i0 = load8(p62 + 0);
 v30 = i0;
 i1 = UINT32_C(95);
 i0 = (i0 == i1);
-if (i0) { goto l56; }
+if (!i0) {
 i0 = UINT32_C(0);
 v38 = i0;
 i0 = v30;
@@ -82505,7 +84205,7 @@ if (i0) { goto l55; }
 i0 = v30;
 i1 = UINT32_C(58);
 i0 = (i0 < i1);
-if (i0) { goto l56; }
+if (!i0) {
 i0 = v30;
 i1 = UINT32_C(65);
 i0 = (i0 < i1);
@@ -82513,7 +84213,7 @@ if (i0) { goto l55; }
 i0 = v30;
 i1 = UINT32_C(91);
 i0 = (i0 < i1);
-if (i0) { goto l56; }
+if (!i0) {
 i0 = v30;
 i1 = UINT32_C(97);
 i0 = (i0 < i1);
@@ -82523,7 +84223,9 @@ i0 = (uint32_t)extend(i0 & 255, 7);
 i1 = UINT32_C(122);
 i0 = (SIGNED32(i0) > SIGNED32(i1));
 if (i0) { goto l55; }
-l56:;
+}
+}
+}
 i0 = v30;
 i1 = UINT32_C(95);
 i0 = (i0 != i1);
@@ -82544,7 +84246,7 @@ i0 = v34;
 i1 = UINT32_C(1);
 i0 = i0 & i1;
 i0 = (i0 == 0);
-if (i0) { goto l57; }
+if (!i0) {
 j0 = v3;
 j0 = load64(p1 + 32);
 v29 = j0;
@@ -82553,23 +84255,24 @@ i0 = load8(p1 + 56);
 i1 = UINT32_C(1);
 i0 = i0 & i1;
 i0 = (i0 == 0);
-if (i0) { goto l58; }
+if (!i0) {
 j0 = v3;
 i0 = load8(p1 + 57);
 i1 = UINT32_C(1);
 i0 = i0 & i1;
-if (i0) { goto l59; }
+if (!i0) {
 j0 = v3;
 j0 = load64(p1 + 48);
 v29 = j0;
 goto l58;
-l59:;
+}
 j0 = v29;
 j1 = UINT64_C(48);
 j0 = j0 ^ j1;
 j1 = UINT64_C(1099511628211);
 j0 = j0 * j1;
 v29 = j0;
+}
 l58:;
 j0 = v29;
 j1 = UINT64_C(3);
@@ -82625,7 +84328,7 @@ goto l61;
 l60:;
 i0 = v38;
 i0 = (i0 == 0);
-if (i0) { goto l57; }
+if (!i0) {
 i0 = UINT32_C(1);
 v34 = i0;
 j0 = v43;
@@ -82636,21 +84339,23 @@ j1 = v39;
 i0 = (j0 < j1);
 if (i0) { goto l54; }
 goto l53;
+}
+}
 l57:;
 j0 = UINT64_C(3750763034362895578);
 v2 = j0;
 i0 = v30;
 i1 = UINT32_C(95);
 i0 = (i0 == i1);
-if (i0) { goto l62; }
+if (!i0) {
 i0 = v30;
 i1 = UINT32_C(48);
 i0 = (i0 < i1);
-if (i0) { goto l62; }
+if (!i0) {
 i0 = v30;
 i1 = UINT32_C(58);
 i0 = (i0 < i1);
-if (i0) { goto l63; }
+if (!i0) {
 i0 = v30;
 i1 = UINT32_C(65);
 i0 = (i0 < i1);
@@ -82658,7 +84363,7 @@ if (i0) { goto l62; }
 i0 = v30;
 i1 = UINT32_C(91);
 i0 = (i0 < i1);
-if (i0) { goto l63; }
+if (!i0) {
 i0 = v30;
 i1 = UINT32_C(97);
 i0 = (i0 < i1);
@@ -82668,7 +84373,8 @@ i0 = (uint32_t)extend(i0 & 255, 7);
 i1 = UINT32_C(123);
 i0 = (SIGNED32(i0) >= SIGNED32(i1));
 if (i0) { goto l62; }
-l63:;
+}
+}
 j0 = v32;
 i1 = v30;
 i2 = UINT32_C(32);
@@ -82694,7 +84400,7 @@ i0 = v46;
 i1 = UINT32_C(1);
 i0 = i0 & i1;
 i0 = (i0 == 0);
-if (i0) { goto l65; }
+if (!i0) {
 j0 = v29;
 j1 = UINT64_C(8796093025688);
 j0 = j0 * j1;
@@ -82754,19 +84460,21 @@ if (i0) { goto l62; }
 i0 = v28;
 if (i0) { goto l62; }
 goto l64;
+}
 l65:;
 i0 = v30;
 i1 = UINT32_C(58);
 i0 = (i0 >= i1);
-if (i0) { goto l64; }
+if (!i0) {
 i0 = UINT32_C(0);
 v28 = i0;
 goto l62;
+}
 l64:;
 i0 = v30;
 i1 = UINT32_C(65);
 i0 = (i0 < i1);
-if (i0) { goto l68; }
+if (!i0) {
 i0 = UINT32_C(0);
 v28 = i0;
 i0 = v30;
@@ -82781,7 +84489,7 @@ i0 = i0 & i1;
 i1 = UINT32_C(6);
 i0 = (i0 < i1);
 if (i0) { goto l62; }
-l68:;
+}
 i0 = v30;
 i1 = UINT32_C(4294967212);
 i0 = i0 + i1;
@@ -82800,6 +84508,8 @@ i0 = (j0 == j1);
 if (i0) { goto l25; }
 i0 = UINT32_C(0);
 v28 = i0;
+}
+}
 l62:;
 i0 = UINT32_C(0);
 v34 = i0;
@@ -82818,7 +84528,7 @@ i1 = i1 ^ i2;
 i0 = i0 | i1;
 i1 = UINT32_C(1);
 i0 = i0 & i1;
-if (i0) { goto l69; }
+if (!i0) {
 j0 = v3;
 j1 = v37;
 j2 = v39;
@@ -82829,7 +84539,7 @@ i1 = UINT32_C(1);
 i0 = (i0 != i1);
 if (i0) { goto l26; }
 goto l25;
-l69:;
+}
 i0 = v31;
 i1 = UINT32_C(1);
 i0 = i0 & i1;
@@ -82862,6 +84572,8 @@ j1 = UINT64_C(24);
 j0 = j0 + j1;
 j1 = UINT64_C(0);
 store64(p67 + 16, j1);
+}
+}
 l22:;
 j0 = v24;
 j1 = v35;
@@ -82874,11 +84586,11 @@ i0 = UINT32_C(0);
 v38 = i0;
 i0 = v27;
 i0 = (i0 == 0);
-if (i0) { goto l73; }
+if (!i0) {
 i0 = UINT32_C(0);
 v30 = i0;
 goto l72;
-l73:;
+}
 j0 = v40;
 p68 = read_at(j0, m, 8u);
 j0 = load64(p68 + 0);
@@ -83036,7 +84748,7 @@ v2 = j0;
 i0 = UINT32_C(1);
 v30 = i0;
 goto l10;
-l12:;
+}
 j0 = v0;
 j1 = UINT64_C(451721);
 j0 = j0 + j1;
@@ -83077,7 +84789,7 @@ p76 = read_at(j0, m, 8u);
 j0 = load64(p76 + 0);
 v42 = j0;
 i0 = (j0 == 0);
-if (i0) { goto l82; }
+if (!i0) {
 j0 = v40;
 j1 = UINT64_C(32);
 j0 = j0 + j1;
@@ -83142,7 +84854,7 @@ i0 = v30;
 i1 = UINT32_C(1);
 i0 = i0 & i1;
 i0 = (i0 == 0);
-if (i0) { goto l87; }
+if (!i0) {
 j0 = v43;
 v2 = j0;
 j0 = v39;
@@ -83152,7 +84864,7 @@ j3 = v29;
 i0 = fio_log_judge_entries_say_same(m, j0, j1, j2, j3);
 i0 = (i0 == 0);
 if (i0) { goto l82; }
-l87:;
+}
 j0 = v29;
 j1 = UINT64_C(1);
 j0 = j0 + j1;
@@ -83175,12 +84887,14 @@ i0 = load8(p79 + 0);
 i1 = UINT32_C(1);
 i0 = i0 & i1;
 i0 = (i0 == 0);
-if (i0) { goto l82; }
+if (!i0) {
 j0 = v13;
 v29 = j0;
 j0 = v12;
 v2 = j0;
 goto l81;
+}
+}
 l82:;
 i0 = UINT32_C(0);
 v27 = i0;
@@ -83202,9 +84916,9 @@ j0 = v2;
 p81 = read_at(j0, m, 8u);
 j0 = load64(p81 + 0);
 i0 = (j0 == 0);
-if (i0) { goto l9; }
+if (!i0) {
 i0 = v27;
-if (i0) { goto l88; }
+if (!i0) {
 j0 = v21;
 p82 = read_at(j0, m, 8u);
 j0 = load64(p82 + 0);
@@ -83283,7 +84997,7 @@ v35 = j0;
 i0 = (j0 == 0);
 if (i0) { goto l8; }
 goto l89;
-l88:;
+}
 j0 = v0;
 j1 = UINT64_C(282368);
 j0 = j0 + j1;
@@ -83292,51 +85006,52 @@ j0 = load64(p87 + 0);
 j1 = v26;
 i0 = (j0 == j1);
 if (i0) { goto l8; }
+}
 l9:;
 j0 = v22;
 p88 = read_at(j0, m, 8u);
 j0 = load64(p88 + 0);
 v2 = j0;
 i0 = (j0 == 0);
-if (i0) { goto l90; }
+if (!i0) {
 j0 = v2;
 j1 = UINT64_C(784);
 j0 = j0 * j1;
 v2 = j0;
 i0 = (j0 == 0);
-if (i0) { goto l91; }
+if (!i0) {
 j0 = v23;
 i1 = UINT32_C(0);
 j2 = v2;
 fill(m, j0, i1, j2);
-l91:;
+}
 j0 = v22;
 j1 = UINT64_C(0);
 p89 = write_at(j0, m, 8u);
 store64(p89 + 0, j1);
-l90:;
+}
 j0 = v21;
 p90 = read_at(j0, m, 8u);
 j0 = load64(p90 + 0);
 v2 = j0;
 i0 = (j0 == 0);
-if (i0) { goto l92; }
+if (!i0) {
 j0 = v2;
 j1 = UINT64_C(5);
 j0 = j0 << (j1 & 63);
 v2 = j0;
 i0 = (j0 == 0);
-if (i0) { goto l93; }
+if (!i0) {
 j0 = v20;
 i1 = UINT32_C(0);
 j2 = v2;
 fill(m, j0, i1, j2);
-l93:;
+}
 j0 = v21;
 j1 = UINT64_C(0);
 p91 = write_at(j0, m, 8u);
 store64(p91 + 0, j1);
-l92:;
+}
 j0 = v0;
 j1 = UINT64_C(451088);
 j0 = j0 + j1;
@@ -83403,13 +85118,13 @@ l98:;
 i0 = v30;
 i1 = UINT32_C(5);
 i0 = (i0 != i1);
-if (i0) { goto l97; }
+if (!i0) {
 j0 = v26;
 j1 = v40;
 p95 = read_at(j1, m, 8u);
 j1 = load64(p95 + 0);
 i0 = (j0 != j1);
-if (i0) { goto l97; }
+if (!i0) {
 i0 = UINT32_C(11);
 v31 = i0;
 i0 = v38;
@@ -83423,6 +85138,8 @@ i1 = UINT32_C(11);
 i0 = (i0 != i1);
 if (i0) { goto l96; }
 goto l95;
+}
+}
 l97:;
 i0 = v38;
 v27 = i0;
@@ -83665,7 +85382,7 @@ j1 = j1 + j2;
 p102 = read_at(j1, m, 8u);
 j1 = load64(p102 + 0);
 i0 = (j0 < j1);
-if (i0) { goto l114; }
+if (!i0) {
 i0 = v31;
 v38 = i0;
 i0 = UINT32_C(0);
@@ -83673,7 +85390,7 @@ v34 = i0;
 i0 = UINT32_C(0);
 v28 = i0;
 goto l102;
-l114:;
+}
 j0 = v40;
 j1 = v2;
 j2 = UINT64_C(904);
@@ -83695,11 +85412,11 @@ v38 = i0;
 l102:;
 i0 = v30;
 i0 = (i0 == 0);
-if (i0) { goto l115; }
+if (!i0) {
 i0 = v38;
 v31 = i0;
 goto l94;
-l115:;
+}
 j0 = UINT64_C(0);
 v32 = j0;
 i0 = UINT32_C(0);
@@ -83761,23 +85478,23 @@ j0 = load64(p106 + 0);
 v2 = j0;
 i0 = (j0 == 0);
 i0 = (i0 == 0);
-if (i0) { goto l117; }
+if (!i0) {
 j0 = UINT64_C(0);
 v2 = j0;
 goto l116;
-l117:;
+}
 j0 = v25;
 p107 = read_at(j0, m, 8u);
 j0 = load64(p107 + 0);
 j1 = v37;
 i0 = (j0 != j1);
-if (i0) { goto l116; }
+if (!i0) {
 j0 = UINT64_C(0);
 v29 = j0;
 j0 = v2;
 j1 = UINT64_C(1);
 i0 = (j0 == j1);
-if (i0) { goto l118; }
+if (!i0) {
 j0 = v2;
 j1 = UINT64_C(18446744073709551615);
 j0 = j0 + j1;
@@ -83791,7 +85508,7 @@ v29 = j0;
 j0 = v35;
 j1 = UINT64_C(257);
 i0 = (j0 < j1);
-if (i0) { goto l120; }
+if (!i0) {
 j0 = UINT64_C(0);
 v43 = j0;
 j0 = v0;
@@ -83799,7 +85516,7 @@ v36 = j0;
 l121:;
 j0 = UINT64_C(18446744073709549568);
 v29 = j0;
-l122:;
+for (;;) {
 j0 = v36;
 j1 = v29;
 j0 = j0 + j1;
@@ -83841,7 +85558,8 @@ j0 = j0 + j1;
 v29 = j0;
 j1 = UINT64_C(0);
 i0 = (j0 != j1);
-if (i0) { goto l122; }
+if (!i0) break;
+}
 j0 = v36;
 j1 = UINT64_C(2048);
 j0 = j0 + j1;
@@ -83870,16 +85588,17 @@ j2 = UINT64_C(3);
 j1 = j1 << (j2 & 63);
 j0 = j0 + j1;
 v29 = j0;
-l120:;
+}
 j0 = v2;
 i0 = (j0 == 0);
-if (i0) { goto l119; }
+if (!i0) {
 j0 = v29;
 j1 = v29;
 j2 = UINT64_C(8);
 j1 = j1 + j2;
 j2 = v2;
 copy(m, j0, j1, j2);
+}
 l119:;
 j0 = v25;
 j1 = v39;
@@ -83894,7 +85613,7 @@ j0 = load64(p106 + 0);
 j1 = UINT64_C(18446744073709551615);
 j0 = j0 + j1;
 v29 = j0;
-l118:;
+}
 j0 = v0;
 j1 = UINT64_C(451656);
 j0 = j0 + j1;
@@ -83917,6 +85636,7 @@ v37 = j0;
 j0 = v2;
 j0 = load64(p106 + 0);
 v2 = j0;
+}
 l116:;
 i0 = UINT32_C(0);
 v38 = i0;
@@ -83926,7 +85646,7 @@ j2 = UINT64_C(451728);
 j1 = j1 + j2;
 j1 = load64(p106 + 72);
 i0 = (j0 >= j1);
-if (i0) { goto l123; }
+if (!i0) {
 i0 = UINT32_C(1);
 v38 = i0;
 j0 = v0;
@@ -83934,12 +85654,12 @@ j1 = UINT64_C(451747);
 j0 = j0 + j1;
 p111 = read_at(j0, m, 1u);
 i0 = load8(p111 + 0);
-if (i0) { goto l123; }
+if (!i0) {
 j0 = v0;
 j1 = UINT64_C(451664);
 j0 = j0 + j1;
 i0 = load8(p106 + 8);
-if (i0) { goto l123; }
+if (!i0) {
 j0 = v2;
 j1 = UINT64_C(18446744073709551547);
 j0 = j0 + j1;
@@ -83954,7 +85674,7 @@ p112 = read_at(j0, m, 8u);
 j0 = load64(p112 + 0);
 v29 = j0;
 i0 = (j0 == 0);
-if (i0) { goto l123; }
+if (!i0) {
 j0 = v37;
 j1 = v19;
 j2 = v0;
@@ -83972,7 +85692,7 @@ j1 = j1 + j2;
 p114 = read_at(j1, m, 8u);
 j1 = load64(p114 + 0);
 i0 = (j0 < j1);
-if (i0) { goto l124; }
+if (!i0) {
 j0 = v29;
 j1 = UINT64_C(1);
 i0 = (j0 == j1);
@@ -83985,7 +85705,7 @@ j0 = remainder64(j0, j1);
 j1 = UINT64_C(144);
 j0 = j0 * j1;
 v26 = j0;
-l124:;
+}
 j0 = v2;
 j1 = UINT64_C(18446744073709551545);
 i0 = (j0 < j1);
@@ -84000,6 +85720,10 @@ i2 = UINT32_C(0);
 i1 = (i1 != i2);
 i0 = i0 | i1;
 v38 = i0;
+}
+}
+}
+}
 l123:;
 j0 = v0;
 j1 = UINT64_C(451746);
@@ -84016,7 +85740,7 @@ j0 = j0 + j1;
 i0 = load8(p116 + 0);
 i1 = UINT32_C(1);
 i0 = (i0 != i1);
-if (i0) { goto l129; }
+if (!i0) {
 j0 = v13;
 p117 = read_at(j0, m, 8u);
 j0 = load64(p117 + 0);
@@ -84046,7 +85770,7 @@ j1 = v2;
 j0 = j0 + j1;
 v41 = j0;
 goto l128;
-l129:;
+}
 j0 = v35;
 j1 = v22;
 p119 = read_at(j1, m, 8u);
@@ -84104,7 +85828,7 @@ j1 = v41;
 j0 = j0 - j1;
 j1 = v43;
 i0 = (j0 >= j1);
-if (i0) { goto l131; }
+if (!i0) {
 j0 = v43;
 j1 = UINT64_C(3);
 j0 = j0 & j1;
@@ -84114,7 +85838,7 @@ v29 = j0;
 j0 = v43;
 j1 = UINT64_C(4);
 i0 = (j0 < j1);
-if (i0) { goto l132; }
+if (!i0) {
 j0 = v1;
 j1 = v39;
 j0 = j0 + j1;
@@ -84125,7 +85849,7 @@ j0 = j0 & j1;
 v36 = j0;
 j0 = UINT64_C(0);
 v29 = j0;
-l133:;
+for (;;) {
 j0 = v42;
 j1 = v29;
 j0 = j0 + j1;
@@ -84170,11 +85894,12 @@ j2 = UINT64_C(4);
 j1 = j1 + j2;
 v29 = j1;
 i0 = (j0 != j1);
-if (i0) { goto l133; }
+if (!i0) break;
+}
 j0 = v40;
 i0 = (j0 == 0);
 if (i0) { goto l130; }
-l132:;
+}
 j0 = v41;
 j1 = v29;
 j0 = j0 + j1;
@@ -84208,15 +85933,15 @@ j1 = UINT64_C(0);
 i0 = (j0 != j1);
 if (i0) { goto l134; }
 goto l130;
-l131:;
+}
 j0 = v43;
 i0 = (j0 == 0);
-if (i0) { goto l135; }
+if (!i0) {
 j0 = v2;
 j1 = v41;
 j2 = v43;
 copy(m, j0, j1, j2);
-l135:;
+}
 j0 = v1;
 j1 = UINT64_C(4);
 j0 = j0 + j1;
@@ -84271,7 +85996,7 @@ j0 = j0 + j1;
 i0 = load8(p116 + 0);
 i1 = UINT32_C(1);
 i0 = (i0 != i1);
-if (i0) { goto l139; }
+if (!i0) {
 j0 = v2;
 j1 = v0;
 j2 = UINT64_C(372512);
@@ -84309,7 +86034,7 @@ j1 = v26;
 j0 = j0 + j1;
 v43 = j0;
 goto l138;
-l139:;
+}
 j0 = v2;
 j1 = v21;
 p130 = read_at(j1, m, 8u);
@@ -84463,15 +86188,16 @@ i0 = v46;
 i1 = UINT32_C(4096);
 i0 = (i0 < i1);
 if (i0) { goto l4; }
+}
 l3:;
 j0 = v3;
 j1 = UINT64_C(64);
 j0 = j0 + j1;
 m->g0 = j0;
 return;
+}
 l2:;
 fio2070_trap();
-return;
 }
 static void fio_log_judge_tell_Frames_add(struct machine *m, uint64_t v0, uint64_t v1, uint64_t v2)
 {
@@ -84529,7 +86255,7 @@ j0 = v3;
 v4 = j0;
 j1 = UINT64_C(16);
 i0 = (SIGNED64(j0) < SIGNED64(j1));
-if (i0) { goto l3; }
+if (!i0) {
 j0 = v2;
 j1 = v1;
 j2 = UINT64_C(2744);
@@ -84558,7 +86284,7 @@ j0 = load64(p3 + 3144);
 v8 = j0;
 j1 = UINT64_C(0);
 i0 = (j0 != j1);
-if (i0) { goto l6; }
+if (!i0) {
 j0 = v0;
 j1 = UINT64_C(4712);
 j0 = j0 + j1;
@@ -84628,7 +86354,7 @@ j1 = j1 + j2;
 p7 = write_at(j0, m, 8u);
 store64(p7 + 0, j1);
 goto l5;
-l6:;
+}
 j0 = v1;
 j1 = UINT64_C(2752);
 j0 = j0 + j1;
@@ -84728,7 +86454,7 @@ fill(m, j0, i1, j2);
 j0 = v1;
 j1 = UINT64_C(773);
 i0 = (j0 > j1);
-if (i0) { goto l8; }
+if (!i0) {
 j0 = v1;
 j1 = UINT64_C(1);
 j2 = v1;
@@ -84737,7 +86463,7 @@ i2 = (j2 > j3);
 j0 = i2 ? j0 : j1;
 v3 = j0;
 i0 = (j0 == 0);
-if (i0) { goto l9; }
+if (!i0) {
 j0 = v4;
 j1 = UINT64_C(66616);
 j2 = v6;
@@ -84751,11 +86477,11 @@ i3 = (j3 == 0);
 j1 = i3 ? j1 : j2;
 j2 = v3;
 copy(m, j0, j1, j2);
-l9:;
+}
 j0 = v4;
 j1 = v3;
 store64(p1 + 776, j1);
-l8:;
+}
 j0 = v0;
 j1 = UINT64_C(1568);
 j0 = j0 + j1;
@@ -84765,7 +86491,7 @@ j0 = load64(p14 + 0);
 v1 = j0;
 j1 = UINT64_C(2);
 i0 = (j0 == j1);
-if (i0) { goto l4; }
+if (!i0) {
 j0 = v0;
 j1 = v1;
 j2 = UINT64_C(784);
@@ -84781,6 +86507,7 @@ j1 = j1 + j2;
 p15 = write_at(j0, m, 8u);
 store64(p15 + 0, j1);
 goto l2;
+}
 l4:;
 j0 = v0;
 j1 = UINT64_C(1568);
@@ -84789,25 +86516,25 @@ p16 = read_at(j0, m, 8u);
 j0 = load64(p16 + 0);
 v1 = j0;
 i0 = (j0 == 0);
-if (i0) { goto l10; }
+if (!i0) {
 j0 = v1;
 j1 = UINT64_C(784);
 j0 = j0 * j1;
 v1 = j0;
 i0 = (j0 == 0);
-if (i0) { goto l11; }
+if (!i0) {
 j0 = v0;
 i1 = UINT32_C(0);
 j2 = v1;
 fill(m, j0, i1, j2);
-l11:;
+}
 j0 = v0;
 j1 = UINT64_C(1568);
 j0 = j0 + j1;
 j1 = UINT64_C(0);
 p17 = write_at(j0, m, 8u);
 store64(p17 + 0, j1);
-l10:;
+}
 j0 = v0;
 j1 = UINT64_C(4712);
 j0 = j0 + j1;
@@ -84815,27 +86542,27 @@ p18 = read_at(j0, m, 8u);
 j0 = load64(p18 + 0);
 v1 = j0;
 i0 = (j0 == 0);
-if (i0) { goto l12; }
+if (!i0) {
 j0 = v1;
 j1 = UINT64_C(5);
 j0 = j0 << (j1 & 63);
 v1 = j0;
 i0 = (j0 == 0);
-if (i0) { goto l13; }
+if (!i0) {
 j0 = v0;
 j1 = UINT64_C(1576);
 j0 = j0 + j1;
 i1 = UINT32_C(0);
 j2 = v1;
 fill(m, j0, i1, j2);
-l13:;
+}
 j0 = v0;
 j1 = UINT64_C(4712);
 j0 = j0 + j1;
 j1 = UINT64_C(0);
 p19 = write_at(j0, m, 8u);
 store64(p19 + 0, j1);
-l12:;
+}
 j0 = v0;
 j1 = UINT64_C(4720);
 j0 = j0 + j1;
@@ -84843,14 +86570,13 @@ i1 = UINT32_C(0);
 p20 = write_at(j0, m, 1u);
 store8(p20 + 0, i1);
 goto l2;
-l3:;
+}
 fio2070_trap();
 l2:;
 j0 = v4;
 j1 = UINT64_C(784);
 j0 = j0 + j1;
 m->g0 = j0;
-return;
 }
 static void enter_log_counts_lose(struct machine *m, uint64_t v0)
 {
@@ -84858,14 +86584,12 @@ uint32_t i0;
 uint64_t j0;
 i0 = rattle_enter(m);
 i0 = (i0 == 0);
-if (i0) { goto l2; }
+if (!i0) {
 fio2070_trap();
-fio2070_trap();
-l2:;
+}
 j0 = v0;
 proved_log_counts_lose(m, j0);
 rattle_leave(m);
-return;
 }
 static void proved_log_counts_lose(struct machine *m, uint64_t v0)
 {
@@ -84877,9 +86601,9 @@ uint8_t *p1;
 j0 = m->g0;
 j1 = UINT64_C(15);
 i0 = (SIGNED64(j0) > SIGNED64(j1));
-if (i0) { goto l2; }
+if (!i0) {
 fio2070_trap();
-l2:;
+}
 j0 = v0;
 j1 = UINT64_C(5186);
 j0 = j0 + j1;
@@ -84891,7 +86615,6 @@ j1 = UINT64_C(5189);
 j0 = j0 + j1;
 i1 = UINT32_C(0);
 store8(p1 + 3, i1);
-return;
 }
 static void enter_log_counts_start(struct machine *m, uint64_t v0)
 {
@@ -84899,14 +86622,12 @@ uint32_t i0;
 uint64_t j0;
 i0 = rattle_enter(m);
 i0 = (i0 == 0);
-if (i0) { goto l2; }
+if (!i0) {
 fio2070_trap();
-fio2070_trap();
-l2:;
+}
 j0 = v0;
 proved_log_counts_start(m, j0);
 rattle_leave(m);
-return;
 }
 static void proved_log_counts_start(struct machine *m, uint64_t v0)
 {
@@ -84918,14 +86639,13 @@ uint64_t j2;
 j0 = m->g0;
 j1 = UINT64_C(15);
 i0 = (SIGNED64(j0) > SIGNED64(j1));
-if (i0) { goto l2; }
+if (!i0) {
 fio2070_trap();
-l2:;
+}
 j0 = v0;
 i1 = UINT32_C(0);
 j2 = UINT64_C(5200);
 fill(m, j0, i1, j2);
-return;
 }
 static void enter_log_end(struct machine *m, uint64_t v0)
 {
@@ -84933,14 +86653,12 @@ uint32_t i0;
 uint64_t j0;
 i0 = rattle_enter(m);
 i0 = (i0 == 0);
-if (i0) { goto l2; }
+if (!i0) {
 fio2070_trap();
-fio2070_trap();
-l2:;
+}
 j0 = v0;
 proved_log_end(m, j0);
 rattle_leave(m);
-return;
 }
 static void proved_log_end(struct machine *m, uint64_t v0)
 {
@@ -84983,7 +86701,7 @@ j0 = m->g0;
 v1 = j0;
 j1 = UINT64_C(16);
 i0 = (SIGNED64(j0) < SIGNED64(j1));
-if (i0) { goto l3; }
+if (!i0) {
 j0 = v0;
 j1 = UINT64_C(451747);
 j0 = j0 + j1;
@@ -85018,11 +86736,11 @@ j0 = load64(p4 + 0);
 v4 = j0;
 j1 = UINT64_C(0);
 i0 = (j0 != j1);
-if (i0) { goto l5; }
+if (!i0) {
 i0 = v3;
 i0 = (i0 == 0);
 if (i0) { goto l4; }
-l5:;
+}
 j0 = UINT64_C(65536);
 v5 = j0;
 j0 = UINT64_C(1);
@@ -85107,13 +86825,14 @@ i1 = load8(p5 + 0);
 p6 = write_at(j0, m, 1u);
 store8(p6 + 0, i1);
 i0 = v7;
-if (i0) { goto l8; }
+if (!i0) {
 j0 = v8;
 j1 = v5;
 p7 = read_at(j1 + UINT64_C(1), m, 1u);
 i1 = load8(p7 + 0);
 p8 = write_at(j0 + UINT64_C(1), m, 1u);
 store8(p8 + 0, i1);
+}
 l8:;
 j0 = v0;
 j1 = UINT64_C(65536);
@@ -85128,7 +86847,7 @@ l7:;
 j0 = v9;
 j1 = v10;
 i0 = (j0 >= j1);
-if (i0) { goto l17; }
+if (!i0) {
 j0 = v10;
 j1 = UINT64_C(3);
 j0 = j0 & j1;
@@ -85140,14 +86859,14 @@ j1 = UINT64_C(18446744073709486083);
 j0 = j0 + j1;
 j1 = UINT64_C(3);
 i0 = (j0 < j1);
-if (i0) { goto l18; }
+if (!i0) {
 j0 = v10;
 j1 = UINT64_C(18446744073709551612);
 j0 = j0 & j1;
 v10 = j0;
 j0 = UINT64_C(0);
 v6 = j0;
-l19:;
+for (;;) {
 j0 = v8;
 j1 = v6;
 j0 = j0 + j1;
@@ -85164,11 +86883,12 @@ j2 = UINT64_C(4);
 j1 = j1 + j2;
 v6 = j1;
 i0 = (j0 != j1);
-if (i0) { goto l19; }
+if (!i0) break;
+}
 j0 = v9;
 i0 = (j0 == 0);
 if (i0) { goto l16; }
-l18:;
+}
 j0 = v5;
 j1 = v6;
 j0 = j0 + j1;
@@ -85202,14 +86922,15 @@ j1 = UINT64_C(0);
 i0 = (j0 != j1);
 if (i0) { goto l20; }
 goto l16;
-l17:;
+}
 j0 = v10;
 i0 = (j0 == 0);
-if (i0) { goto l16; }
+if (!i0) {
 j0 = v8;
 j1 = v5;
 j2 = v10;
 copy(m, j0, j1, j2);
+}
 l16:;
 j0 = v0;
 j1 = UINT64_C(65544);
@@ -85245,7 +86966,7 @@ j0 = j0 + j1;
 i1 = UINT32_C(0);
 store8(p16 + 0, i1);
 goto l2;
-l3:;
+}
 fio2070_trap();
 l2:;
 j0 = v2;
@@ -85258,7 +86979,7 @@ j0 = j0 + j1;
 v2 = j0;
 p18 = read_at(j0, m, 1u);
 i0 = load8(p18 + 0);
-if (i0) { goto l21; }
+if (!i0) {
 j0 = v2;
 j1 = v0;
 j2 = UINT64_C(451736);
@@ -85273,10 +86994,9 @@ i1 = (j1 < j2);
 store8(p19 + 18, i1);
 j0 = v0;
 fio_log_reader_Reader_refresh(m, j0);
-l21:;
+}
 j0 = v1;
 m->g0 = j0;
-return;
 }
 static void enter_log_start(struct machine *m, uint64_t v0, uint32_t v1)
 {
@@ -85285,15 +87005,13 @@ uint32_t i1;
 uint64_t j0;
 i0 = rattle_enter(m);
 i0 = (i0 == 0);
-if (i0) { goto l2; }
+if (!i0) {
 fio2070_trap();
-fio2070_trap();
-l2:;
+}
 j0 = v0;
 i1 = v1;
 proved_log_start(m, j0, i1);
 rattle_leave(m);
-return;
 }
 static void proved_log_start(struct machine *m, uint64_t v0, uint32_t v1)
 {
@@ -85310,9 +87028,9 @@ uint8_t *p1;
 j0 = m->g0;
 j1 = UINT64_C(15);
 i0 = (SIGNED64(j0) > SIGNED64(j1));
-if (i0) { goto l2; }
+if (!i0) {
 fio2070_trap();
-l2:;
+}
 j0 = v0;
 i1 = UINT32_C(0);
 j2 = UINT64_C(282352);
@@ -85367,7 +87085,6 @@ j0 = j0 + j1;
 i1 = UINT32_C(0);
 j2 = UINT64_C(87);
 fill(m, j0, i1, j2);
-return;
 }
 static void enter_log_signs_start(struct machine *m, uint64_t v0)
 {
@@ -85375,14 +87092,12 @@ uint32_t i0;
 uint64_t j0;
 i0 = rattle_enter(m);
 i0 = (i0 == 0);
-if (i0) { goto l2; }
+if (!i0) {
 fio2070_trap();
-fio2070_trap();
-l2:;
+}
 j0 = v0;
 proved_log_signs_start(m, j0);
 rattle_leave(m);
-return;
 }
 static void proved_log_signs_start(struct machine *m, uint64_t v0)
 {
@@ -85394,14 +87109,13 @@ uint64_t j2;
 j0 = m->g0;
 j1 = UINT64_C(15);
 i0 = (SIGNED64(j0) > SIGNED64(j1));
-if (i0) { goto l2; }
+if (!i0) {
 fio2070_trap();
-l2:;
+}
 j0 = v0;
 i1 = UINT32_C(0);
 j2 = UINT64_C(816);
 fill(m, j0, i1, j2);
-return;
 }
 static void enter_log_signs_frame(struct machine *m, uint64_t v0, uint32_t v1, uint32_t v2, uint64_t v3, uint64_t v4)
 {
@@ -85413,10 +87127,9 @@ uint64_t j3;
 uint64_t j4;
 i0 = rattle_enter(m);
 i0 = (i0 == 0);
-if (i0) { goto l2; }
+if (!i0) {
 fio2070_trap();
-fio2070_trap();
-l2:;
+}
 j0 = v0;
 i1 = v1;
 i2 = v2;
@@ -85424,7 +87137,6 @@ j3 = v3;
 j4 = v4;
 proved_log_signs_frame(m, j0, i1, i2, j3, j4);
 rattle_leave(m);
-return;
 }
 static void proved_log_signs_frame(struct machine *m, uint64_t v0, uint32_t v1, uint32_t v2, uint64_t v3, uint64_t v4)
 {
@@ -85477,7 +87189,7 @@ j0 = v5;
 v5 = j0;
 j1 = UINT64_C(16);
 i0 = (SIGNED64(j0) < SIGNED64(j1));
-if (i0) { goto l4; }
+if (!i0) {
 j0 = v0;
 j1 = UINT64_C(32);
 j0 = j0 + j1;
@@ -85503,14 +87215,14 @@ i0 = i2 ? i0 : i1;
 j0 = (uint64_t)i0;
 v8 = j0;
 i0 = (j0 == 0);
-if (i0) { goto l5; }
+if (!i0) {
 j0 = v5;
 j1 = UINT64_C(840);
 j0 = j0 + j1;
 j1 = v7;
 j2 = v8;
 copy(m, j0, j1, j2);
-l5:;
+}
 j0 = v5;
 j1 = v8;
 store64(p1 + 1616, j1);
@@ -85567,13 +87279,13 @@ j0 = v0;
 j1 = UINT64_C(36);
 j0 = j0 + j1;
 i0 = load8(p4 + 36);
-if (i0) { goto l10; }
+if (!i0) {
 j0 = UINT64_C(0);
 v8 = j0;
 i0 = UINT32_C(0);
 v14 = i0;
 goto l9;
-l10:;
+}
 j0 = v0;
 j1 = UINT64_C(28);
 j0 = j0 + j1;
@@ -85713,7 +87425,7 @@ v2 = i0;
 i0 = UINT32_C(0);
 v6 = i0;
 goto l2;
-l4:;
+}
 fio2070_trap();
 l3:;
 i0 = UINT32_C(0);
@@ -85800,7 +87512,7 @@ j2 = UINT64_C(773);
 fill(m, j0, i1, j2);
 j0 = v3;
 i0 = (j0 == 0);
-if (i0) { goto l12; }
+if (!i0) {
 j0 = v5;
 j1 = UINT64_C(1627);
 j0 = j0 + j1;
@@ -85809,7 +87521,7 @@ j2 = UINT64_C(8);
 j1 = j1 + j2;
 j2 = v3;
 copy(m, j0, j1, j2);
-l12:;
+}
 j0 = v0;
 j1 = UINT64_C(41);
 j0 = j0 + j1;
@@ -85926,20 +87638,18 @@ j0 = v5;
 j1 = UINT64_C(2400);
 j0 = j0 + j1;
 m->g0 = j0;
-return;
 }
 static uint32_t enter_log_signs_sign(struct machine *m, uint64_t v0)
 {
 uint32_t v1 = 0;
 uint32_t i0;
 uint64_t j0;
-uint32_t r;
+uint32_t r = 0;
 i0 = rattle_enter(m);
 i0 = (i0 == 0);
-if (i0) { goto l2; }
+if (!i0) {
 fio2070_trap();
-fio2070_trap();
-l2:;
+}
 j0 = v0;
 i0 = proved_log_signs_sign(m, j0);
 v1 = i0;
@@ -85965,13 +87675,13 @@ uint64_t j1;
 uint64_t j2;
 uint64_t j3;
 uint64_t j4;
-uint32_t r;
+uint32_t r = 0;
 uint8_t *p1;
 uint8_t *p2;
 j0 = m->g0;
 j1 = UINT64_C(16);
 i0 = (SIGNED64(j0) < SIGNED64(j1));
-if (i0) { goto l3; }
+if (!i0) {
 j0 = v0;
 j1 = UINT64_C(24);
 j0 = j0 + j1;
@@ -85998,7 +87708,7 @@ i0 = load32(p1 + 0);
 v5 = i0;
 i1 = UINT32_C(8);
 i0 = (i0 < i1);
-if (i0) { goto l5; }
+if (!i0) {
 i0 = v5;
 j0 = (uint64_t)i0;
 j1 = UINT64_C(1);
@@ -86012,15 +87722,15 @@ j2 = UINT64_C(5);
 j1 = j1 * j2;
 i0 = (j0 <= j1);
 if (i0) { goto l4; }
-l5:;
+}
 i0 = v4;
 i1 = UINT32_C(8);
 i0 = (i0 >= i1);
-if (i0) { goto l6; }
+if (!i0) {
 i0 = UINT32_C(0);
 r = i0;
 return r;
-l6:;
+}
 j0 = v3;
 j1 = UINT64_C(1);
 j0 = j0 << (j1 & 63);
@@ -86047,7 +87757,7 @@ i2 = (j2 < j3);
 i0 = i2 ? i0 : i1;
 r = i0;
 return r;
-l3:;
+}
 fio2070_trap();
 l2:;
 i0 = UINT32_C(0);
@@ -86074,14 +87784,12 @@ uint32_t i0;
 uint64_t j0;
 i0 = rattle_enter(m);
 i0 = (i0 == 0);
-if (i0) { goto l2; }
+if (!i0) {
 fio2070_trap();
-fio2070_trap();
-l2:;
+}
 j0 = v0;
 proved_log_judge_lose(m, j0);
 rattle_leave(m);
-return;
 }
 static void proved_log_judge_lose(struct machine *m, uint64_t v0)
 {
@@ -86144,7 +87852,7 @@ j0 = v1;
 v1 = j0;
 j1 = UINT64_C(16);
 i0 = (SIGNED64(j0) < SIGNED64(j1));
-if (i0) { goto l4; }
+if (!i0) {
 i0 = UINT32_C(0);
 v2 = i0;
 j0 = v1;
@@ -86162,7 +87870,7 @@ i0 = load8(p1 + 13);
 v4 = i0;
 i1 = UINT32_C(1);
 i0 = (i0 != i1);
-if (i0) { goto l6; }
+if (!i0) {
 j0 = v1;
 i0 = load8(p1 + 12);
 v5 = i0;
@@ -86191,7 +87899,7 @@ j0 = v1;
 i0 = load8(p1 + 4);
 v2 = i0;
 goto l5;
-l6:;
+}
 i0 = UINT32_C(0);
 v12 = i0;
 i0 = UINT32_C(0);
@@ -86309,7 +88017,7 @@ v33 = i0;
 i0 = UINT32_C(0);
 v34 = i0;
 goto l2;
-l4:;
+}
 fio2070_trap();
 l3:;
 j0 = v1;
@@ -86601,7 +88309,6 @@ j0 = v1;
 j1 = UINT64_C(1472);
 j0 = j0 + j1;
 m->g0 = j0;
-return;
 }
 static void enter_log_judge_miss(struct machine *m, uint64_t v0)
 {
@@ -86609,14 +88316,12 @@ uint32_t i0;
 uint64_t j0;
 i0 = rattle_enter(m);
 i0 = (i0 == 0);
-if (i0) { goto l2; }
+if (!i0) {
 fio2070_trap();
-fio2070_trap();
-l2:;
+}
 j0 = v0;
 proved_log_judge_miss(m, j0);
 rattle_leave(m);
-return;
 }
 static void proved_log_judge_miss(struct machine *m, uint64_t v0)
 {
@@ -86673,7 +88378,7 @@ j0 = v1;
 v1 = j0;
 j1 = UINT64_C(16);
 i0 = (SIGNED64(j0) < SIGNED64(j1));
-if (i0) { goto l4; }
+if (!i0) {
 i0 = UINT32_C(0);
 v2 = i0;
 j0 = v1;
@@ -86787,7 +88492,7 @@ v30 = i0;
 i0 = UINT32_C(0);
 v31 = i0;
 goto l2;
-l4:;
+}
 fio2070_trap();
 l3:;
 j0 = v1;
@@ -87035,7 +88740,6 @@ j0 = v1;
 j1 = UINT64_C(1472);
 j0 = j0 + j1;
 m->g0 = j0;
-return;
 }
 static void enter_log_judge_possible(struct machine *m, uint64_t v0)
 {
@@ -87043,14 +88747,12 @@ uint32_t i0;
 uint64_t j0;
 i0 = rattle_enter(m);
 i0 = (i0 == 0);
-if (i0) { goto l2; }
+if (!i0) {
 fio2070_trap();
-fio2070_trap();
-l2:;
+}
 j0 = v0;
 proved_log_judge_possible(m, j0);
 rattle_leave(m);
-return;
 }
 static void proved_log_judge_possible(struct machine *m, uint64_t v0)
 {
@@ -87113,7 +88815,7 @@ j0 = v1;
 v1 = j0;
 j1 = UINT64_C(16);
 i0 = (SIGNED64(j0) < SIGNED64(j1));
-if (i0) { goto l4; }
+if (!i0) {
 j0 = v1;
 i1 = UINT32_C(0);
 j2 = UINT64_C(760);
@@ -87167,17 +88869,17 @@ i0 = load8(p1 + 756);
 v16 = i0;
 i1 = UINT32_C(1);
 i0 = i0 & i1;
-if (i0) { goto l6; }
+if (!i0) {
 i0 = v6;
 v2 = i0;
 goto l5;
-l6:;
+}
 i0 = v6;
 i1 = UINT32_C(255);
 i0 = i0 & i1;
 i1 = UINT32_C(1);
 i0 = (i0 == i1);
-if (i0) { goto l7; }
+if (!i0) {
 i0 = UINT32_C(2);
 v2 = i0;
 i0 = UINT32_C(0);
@@ -87198,7 +88900,7 @@ i0 = UINT32_C(0);
 v8 = i0;
 i0 = UINT32_C(0);
 v7 = i0;
-l7:;
+}
 i0 = v5;
 i1 = UINT32_C(255);
 i0 = i0 & i1;
@@ -87312,7 +89014,7 @@ v33 = i0;
 i0 = UINT32_C(0);
 v34 = i0;
 goto l2;
-l4:;
+}
 fio2070_trap();
 l3:;
 j0 = v1;
@@ -87589,7 +89291,6 @@ j0 = v1;
 j1 = UINT64_C(1472);
 j0 = j0 + j1;
 m->g0 = j0;
-return;
 }
 static uint32_t enter_log_judge_start(struct machine *m, uint64_t v0, uint64_t v1, uint32_t v2, uint32_t v3)
 {
@@ -87599,14 +89300,13 @@ uint32_t i2;
 uint32_t i3;
 uint64_t j0;
 uint64_t j1;
-uint32_t r;
+uint32_t r = 0;
 uint8_t *p1;
 i0 = rattle_enter(m);
 i0 = (i0 == 0);
-if (i0) { goto l2; }
+if (!i0) {
 fio2070_trap();
-fio2070_trap();
-l2:;
+}
 j0 = v0;
 j1 = v1;
 p1 = read_at(j1, m, 4u);
@@ -87637,7 +89337,7 @@ uint32_t i4;
 uint64_t j0;
 uint64_t j1;
 uint64_t j2;
-uint32_t r;
+uint32_t r = 0;
 uint8_t *p1;
 uint8_t *p2;
 j0 = m->g0;
@@ -87650,7 +89350,7 @@ j0 = v4;
 v4 = j0;
 j1 = UINT64_C(16);
 i0 = (SIGNED64(j0) < SIGNED64(j1));
-if (i0) { goto l2; }
+if (!i0) {
 i0 = UINT32_C(1);
 v5 = i0;
 i0 = v1;
@@ -87660,7 +89360,7 @@ i1 = UINT32_C(65535);
 i0 = i0 & i1;
 i1 = UINT32_C(8191);
 i0 = (i0 > i1);
-if (i0) { goto l3; }
+if (!i0) {
 i0 = v1;
 i1 = UINT32_C(16);
 i0 = i0 >> (i1 & 31);
@@ -87668,7 +89368,7 @@ v6 = i0;
 i1 = UINT32_C(255);
 i0 = i0 & i1;
 i0 = (i0 == 0);
-if (i0) { goto l3; }
+if (!i0) {
 i0 = v2;
 i1 = UINT32_C(255);
 i0 = i0 & i1;
@@ -88047,7 +89747,7 @@ i1 = load8(p1 + 1420);
 store8(p1 + 12, i1);
 i0 = v5;
 i0 = (i0 == 0);
-if (i0) { goto l10; }
+if (!i0) {
 j0 = v4;
 j1 = v4;
 j1 = load64(p1 + 680);
@@ -88155,7 +89855,7 @@ j0 = v4;
 i1 = UINT32_C(0);
 store8(p1 + 1388, i1);
 goto l9;
-l10:;
+}
 j0 = v4;
 i1 = UINT32_C(0);
 store8(p1 + 1388, i1);
@@ -88551,7 +90251,8 @@ j0 = v0;
 j1 = v4;
 i1 = load32(p1 + 688);
 store32(p2 + 747, i1);
-l3:;
+}
+}
 j0 = v4;
 j1 = UINT64_C(2080);
 j0 = j0 + j1;
@@ -88559,7 +90260,7 @@ m->g0 = j0;
 i0 = v5;
 r = i0;
 return r;
-l2:;
+}
 fio2070_trap();
 return r;
 }
@@ -88571,16 +90272,14 @@ uint64_t j0;
 uint64_t j2;
 i0 = rattle_enter(m);
 i0 = (i0 == 0);
-if (i0) { goto l2; }
+if (!i0) {
 fio2070_trap();
-fio2070_trap();
-l2:;
+}
 j0 = v0;
 i1 = v1;
 j2 = v2;
 proved_log_signs_batch(m, j0, i1, j2);
 rattle_leave(m);
-return;
 }
 static void proved_log_signs_batch(struct machine *m, uint64_t v0, uint32_t v1, uint64_t v2)
 {
@@ -88647,7 +90346,7 @@ j0 = v3;
 v4 = j0;
 j1 = UINT64_C(16);
 i0 = (SIGNED64(j0) < SIGNED64(j1));
-if (i0) { goto l3; }
+if (!i0) {
 j0 = v0;
 j1 = UINT64_C(32);
 j0 = j0 + j1;
@@ -88673,14 +90372,14 @@ i0 = i2 ? i0 : i1;
 j0 = (uint64_t)i0;
 v3 = j0;
 i0 = (j0 == 0);
-if (i0) { goto l4; }
+if (!i0) {
 j0 = v4;
 j1 = UINT64_C(840);
 j0 = j0 + j1;
 j1 = v6;
 j2 = v3;
 copy(m, j0, j1, j2);
-l4:;
+}
 j0 = v4;
 j1 = v3;
 store64(p1 + 1616, j1);
@@ -88737,13 +90436,13 @@ j0 = v0;
 j1 = UINT64_C(36);
 j0 = j0 + j1;
 i0 = load8(p4 + 36);
-if (i0) { goto l9; }
+if (!i0) {
 j0 = UINT64_C(0);
 v3 = j0;
 i0 = UINT32_C(0);
 v12 = i0;
 goto l8;
-l9:;
+}
 j0 = v0;
 j1 = UINT64_C(28);
 j0 = j0 + j1;
@@ -88901,7 +90600,7 @@ i0 = v1;
 i1 = UINT32_C(255);
 i0 = i0 & i1;
 i0 = (i0 == 0);
-if (i0) { goto l10; }
+if (!i0) {
 j0 = UINT64_C(65536);
 v2 = j0;
 i0 = UINT32_C(0);
@@ -88911,10 +90610,10 @@ v21 = j0;
 l11:;
 i0 = v5;
 i0 = (i0 == 0);
-if (i0) { goto l12; }
+if (!i0) {
 j0 = v3;
 i0 = (j0 == 0);
-if (i0) { goto l12; }
+if (!i0) {
 j0 = v2;
 j1 = v17;
 p8 = read_at(j1, m, 2u);
@@ -88932,7 +90631,7 @@ p9 = read_at(j0, m, 1u);
 i0 = load8(p9 + 0);
 i1 = UINT32_C(1);
 i0 = (i0 != i1);
-if (i0) { goto l13; }
+if (!i0) {
 j0 = v21;
 j1 = UINT64_C(27);
 j0 = j0 + j1;
@@ -88964,11 +90663,11 @@ v14 = i0;
 j0 = v22;
 i0 = (j0 == 0);
 i0 = (i0 == 0);
-if (i0) { goto l19; }
+if (!i0) {
 i0 = UINT32_C(1);
 v7 = i0;
 goto l18;
-l19:;
+}
 j0 = v18;
 p11 = read_at(j0, m, 1u);
 i0 = (uint32_t)extend(load8(p11 + 0), 7);
@@ -88990,7 +90689,7 @@ i3 = v14;
 j4 = v18;
 j5 = v22;
 fio_check_log_signs_LogSigns_frame(m, j0, i1, i2, i3, j4, j5);
-l13:;
+}
 j0 = v17;
 j1 = UINT64_C(2);
 j0 = j0 + j1;
@@ -89012,7 +90711,8 @@ i1 = UINT32_C(4294967295);
 i0 = i0 + i1;
 v5 = i0;
 goto l11;
-l12:;
+}
+}
 j0 = v20;
 i0 = (j0 == 0);
 if (i0) { goto l2; }
@@ -89033,7 +90733,7 @@ j1 = UINT64_C(32);
 j0 = j0 + j1;
 v19 = j0;
 goto l11;
-l10:;
+}
 j0 = UINT64_C(65536);
 v2 = j0;
 i0 = UINT32_C(0);
@@ -89043,12 +90743,12 @@ v21 = j0;
 l20:;
 i0 = v5;
 i0 = (i0 == 0);
-if (i0) { goto l22; }
+if (!i0) {
 j0 = v3;
 j1 = UINT64_C(0);
 i0 = (j0 != j1);
 if (i0) { goto l21; }
-l22:;
+}
 j0 = v20;
 i0 = (j0 == 0);
 if (i0) { goto l2; }
@@ -89087,7 +90787,7 @@ p15 = read_at(j0, m, 1u);
 i0 = load8(p15 + 0);
 i1 = UINT32_C(1);
 i0 = (i0 != i1);
-if (i0) { goto l23; }
+if (!i0) {
 i0 = UINT32_C(0);
 v16 = i0;
 i0 = UINT32_C(0);
@@ -89117,11 +90817,11 @@ l24:;
 j0 = v22;
 i0 = (j0 == 0);
 i0 = (i0 == 0);
-if (i0) { goto l28; }
+if (!i0) {
 i0 = UINT32_C(1);
 v7 = i0;
 goto l27;
-l28:;
+}
 j0 = v18;
 p17 = read_at(j0, m, 1u);
 i0 = (uint32_t)extend(load8(p17 + 0), 7);
@@ -89138,7 +90838,7 @@ i3 = v16;
 j4 = v18;
 j5 = v22;
 fio_check_log_signs_LogSigns_frame(m, j0, i1, i2, i3, j4, j5);
-l23:;
+}
 j0 = v17;
 j1 = UINT64_C(2);
 j0 = j0 + j1;
@@ -89160,7 +90860,7 @@ i1 = UINT32_C(4294967295);
 i0 = i0 + i1;
 v5 = i0;
 goto l20;
-l3:;
+}
 fio2070_trap();
 l2:;
 j0 = v4;
@@ -89223,7 +90923,7 @@ j2 = UINT64_C(773);
 fill(m, j0, i1, j2);
 j0 = v3;
 i0 = (j0 == 0);
-if (i0) { goto l29; }
+if (!i0) {
 j0 = v4;
 j1 = UINT64_C(1627);
 j0 = j0 + j1;
@@ -89232,7 +90932,7 @@ j2 = UINT64_C(8);
 j1 = j1 + j2;
 j2 = v3;
 copy(m, j0, j1, j2);
-l29:;
+}
 j0 = v0;
 j1 = UINT64_C(41);
 j0 = j0 + j1;
@@ -89349,7 +91049,6 @@ j0 = v4;
 j1 = UINT64_C(2400);
 j0 = j0 + j1;
 m->g0 = j0;
-return;
 }
 static uint32_t enter_log_counts_batch(struct machine *m, uint64_t v0, uint64_t v1, uint64_t v2)
 {
@@ -89358,13 +91057,12 @@ uint32_t i0;
 uint64_t j0;
 uint64_t j1;
 uint64_t j2;
-uint32_t r;
+uint32_t r = 0;
 i0 = rattle_enter(m);
 i0 = (i0 == 0);
-if (i0) { goto l2; }
+if (!i0) {
 fio2070_trap();
-fio2070_trap();
-l2:;
+}
 j0 = v0;
 j1 = v1;
 j2 = v2;
@@ -89400,7 +91098,7 @@ uint64_t j2;
 uint64_t j3;
 uint64_t j4;
 uint64_t j5;
-uint32_t r;
+uint32_t r = 0;
 uint8_t *p1;
 uint8_t *p2;
 uint8_t *p3;
@@ -89420,7 +91118,7 @@ j0 = v3;
 v4 = j0;
 j1 = UINT64_C(16);
 i0 = (SIGNED64(j0) < SIGNED64(j1));
-if (i0) { goto l3; }
+if (!i0) {
 j0 = v1;
 j1 = UINT64_C(4);
 j0 = j0 + j1;
@@ -89475,12 +91173,12 @@ l6:;
 i0 = v5;
 i1 = UINT32_C(1);
 i0 = (i0 == i1);
-if (i0) { goto l8; }
+if (!i0) {
 j0 = v6;
 j1 = UINT64_C(0);
 i0 = (j0 != j1);
 if (i0) { goto l7; }
-l8:;
+}
 j0 = v9;
 i0 = (j0 == 0);
 if (i0) { goto l2; }
@@ -89505,7 +91203,7 @@ i0 = load8(p3 + 8);
 v13 = i0;
 i1 = UINT32_C(5);
 i0 = (i0 != i1);
-if (i0) { goto l10; }
+if (!i0) {
 j0 = v12;
 v11 = j0;
 j0 = v12;
@@ -89527,7 +91225,7 @@ i0 = i0 & i1;
 i0 = (i0 == 0);
 if (i0) { goto l4; }
 goto l9;
-l10:;
+}
 j0 = v12;
 v11 = j0;
 i0 = v13;
@@ -89578,7 +91276,7 @@ p7 = read_at(j0, m, 1u);
 i0 = load8(p7 + 0);
 i1 = UINT32_C(1);
 i0 = (i0 != i1);
-if (i0) { goto l12; }
+if (!i0) {
 j0 = v4;
 j1 = v0;
 j2 = v11;
@@ -89604,7 +91302,7 @@ i0 = load8(p1 + 0);
 i1 = UINT32_C(1);
 i0 = (i0 == i1);
 if (i0) { goto l11; }
-l12:;
+}
 j0 = v8;
 j1 = UINT64_C(2);
 j0 = j0 + j1;
@@ -89649,7 +91347,7 @@ v10 = j0;
 j0 = v14;
 v7 = j0;
 goto l5;
-l3:;
+}
 fio2070_trap();
 l2:;
 j0 = v4;
@@ -89670,13 +91368,12 @@ uint64_t j2;
 uint64_t j3;
 uint64_t j4;
 uint64_t j5;
-uint32_t r;
+uint32_t r = 0;
 i0 = rattle_enter(m);
 i0 = (i0 == 0);
-if (i0) { goto l2; }
+if (!i0) {
 fio2070_trap();
-fio2070_trap();
-l2:;
+}
 j0 = v0;
 i1 = v1;
 j2 = v2;
@@ -89707,7 +91404,7 @@ uint64_t j4;
 uint64_t j5;
 uint64_t j6;
 uint64_t j7;
-uint32_t r;
+uint32_t r = 0;
 uint8_t *p2;
 uint8_t *p3;
 j0 = m->g0;
@@ -89719,9 +91416,9 @@ j0 = v6;
 v6 = j0;
 j1 = UINT64_C(15);
 i0 = (SIGNED64(j0) > SIGNED64(j1));
-if (i0) { goto l2; }
+if (!i0) {
 fio2070_trap();
-l2:;
+}
 j0 = v6;
 j1 = v0;
 i2 = v1;
@@ -89771,13 +91468,12 @@ uint32_t i1;
 uint64_t j0;
 uint64_t j2;
 uint64_t j3;
-uint32_t r;
+uint32_t r = 0;
 i0 = rattle_enter(m);
 i0 = (i0 == 0);
-if (i0) { goto l2; }
+if (!i0) {
 fio2070_trap();
-fio2070_trap();
-l2:;
+}
 j0 = v0;
 i1 = v1;
 j2 = v2;
@@ -89842,7 +91538,7 @@ uint64_t j2;
 uint64_t j3;
 uint64_t j5;
 uint64_t j6;
-uint32_t r;
+uint32_t r = 0;
 uint8_t *p1;
 uint8_t *p2;
 uint8_t *p3;
@@ -89865,7 +91561,7 @@ j0 = v4;
 v4 = j0;
 j1 = UINT64_C(16);
 i0 = (SIGNED64(j0) < SIGNED64(j1));
-if (i0) { goto l2; }
+if (!i0) {
 i0 = UINT32_C(0);
 v5 = i0;
 j0 = v4;
@@ -89956,12 +91652,12 @@ j0 = v15;
 v2 = j0;
 i0 = v5;
 i0 = (i0 == 0);
-if (i0) { goto l9; }
+if (!i0) {
 j0 = v7;
 j1 = UINT64_C(0);
 i0 = (j0 != j1);
 if (i0) { goto l8; }
-l9:;
+}
 j0 = v10;
 i0 = (j0 == 0);
 if (i0) { goto l7; }
@@ -90041,7 +91737,7 @@ j0 = v4;
 i0 = load8(p1 + 1485);
 i1 = UINT32_C(1);
 i0 = (i0 == i1);
-if (i0) { goto l14; }
+if (!i0) {
 j0 = v11;
 j1 = UINT64_C(0);
 p5 = write_at(j0, m, 9u);
@@ -90055,14 +91751,14 @@ store8(p1 + 1473, i1);
 j0 = v4;
 i1 = UINT32_C(2);
 store8(p1 + 1485, i1);
-l14:;
+}
 j0 = v4;
 i0 = load8(p1 + 2160);
-if (i0) { goto l15; }
+if (!i0) {
 j0 = v4;
 i1 = UINT32_C(1);
 store8(p1 + 2160, i1);
-l15:;
+}
 j0 = v2;
 v14 = j0;
 j0 = v4;
@@ -90088,7 +91784,7 @@ j0 = v4;
 i0 = load8(p1 + 1485);
 i1 = UINT32_C(1);
 i0 = (i0 == i1);
-if (i0) { goto l16; }
+if (!i0) {
 j0 = v11;
 j1 = UINT64_C(0);
 p6 = write_at(j0, m, 9u);
@@ -90102,14 +91798,14 @@ store8(p1 + 1473, i1);
 j0 = v4;
 i1 = UINT32_C(2);
 store8(p1 + 1485, i1);
-l16:;
+}
 j0 = v4;
 i0 = load8(p1 + 2160);
-if (i0) { goto l17; }
+if (!i0) {
 j0 = v4;
 i1 = UINT32_C(1);
 store8(p1 + 2160, i1);
-l17:;
+}
 j0 = v2;
 v14 = j0;
 j0 = v4;
@@ -90150,7 +91846,7 @@ p8 = read_at(j0, m, 1u);
 i0 = load8(p8 + 0);
 i1 = UINT32_C(1);
 i0 = (i0 == i1);
-if (i0) { goto l18; }
+if (!i0) {
 i0 = UINT32_C(5);
 v17 = i0;
 i0 = UINT32_C(0);
@@ -90160,7 +91856,7 @@ v18 = i0;
 i0 = UINT32_C(0);
 v19 = i0;
 goto l4;
-l18:;
+}
 i0 = UINT32_C(0);
 v17 = i0;
 i0 = UINT32_C(0);
@@ -90197,11 +91893,11 @@ l19:;
 j0 = v15;
 i0 = (j0 == 0);
 i0 = (i0 == 0);
-if (i0) { goto l23; }
+if (!i0) {
 i0 = UINT32_C(1);
 v18 = i0;
 goto l22;
-l23:;
+}
 j0 = v8;
 p10 = read_at(j0, m, 1u);
 i0 = (uint32_t)extend(load8(p10 + 0), 7);
@@ -90288,7 +91984,7 @@ i0 = load8(p1 + 1476);
 v35 = i0;
 j0 = v4;
 i0 = load8(p1 + 2208);
-if (i0) { goto l25; }
+if (!i0) {
 j0 = v4;
 j1 = UINT64_C(2248);
 j0 = j0 + j1;
@@ -90324,7 +92020,7 @@ v42 = i0;
 i0 = UINT32_C(0);
 v43 = i0;
 goto l24;
-l25:;
+}
 j0 = v4;
 i1 = UINT32_C(0);
 store32(p1 + 2232, i1);
@@ -90825,7 +92521,7 @@ v12 = j0;
 j0 = v2;
 v15 = j0;
 goto l3;
-l2:;
+}
 fio2070_trap();
 return r;
 }
@@ -90838,13 +92534,12 @@ uint64_t j0;
 uint64_t j3;
 uint64_t j4;
 uint64_t j5;
-uint32_t r;
+uint32_t r = 0;
 i0 = rattle_enter(m);
 i0 = (i0 == 0);
-if (i0) { goto l2; }
+if (!i0) {
 fio2070_trap();
-fio2070_trap();
-l2:;
+}
 j0 = v0;
 i1 = v1;
 i2 = v2;
@@ -90901,7 +92596,7 @@ uint64_t j2;
 uint64_t j3;
 uint64_t j5;
 uint64_t j6;
-uint32_t r;
+uint32_t r = 0;
 uint8_t *p1;
 uint8_t *p2;
 uint8_t *p3;
@@ -90915,7 +92610,7 @@ j0 = v6;
 v6 = j0;
 j1 = UINT64_C(16);
 i0 = (SIGNED64(j0) < SIGNED64(j1));
-if (i0) { goto l4; }
+if (!i0) {
 j0 = v3;
 j1 = UINT64_C(4096);
 j2 = UINT64_C(0);
@@ -91073,7 +92768,7 @@ i0 = load8(p1 + 788);
 v28 = i0;
 j0 = v6;
 i0 = load8(p1 + 1520);
-if (i0) { goto l9; }
+if (!i0) {
 j0 = v6;
 j1 = UINT64_C(1560);
 j0 = j0 + j1;
@@ -91107,7 +92802,7 @@ v34 = i0;
 i0 = UINT32_C(0);
 v35 = i0;
 goto l8;
-l9:;
+}
 j0 = v6;
 i1 = UINT32_C(0);
 store32(p1 + 1544, i1);
@@ -91495,7 +93190,7 @@ i1 = i1 & i2;
 i0 = i0 | i1;
 v1 = i0;
 goto l2;
-l4:;
+}
 fio2070_trap();
 l3:;
 i0 = UINT32_C(0);
@@ -91539,13 +93234,12 @@ uint64_t j0;
 uint64_t j1;
 uint64_t j2;
 uint64_t j3;
-uint64_t r;
+uint64_t r = 0;
 i0 = rattle_enter(m);
 i0 = (i0 == 0);
-if (i0) { goto l2; }
+if (!i0) {
 fio2070_trap();
-fio2070_trap();
-l2:;
+}
 j0 = v0;
 j1 = v1;
 j2 = v2;
@@ -91584,7 +93278,7 @@ uint64_t j0;
 uint64_t j1;
 uint64_t j2;
 uint64_t j3;
-uint64_t r;
+uint64_t r = 0;
 uint8_t *p1;
 uint8_t *p2;
 uint8_t *p3;
@@ -91630,10 +93324,10 @@ j0 = m->g0;
 v4 = j0;
 j1 = UINT64_C(16);
 i0 = (SIGNED64(j0) < SIGNED64(j1));
-if (i0) { goto l2; }
+if (!i0) {
 j0 = v2;
 i0 = (j0 == 0);
-if (i0) { goto l4; }
+if (!i0) {
 j0 = UINT64_C(4096);
 j1 = UINT64_C(0);
 j2 = v1;
@@ -91647,7 +93341,7 @@ p1 = read_at(j0, m, 1u);
 i0 = load8(p1 + 0);
 i1 = UINT32_C(1);
 i0 = (i0 != i1);
-if (i0) { goto l5; }
+if (!i0) {
 j0 = v0;
 j1 = UINT64_C(451736);
 j0 = j0 + j1;
@@ -91658,7 +93352,7 @@ j2 = UINT64_C(451728);
 j1 = j1 + j2;
 j1 = load64(p2 + 0);
 i0 = (j0 != j1);
-if (i0) { goto l5; }
+if (!i0) {
 j0 = v0;
 j1 = UINT64_C(65536);
 j0 = j0 + j1;
@@ -91667,21 +93361,21 @@ j0 = load64(p3 + 0);
 v6 = j0;
 i0 = (j0 == 0);
 v7 = i0;
-if (i0) { goto l6; }
+if (!i0) {
 i0 = v7;
-if (i0) { goto l7; }
+if (!i0) {
 j0 = v0;
 i1 = UINT32_C(0);
 j2 = v6;
 fill(m, j0, i1, j2);
-l7:;
+}
 j0 = v0;
 j1 = UINT64_C(65536);
 j0 = j0 + j1;
 j1 = UINT64_C(0);
 p4 = write_at(j0, m, 8u);
 store64(p4 + 0, j1);
-l6:;
+}
 j0 = v0;
 j1 = UINT64_C(65552);
 j0 = j0 + j1;
@@ -91699,26 +93393,26 @@ j0 = j0 + j1;
 j0 = load64(p5 + 7504);
 v6 = j0;
 i0 = (j0 == 0);
-if (i0) { goto l8; }
+if (!i0) {
 j0 = v6;
 j1 = UINT64_C(936);
 j0 = j0 * j1;
 v6 = j0;
 i0 = (j0 == 0);
-if (i0) { goto l9; }
+if (!i0) {
 j0 = v0;
 j1 = UINT64_C(65560);
 j0 = j0 + j1;
 i1 = UINT32_C(0);
 j2 = v6;
 fill(m, j0, i1, j2);
-l9:;
+}
 j0 = v0;
 j1 = UINT64_C(73048);
 j0 = j0 + j1;
 j1 = UINT64_C(0);
 store64(p5 + 7504, j1);
-l8:;
+}
 j0 = v0;
 j1 = UINT64_C(73064);
 j0 = j0 + j1;
@@ -91746,26 +93440,26 @@ j0 = j0 + j1;
 j0 = load64(p6 + 1248);
 v6 = j0;
 i0 = (j0 == 0);
-if (i0) { goto l10; }
+if (!i0) {
 j0 = v6;
 j1 = UINT64_C(304);
 j0 = j0 * j1;
 v6 = j0;
 i0 = (j0 == 0);
-if (i0) { goto l11; }
+if (!i0) {
 j0 = v0;
 j1 = UINT64_C(73088);
 j0 = j0 + j1;
 i1 = UINT32_C(0);
 j2 = v6;
 fill(m, j0, i1, j2);
-l11:;
+}
 j0 = v0;
 j1 = UINT64_C(74304);
 j0 = j0 + j1;
 j1 = UINT64_C(0);
 store64(p6 + 1248, j1);
-l10:;
+}
 j0 = v0;
 j1 = UINT64_C(74312);
 j0 = j0 + j1;
@@ -91778,20 +93472,21 @@ j0 = j0 + j1;
 j0 = load64(p7 + 208040);
 v6 = j0;
 i0 = (j0 == 0);
-if (i0) { goto l12; }
+if (!i0) {
 j0 = v6;
 j1 = UINT64_C(3152);
 j0 = j0 * j1;
 v6 = j0;
 i0 = (j0 == 0);
-if (i0) { goto l12; }
+if (!i0) {
 j0 = v0;
 j1 = UINT64_C(74320);
 j0 = j0 + j1;
 i1 = UINT32_C(0);
 j2 = v6;
 fill(m, j0, i1, j2);
-l12:;
+}
+}
 j0 = v0;
 j1 = UINT64_C(282376);
 j0 = j0 + j1;
@@ -91809,26 +93504,26 @@ j0 = j0 + j1;
 j0 = load64(p8 + 24600);
 v6 = j0;
 i0 = (j0 == 0);
-if (i0) { goto l13; }
+if (!i0) {
 j0 = v6;
 j1 = UINT64_C(2);
 j0 = j0 << (j1 & 63);
 v6 = j0;
 i0 = (j0 == 0);
-if (i0) { goto l14; }
+if (!i0) {
 j0 = v0;
 j1 = UINT64_C(298776);
 j0 = j0 + j1;
 i1 = UINT32_C(0);
 j2 = v6;
 fill(m, j0, i1, j2);
-l14:;
+}
 j0 = v0;
 j1 = UINT64_C(306968);
 j0 = j0 + j1;
 j1 = UINT64_C(0);
 store64(p8 + 24600, j1);
-l13:;
+}
 j0 = v0;
 j1 = UINT64_C(298768);
 j0 = j0 + j1;
@@ -91836,22 +93531,22 @@ j0 = load64(p8 + 16400);
 v6 = j0;
 i0 = (j0 == 0);
 v7 = i0;
-if (i0) { goto l15; }
+if (!i0) {
 i0 = v7;
-if (i0) { goto l16; }
+if (!i0) {
 j0 = v0;
 j1 = UINT64_C(282384);
 j0 = j0 + j1;
 i1 = UINT32_C(0);
 j2 = v6;
 fill(m, j0, i1, j2);
-l16:;
+}
 j0 = v0;
 j1 = UINT64_C(298768);
 j0 = j0 + j1;
 j1 = UINT64_C(0);
 store64(p8 + 16400, j1);
-l15:;
+}
 j0 = v0;
 j1 = UINT64_C(372512);
 j0 = j0 + j1;
@@ -91859,27 +93554,27 @@ p9 = read_at(j0, m, 8u);
 j0 = load64(p9 + 0);
 v6 = j0;
 i0 = (j0 == 0);
-if (i0) { goto l17; }
+if (!i0) {
 j0 = v6;
 j1 = UINT64_C(2);
 j0 = j0 << (j1 & 63);
 v6 = j0;
 i0 = (j0 == 0);
-if (i0) { goto l18; }
+if (!i0) {
 j0 = v0;
 j1 = UINT64_C(306976);
 j0 = j0 + j1;
 i1 = UINT32_C(0);
 j2 = v6;
 fill(m, j0, i1, j2);
-l18:;
+}
 j0 = v0;
 j1 = UINT64_C(372512);
 j0 = j0 + j1;
 j1 = UINT64_C(0);
 p10 = write_at(j0, m, 8u);
 store64(p10 + 0, j1);
-l17:;
+}
 j0 = v0;
 j1 = UINT64_C(372648);
 j0 = j0 + j1;
@@ -91960,26 +93655,26 @@ j0 = j0 + j1;
 j0 = load64(p11 + 72856);
 v6 = j0;
 i0 = (j0 == 0);
-if (i0) { goto l19; }
+if (!i0) {
 j0 = v6;
 j1 = UINT64_C(904);
 j0 = j0 * j1;
 v6 = j0;
 i0 = (j0 == 0);
-if (i0) { goto l20; }
+if (!i0) {
 j0 = v0;
 j1 = UINT64_C(442768);
 j0 = j0 + j1;
 i1 = UINT32_C(0);
 j2 = v6;
 fill(m, j0, i1, j2);
-l20:;
+}
 j0 = v0;
 j1 = UINT64_C(445480);
 j0 = j0 + j1;
 j1 = UINT64_C(0);
 store64(p11 + 72856, j1);
-l19:;
+}
 j0 = v0;
 j1 = UINT64_C(446272);
 j0 = j0 + j1;
@@ -91987,27 +93682,27 @@ p12 = read_at(j0, m, 8u);
 j0 = load64(p12 + 0);
 v6 = j0;
 i0 = (j0 == 0);
-if (i0) { goto l21; }
+if (!i0) {
 j0 = v6;
 j1 = UINT64_C(96);
 j0 = j0 * j1;
 v6 = j0;
 i0 = (j0 == 0);
-if (i0) { goto l22; }
+if (!i0) {
 j0 = v0;
 j1 = UINT64_C(445504);
 j0 = j0 + j1;
 i1 = UINT32_C(0);
 j2 = v6;
 fill(m, j0, i1, j2);
-l22:;
+}
 j0 = v0;
 j1 = UINT64_C(446272);
 j0 = j0 + j1;
 j1 = UINT64_C(0);
 p13 = write_at(j0, m, 8u);
 store64(p13 + 0, j1);
-l21:;
+}
 j0 = v0;
 j1 = UINT64_C(446288);
 j0 = j0 + j1;
@@ -92070,26 +93765,26 @@ j0 = j0 + j1;
 j0 = load64(p14 + 1656);
 v6 = j0;
 i0 = (j0 == 0);
-if (i0) { goto l23; }
+if (!i0) {
 j0 = v6;
 j1 = UINT64_C(784);
 j0 = j0 * j1;
 v6 = j0;
 i0 = (j0 == 0);
-if (i0) { goto l24; }
+if (!i0) {
 j0 = v0;
 j1 = UINT64_C(446368);
 j0 = j0 + j1;
 i1 = UINT32_C(0);
 j2 = v6;
 fill(m, j0, i1, j2);
-l24:;
+}
 j0 = v0;
 j1 = UINT64_C(447936);
 j0 = j0 + j1;
 j1 = UINT64_C(0);
 store64(p14 + 1656, j1);
-l23:;
+}
 j0 = v0;
 j1 = UINT64_C(451080);
 j0 = j0 + j1;
@@ -92097,27 +93792,27 @@ p15 = read_at(j0, m, 8u);
 j0 = load64(p15 + 0);
 v6 = j0;
 i0 = (j0 == 0);
-if (i0) { goto l25; }
+if (!i0) {
 j0 = v6;
 j1 = UINT64_C(5);
 j0 = j0 << (j1 & 63);
 v6 = j0;
 i0 = (j0 == 0);
-if (i0) { goto l26; }
+if (!i0) {
 j0 = v0;
 j1 = UINT64_C(447944);
 j0 = j0 + j1;
 i1 = UINT32_C(0);
 j2 = v6;
 fill(m, j0, i1, j2);
-l26:;
+}
 j0 = v0;
 j1 = UINT64_C(451080);
 j0 = j0 + j1;
 j1 = UINT64_C(0);
 p16 = write_at(j0, m, 8u);
 store64(p16 + 0, j1);
-l25:;
+}
 j0 = v0;
 j1 = UINT64_C(451088);
 j0 = j0 + j1;
@@ -92130,33 +93825,34 @@ j0 = j0 + j1;
 j0 = load64(p17 + 568);
 v6 = j0;
 i0 = (j0 == 0);
-if (i0) { goto l27; }
+if (!i0) {
 j0 = v6;
 j1 = UINT64_C(3);
 j0 = j0 << (j1 & 63);
 v6 = j0;
 i0 = (j0 == 0);
-if (i0) { goto l28; }
+if (!i0) {
 j0 = v0;
 j1 = UINT64_C(451096);
 j0 = j0 + j1;
 i1 = UINT32_C(0);
 j2 = v6;
 fill(m, j0, i1, j2);
-l28:;
+}
 j0 = v0;
 j1 = UINT64_C(451656);
 j0 = j0 + j1;
 j1 = UINT64_C(0);
 store64(p17 + 568, j1);
-l27:;
+}
 j0 = v0;
 j1 = UINT64_C(451672);
 j0 = j0 + j1;
 i1 = UINT32_C(0);
 j2 = UINT64_C(76);
 fill(m, j0, i1, j2);
-l5:;
+}
+}
 j0 = v1;
 j1 = v5;
 j0 = j0 + j1;
@@ -92247,7 +93943,7 @@ j0 = v0;
 j1 = UINT64_C(65552);
 j0 = j0 + j1;
 i0 = load8(p22 + 0);
-if (i0) { goto l40; }
+if (!i0) {
 j0 = v12;
 p23 = read_at(j0, m, 1u);
 i0 = load8(p23 + 0);
@@ -92272,7 +93968,7 @@ j0 = j0 - j1;
 v14 = j0;
 j1 = UINT64_C(8);
 i0 = (j0 < j1);
-if (i0) { goto l41; }
+if (!i0) {
 j0 = v14;
 j1 = UINT64_C(18446744073709551608);
 j0 = j0 & j1;
@@ -92385,11 +94081,12 @@ i0 = (j0 > j1);
 if (i0) { goto l42; }
 j0 = v15;
 v1 = j0;
+}
 l41:;
 j0 = v1;
 j1 = v14;
 i0 = (j0 >= j1);
-if (i0) { goto l43; }
+if (!i0) {
 j0 = v11;
 j1 = v6;
 j2 = v1;
@@ -92420,6 +94117,7 @@ i0 = (j0 != j1);
 if (i0) { goto l44; }
 j0 = v14;
 v1 = j0;
+}
 l43:;
 j0 = v0;
 j1 = v0;
@@ -92453,14 +94151,14 @@ v16 = j0;
 j0 = v1;
 j1 = UINT64_C(4);
 i0 = (j0 < j1);
-if (i0) { goto l45; }
+if (!i0) {
 j0 = v1;
 j1 = UINT64_C(18446744073709551612);
 j0 = j0 & j1;
 v19 = j0;
 j0 = UINT64_C(0);
 v16 = j0;
-l46:;
+for (;;) {
 j0 = v18;
 j1 = v16;
 j0 = j0 + j1;
@@ -92503,11 +94201,12 @@ j2 = UINT64_C(4);
 j1 = j1 + j2;
 v16 = j1;
 i0 = (j0 != j1);
-if (i0) { goto l46; }
+if (!i0) break;
+}
 j0 = v15;
 i0 = (j0 == 0);
 if (i0) { goto l37; }
-l45:;
+}
 j0 = v0;
 j1 = v16;
 j2 = v17;
@@ -92543,7 +94242,7 @@ j1 = UINT64_C(0);
 i0 = (j0 != j1);
 if (i0) { goto l47; }
 goto l37;
-l40:;
+}
 j0 = v12;
 p31 = read_at(j0, m, 1u);
 i0 = load8(p31 + 0);
@@ -92562,21 +94261,21 @@ j0 = load64(p32 + 0);
 v1 = j0;
 i0 = (j0 == 0);
 v20 = i0;
-if (i0) { goto l48; }
+if (!i0) {
 i0 = v20;
-if (i0) { goto l49; }
+if (!i0) {
 j0 = v0;
 i1 = UINT32_C(0);
 j2 = v1;
 fill(m, j0, i1, j2);
-l49:;
+}
 j0 = v0;
 j1 = UINT64_C(65536);
 j0 = j0 + j1;
 j1 = UINT64_C(0);
 p33 = write_at(j0, m, 8u);
 store64(p33 + 0, j1);
-l48:;
+}
 j0 = v0;
 j1 = UINT64_C(65552);
 j0 = j0 + j1;
@@ -92608,11 +94307,12 @@ goto l33;
 l38:;
 j0 = v1;
 i0 = (j0 == 0);
-if (i0) { goto l37; }
+if (!i0) {
 j0 = v18;
 j1 = v12;
 j2 = v1;
 copy(m, j0, j1, j2);
+}
 l37:;
 j0 = v0;
 j1 = UINT64_C(65536);
@@ -92627,7 +94327,7 @@ l36:;
 j0 = v16;
 j1 = v5;
 i0 = (j0 >= j1);
-if (i0) { goto l51; }
+if (!i0) {
 j0 = v5;
 j1 = UINT64_C(3);
 j0 = j0 & j1;
@@ -92639,14 +94339,14 @@ j1 = UINT64_C(18446744073709486083);
 j0 = j0 + j1;
 j1 = UINT64_C(3);
 i0 = (j0 < j1);
-if (i0) { goto l52; }
+if (!i0) {
 j0 = v5;
 j1 = UINT64_C(18446744073709551612);
 j0 = j0 & j1;
 v19 = j0;
 j0 = UINT64_C(0);
 v16 = j0;
-l53:;
+for (;;) {
 j0 = v18;
 j1 = v16;
 j0 = j0 + j1;
@@ -92689,11 +94389,12 @@ j2 = UINT64_C(4);
 j1 = j1 + j2;
 v16 = j1;
 i0 = (j0 != j1);
-if (i0) { goto l53; }
+if (!i0) break;
+}
 j0 = v15;
 i0 = (j0 == 0);
 if (i0) { goto l50; }
-l52:;
+}
 j0 = v0;
 j1 = v16;
 j2 = v17;
@@ -92729,14 +94430,15 @@ j1 = UINT64_C(0);
 i0 = (j0 != j1);
 if (i0) { goto l54; }
 goto l50;
-l51:;
+}
 j0 = v5;
 i0 = (j0 == 0);
-if (i0) { goto l50; }
+if (!i0) {
 j0 = v18;
 j1 = v12;
 j2 = v5;
 copy(m, j0, j1, j2);
+}
 l50:;
 j0 = v0;
 j1 = UINT64_C(65544);
@@ -92796,7 +94498,7 @@ j1 = v2;
 i0 = (j0 < j1);
 if (i0) { goto l29; }
 goto l3;
-l4:;
+}
 j0 = UINT64_C(0);
 v9 = j0;
 j0 = v3;
@@ -92815,7 +94517,7 @@ m->g0 = j0;
 j0 = v9;
 r = j0;
 return r;
-l2:;
+}
 fio2070_trap();
 return r;
 }
@@ -93047,6 +94749,33 @@ size_t fio2070_block_entries(const uint8_t *octets, size_t length, struct fio207
 uint32_t fio2070_widen(uint32_t answer_stamp, uint16_t stamp) {
     MACHINE(fio2070_widen);
     return call_fio2070_widen(&machine, answer_stamp, stamp);
+}
+
+/* ---- How often to poll over a line ---- */
+
+uint8_t fio2070_plan(const struct fio2070_line *line, struct fio2070_pace *pace) {
+    uint8_t from[24] = {0}, into[32] = {0}, planned;
+    MACHINE(fio2070_plan);
+    put32(from, line->rate);
+    put32(from + 4, line->answer);
+    put32(from + 8, line->other);
+    put16(from + 12, line->lost);
+    put16(from + 14, line->waiting);
+    from[16] = line->per_block;
+    from[17] = line->inputs;
+    from[18] = line->filter;
+    from[19] = line->stop_bits;
+    {
+        uint64_t a = READS(from, 24), b = WRITES(into, 32);
+        planned = (uint8_t)call_fio2070_plan(&machine, a, b);
+    }
+    if (planned == FIO2070_PACE_FOUND) {
+        pace->scans = get64(into);
+        pace->round = get64(into + 8);
+        pace->late = get64(into + 16);
+        pace->load = get64(into + 24);
+    }
+    return planned;
 }
 
 /* ---- Any message ---- */
@@ -93475,6 +95204,11 @@ OVER(sized_module, receive, 1, size_t, return (size_t),
      (struct fio2070_sized_module * sized_module, struct fio2070_ring ring, const uint8_t *octets, size_t length, uint8_t *out,
       size_t room),
      it, WRITES(ring.slots, ring.capacity * 3), ring.capacity, READS(octets, length), length, WRITES(out, room), room)
+OVER(sized_module, makers_command, 1, uint8_t, return (uint8_t),
+     (struct fio2070_sized_module * sized_module, const uint8_t *octets, size_t length), it, READS(octets, length), length)
+OVER(sized_module, answer_other, 1, size_t, return (size_t),
+     (struct fio2070_sized_module * sized_module, uint8_t command, const uint8_t *body, size_t length, uint8_t *out, size_t room),
+     it, command, READS(body, length), length, WRITES(out, room), room)
 
 struct fio2070_state fio2070_sized_module_state(const struct fio2070_sized_module *sized_module) {
     uint8_t into[48] = {0};

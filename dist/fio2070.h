@@ -3,9 +3,9 @@
  *
  * The field I/O transition link of the Model 2070: the header of fio2070.c.
  *
- * Sources: e7bcd800e015bae25524d4a8698315b8581dd3524b54fe4dddc1fd3708b027d8 (SHA-256; packaging/release-files --sources)
+ * Sources: 47c2bf2168810543ec86723077402a7804d166e4ffda3f9e686349ea01c41a2f (SHA-256; packaging/release-files --sources)
  * Kit: rattle-kit-13f logic dac8208d650f15bf
- * Proof: logic=proved functions=213 target=wasm64-unknown-unknown sum=dac8208d650f15bf native=nat,char,string
+ * Proof: logic=proved functions=219 target=wasm64-unknown-unknown sum=dac8208d650f15bf native=nat,char,string
  * Made by `make release-files`: do not edit.
  *
  * Proved is the module of which fio2070.c was made, for wasm64: each call does what fio2070.h says for all octets,
@@ -466,6 +466,71 @@ size_t fio2070_wire_bits_message_length(const struct fio2070_wire_bits *bits);
 
 /** @} */
 
+/** @defgroup plan How often to poll over a line (own profile)
+ * Between its poll and its answer a line carries the bits of both, with flags, stuffing and frame check, and takes its time. A
+ * CPU that polls at a pace sends a poll so many scans after the one before, or as soon as it has heard the answer, if that is
+ * later. Over a line as in a struct fio2070_line, at a pace that fio2070_plan finds, each round ends before the next one, no
+ * transition is lost, and none is later than `late` scans.
+ * @code
+ * struct fio2070_line line = {0};
+ * struct fio2070_pace pace;
+ * line.rate = 614400; // bit/s, with a scan each millisecond
+ * line.waiting = FIO2070_STANDARD_WAITING, line.per_block = FIO2070_MOST_ENTRIES;
+ * line.inputs = 64, line.filter = 5;
+ * if (fio2070_plan(&line, &pace) == FIO2070_PACE_FOUND) printf("poll every %d ms\n", (int)pace.scans); // poll every 4 ms
+ * @endcode
+ * @{ */
+
+/** What fio2070_plan finds. */
+enum fio2070_planned {
+    FIO2070_PACE_FOUND = 0, /**< the least pace */
+    FIO2070_NO_PACE = 1,    /**< the line has none: it is too slow for what its inputs may report */
+    FIO2070_NO_LINE = 2     /**< the rate is 0, or no inputs or more than 64 may be open */
+};
+
+/** A line between the two ends, and what may have to be reported over it. */
+struct fio2070_line {
+    /** How many bits the line carries in 1,000 scans: in a second, if a scan is a millisecond. 1 or more. */
+    uint32_t rate;
+    /** Within how many scans of its receipt of a poll the module begins its answer. */
+    uint32_t answer;
+    /** At most how many bits of other traffic the line carries between a poll and its answer. */
+    uint32_t other;
+    /** At most how many rounds in a row the line loses. */
+    uint16_t lost;
+    /** How many entries may wait. */
+    uint16_t waiting;
+    /** How many entries a block takes. */
+    uint8_t per_block;
+    /** How many inputs may be open, 1 to 64. */
+    uint8_t inputs;
+    /** How many samples their filters have at least; 0 acts as 1. */
+    uint8_t filter;
+    /** How many stop bits an octet has on an asynchronous line; 0 for a synchronous line. */
+    uint8_t stop_bits;
+    /** Not read. */
+    uint8_t reserved[4];
+};
+
+/** A pace of a line, in scans. */
+struct fio2070_pace {
+    /** How many scans apart polls are sent. */
+    uint64_t scans;
+    /** How many scans a round takes at most. */
+    uint64_t round;
+    /** How many scans a transition is late at most, until it is in the record. */
+    uint64_t late;
+    /** How much of the line's time a round's bits take at most, in thousandths. */
+    uint64_t load;
+};
+
+/** Finds the least pace at which a line can be polled, so that each round ends before the next one and nothing is lost.
+ * Returns FIO2070_PACE_FOUND; otherwise FIO2070_NO_PACE or FIO2070_NO_LINE, and `pace` is unchanged. */
+FIO2070_MUST_USE
+uint8_t fio2070_plan(const struct fio2070_line *line, struct fio2070_pace *pace);
+
+/** @} */
+
 /** @defgroup poller The CPU's end (own profile)
  * A struct fio2070_poller says for which block to poll, and takes each block once. The caller sends the poll, waits for the
  * answer, and keeps the record: the list of the items that were taken.
@@ -780,8 +845,8 @@ struct fio2070_content_checker {
             uint64_t hidden;
             uint64_t reopened;
             uint64_t touched;
-            uint64_t told;
-            uint64_t told_levels;
+            uint64_t shown;
+            uint64_t shown_levels;
             uint64_t unlogged;
             uint64_t shut;
             uint64_t levels;
@@ -1529,7 +1594,8 @@ struct fio2070_sized_module {
         uint8_t flags;
         uint8_t watchdog;
         uint8_t pushed_out;
-        uint8_t reserved[7];
+        uint8_t awaited;
+        uint8_t reserved[6];
         struct fio2070_counter counter;
         struct fio2070_outputs outputs;
         struct fio2070_filters filters;
@@ -1579,6 +1645,23 @@ void fio2070_sized_module_count_transmit_error(struct fio2070_sized_module *modu
 FIO2070_MUST_USE
 size_t fio2070_sized_module_receive(struct fio2070_sized_module *module, struct fio2070_ring ring, const uint8_t *octets,
                                     size_t length, uint8_t *out, size_t room);
+/** The counts that say why an answer of the maker is refused: more than any room. */
+#define FIO2070_NOT_AWAITED (SIZE_MAX - 1)   /**< none is awaited: it was given, or the octets asked about last are no such command */
+#define FIO2070_OTHER_AWAITED (SIZE_MAX - 2) /**< the answer to a command of another type is awaited */
+#define FIO2070_BODY_TOO_LONG (SIZE_MAX - 3) /**< the body has more than 772 octets */
+
+/** Returns the type of the command in the octets of a frame that was received, if the maker of the module answers it: 56, 57 or
+ * 59, or 60 if its identification is to have another length than the one octet of _receive; its body is the octets after the
+ * first. Its answer is awaited from then on. For any other octets it returns 0, and no answer is awaited. */
+uint8_t fio2070_sized_module_makers_command(struct fio2070_sized_module *module, const uint8_t *octets, size_t length);
+/** Writes the octets of the maker's answer to a command of this type to the front of `out`, and returns how many they are, 1 to
+ * 773: the type plus 128 (TEES 2009), and the body. Once for each _makers_command. Nothing else of the module changes.
+ *
+ * If the answer is refused nothing changes, and the result is the first of these that applies: FIO2070_NOT_AWAITED,
+ * FIO2070_OTHER_AWAITED or FIO2070_BODY_TOO_LONG. If it is longer than `room` nothing changes, and it may be given again. */
+FIO2070_MUST_USE
+size_t fio2070_sized_module_answer_other(struct fio2070_sized_module *module, uint8_t command, const uint8_t *body,
+                                         size_t length, uint8_t *out, size_t room);
 /** Returns what the module is at present. */
 struct fio2070_state fio2070_sized_module_state(const struct fio2070_sized_module *module);
 
@@ -1623,6 +1706,14 @@ FIO2070_MUST_USE
 static inline size_t fio2070_module_receive(struct fio2070_module *module, const uint8_t *octets, size_t length, uint8_t *out,
                                             size_t room) {
     return fio2070_sized_module_receive(&module->sized, FIO2070_RING(module->slots), octets, length, out, room);
+}
+static inline uint8_t fio2070_module_makers_command(struct fio2070_module *module, const uint8_t *octets, size_t length) {
+    return fio2070_sized_module_makers_command(&module->sized, octets, length);
+}
+FIO2070_MUST_USE
+static inline size_t fio2070_module_answer_other(struct fio2070_module *module, uint8_t command, const uint8_t *body,
+                                                 size_t length, uint8_t *out, size_t room) {
+    return fio2070_sized_module_answer_other(&module->sized, command, body, length, out, room);
 }
 static inline struct fio2070_state fio2070_module_state(const struct fio2070_module *module) {
     return fio2070_sized_module_state(&module->sized);
@@ -1760,6 +1851,22 @@ FIO2070_SAME(sized_module, sizeof(struct fio2070_sized_module) == 1056);
 
 FIO2070_SAME(error_counts, sizeof(struct fio2070_error_counts) == 2 &&
              offsetof(struct fio2070_error_counts, transmit) == 1);
+
+FIO2070_SAME(line, sizeof(struct fio2070_line) == 24 &&
+             offsetof(struct fio2070_line, answer) == 4 &&
+             offsetof(struct fio2070_line, other) == 8 &&
+             offsetof(struct fio2070_line, lost) == 12 &&
+             offsetof(struct fio2070_line, waiting) == 14 &&
+             offsetof(struct fio2070_line, per_block) == 16 &&
+             offsetof(struct fio2070_line, inputs) == 17 &&
+             offsetof(struct fio2070_line, filter) == 18 &&
+             offsetof(struct fio2070_line, stop_bits) == 19 &&
+             offsetof(struct fio2070_line, reserved) == 20);
+
+FIO2070_SAME(pace, sizeof(struct fio2070_pace) == 32 &&
+             offsetof(struct fio2070_pace, round) == 8 &&
+             offsetof(struct fio2070_pace, late) == 16 &&
+             offsetof(struct fio2070_pace, load) == 24);
 
 FIO2070_SAME(poller, sizeof(struct fio2070_poller) == 1);
 

@@ -3,9 +3,9 @@
  *
  * The field I/O transition link of the Model 2070: the header for C++17, above fio2070.h.
  *
- * Sources: e7bcd800e015bae25524d4a8698315b8581dd3524b54fe4dddc1fd3708b027d8 (SHA-256; packaging/release-files --sources)
+ * Sources: 47c2bf2168810543ec86723077402a7804d166e4ffda3f9e686349ea01c41a2f (SHA-256; packaging/release-files --sources)
  * Kit: rattle-kit-13f logic dac8208d650f15bf
- * Proof: logic=proved functions=213 target=wasm64-unknown-unknown sum=dac8208d650f15bf native=nat,char,string
+ * Proof: logic=proved functions=219 target=wasm64-unknown-unknown sum=dac8208d650f15bf native=nat,char,string
  * Made by `make release-files`: do not edit.
  *
  * Proved is the module of which fio2070.c was made, for wasm64: each call does what fio2070.h says for all octets,
@@ -202,6 +202,13 @@ inline std::string rule_text(std::uint8_t rule) {
 }
 inline std::string content_rule_text(std::uint8_t rule) {
     return text_of([rule](char *text, std::size_t room) { return ::fio2070_content_rule_text(rule, text, room); });
+}
+
+/// Returns the least pace at which a line can be polled, or nothing if it has none or its numbers are out of range.
+inline std::optional<::fio2070_pace> plan(const ::fio2070_line &line) {
+    ::fio2070_pace pace;
+    if (::fio2070_plan(&line, &pace) != FIO2070_PACE_FOUND) return std::nullopt;
+    return pace;
 }
 
 inline std::uint32_t widen(std::uint32_t answer_stamp, std::uint16_t stamp) {
@@ -631,6 +638,40 @@ private:
     ::fio2070_filters filters_{};
 };
 
+/// Why an answer of the module's maker is refused.
+enum class AnswerRefusal {
+    not_awaited,   ///< none is awaited: it was given, or the octets asked about last are no command of the maker
+    other_awaited, ///< the answer to a command of another type is awaited
+    too_long,      ///< the body has more than 772 octets
+};
+
+/// An answer of the module's maker, or why it is refused.
+class MakersAnswer {
+public:
+    template <typename Write>
+    explicit MakersAnswer(Write write) {
+        frame_ = Frame::of_some([&](auto *out, auto room) {
+            count_ = write(out, room);
+            return count_;
+        });
+    }
+    explicit operator bool() const { return frame_.has_value(); }
+    const std::optional<Frame> &frame() const { return frame_; }
+    const Frame &operator*() const { return *frame_; }
+    const Frame *operator->() const { return &*frame_; }
+    /// None where there is an answer.
+    std::optional<AnswerRefusal> refusal() const {
+        if (frame_) return std::nullopt;
+        return count_ == FIO2070_NOT_AWAITED     ? AnswerRefusal::not_awaited
+               : count_ == FIO2070_OTHER_AWAITED ? AnswerRefusal::other_awaited
+                                                 : AnswerRefusal::too_long;
+    }
+
+private:
+    std::size_t count_ = 0;
+    std::optional<Frame> frame_;
+};
+
 /// The module, of which as many entries may wait as Waiting says, 1 to 8,192; it has the slots for them.
 template <std::uint16_t Waiting = FIO2070_STANDARD_WAITING>
 class Module {
@@ -660,6 +701,18 @@ public:
     std::optional<Frame> receive(Octets octets) {
         return Frame::of_some([&](auto *out, auto room) {
             return ::fio2070_sized_module_receive(&module_, FIO2070_RING(slots_), octets.data(), octets.size(), out, room);
+        });
+    }
+    /// The type of the command in a frame that was received, if the maker of the module answers it: 56, 57, 59 or 60, else 0. Its
+    /// body is the octets after the first, and its answer is awaited from then on.
+    std::uint8_t makers_command(Octets octets) {
+        return ::fio2070_sized_module_makers_command(&module_, octets.data(), octets.size());
+    }
+    /// The octets of the maker's answer to a command of this type with this body, once for each `makers_command`; or why it is
+    /// refused, and then nothing changes.
+    MakersAnswer answer_other(std::uint8_t command, Octets body) {
+        return MakersAnswer([&](auto *out, auto room) {
+            return ::fio2070_sized_module_answer_other(&module_, command, body.data(), body.size(), out, room);
         });
     }
     /// What it is at present.

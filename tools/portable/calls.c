@@ -651,6 +651,11 @@ OVER(sized_module, receive, 1, size_t, return (size_t),
      (struct fio2070_sized_module * sized_module, struct fio2070_ring ring, const uint8_t *octets, size_t length, uint8_t *out,
       size_t room),
      it, WRITES(ring.slots, ring.capacity * 3), ring.capacity, READS(octets, length), length, WRITES(out, room), room)
+OVER(sized_module, makers_command, 1, uint8_t, return (uint8_t),
+     (struct fio2070_sized_module * sized_module, const uint8_t *octets, size_t length), it, READS(octets, length), length)
+OVER(sized_module, answer_other, 1, size_t, return (size_t),
+     (struct fio2070_sized_module * sized_module, uint8_t command, const uint8_t *body, size_t length, uint8_t *out, size_t room),
+     it, command, READS(body, length), length, WRITES(out, room), room)
 
 struct fio2070_state fio2070_sized_module_state(const struct fio2070_sized_module *sized_module) {
     uint8_t into[48] = {0};
