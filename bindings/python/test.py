@@ -208,6 +208,8 @@ class Messages(unittest.TestCase):
             r'^(?: +|enum \{ |#define )FIO2070_([A-Z0-9_]+)(?: =)? (0x[0-9a-f]+|\d+)\b', declared, re.M)}
         self.assertGreater(len(given), 30)
         given['NO_MESSAGE'] = ctypes.c_size_t(-1).value
+        for name, less in re.findall(r'^#define FIO2070_(\w+) \(SIZE_MAX - (\d)\)', declared, re.M):
+            given[name] = ctypes.c_size_t(-1).value - int(less)
         ours = {name: number for name, number in vars(fio2070.constants).items() if name.isupper()}
         self.assertEqual(ours, given)
         self.assertEqual(fio2070.version(), fio2070.constants.VERSION)
