@@ -106,7 +106,7 @@ fn declared(text: &str, before: &str) -> std::collections::BTreeMap<String, Stri
     let parts = text.split(before).skip(1);
     let pairs = parts.filter_map(|rest| rest.split_once(" = "));
     let named = pairs.map(|(name, rest)| {
-        let value = rest.split([',', ';', ' ', '\n']).next().unwrap_or("");
+        let value = rest.split([',', ';', ')', '}', '/', '\n']).next().unwrap_or("").trim();
         let name = name.split(':').next().unwrap_or("");
         (name.to_string(), value.replace('_', ""))
     });
@@ -119,7 +119,8 @@ fn constants_are_those_of_the_header() {
     let header = include_str!("../../../../include/fio2070.h")
         .replace("= FIO2070_", "= ")
         .replace("#define FIO2070_VERSION ", "FIO2070_VERSION = ")
-        .replace("NO_MESSAGE SIZE_MAX", "NO_MESSAGE = usize::MAX");
+        .replace("NO_MESSAGE SIZE_MAX", "NO_MESSAGE = usize::MAX")
+        .replace(" (SIZE_MAX - ", " = usize::MAX - ");
     let ours = declared(include_str!("../src/constants.rs"), "pub const ");
     assert_eq!(ours, declared(&header, "FIO2070_"));
     assert!(ours.len() > 50);
