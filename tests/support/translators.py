@@ -87,8 +87,6 @@ UNSEEN = [
     ('turns of a loop', Wrong(MACHINE, "size + step * (uint32_t)(turns - 1);", "size;")),
     ('turns without end', Wrong(MACHINE, "turns - 1 > 0xFFFFFFFFu || ", "")),
     ('steps past the end', Wrong(MACHINE, "if ((to - from) % step) fio2070_trap();", "")),
-    ('loop with a way out', Wrong(LOOPS, "return ahead.number() == 0 and ahead.octet() == END",
-                                  "if ahead.number() == 0:\n                return True\n            continue")),
     ('when a loop compares', Wrong(LOOPS, "== self.places_of(moved.base).distance + step", "!= 2 ** 70")),
     ('local that a loop moves', Wrong(LOOPS, "if it == place and index not in self.assigned", "if it.base == place.base")),
 ]
