@@ -8,7 +8,7 @@
  * access outside the arguments of a call, which the proof excludes, ends in FIO2070_TRAP(). FIO2070_UNCHECKED leaves
  * the tests of accesses out. FIO2070_FAST makes the code longer and faster.
  *
- * Sources: 47c2bf2168810543ec86723077402a7804d166e4ffda3f9e686349ea01c41a2f (SHA-256; packaging/release-files --sources)
+ * Sources: cd2d07d5139ee69deeddd98be588bcd4d346e4eff694052046a85cd116595090 (SHA-256; packaging/release-files --sources)
  * Kit: rattle-kit-13f logic dac8208d650f15bf
  * Proof: logic=proved functions=219 target=wasm64-unknown-unknown sum=dac8208d650f15bf native=nat,char,string
  * Made by `make release-files`: do not edit.
@@ -82,7 +82,7 @@ m->g1 = 0;
 /* The module is proved not to come here: the processor or its memory failed, or something else wrote to a struct. By default an
  * instruction that is none ends the program: a signal where there is a system, the handler of faults where there is none. */
 #ifndef FIO2070_TRAP
-#if defined(__GNUC__)
+#if defined(__GNUC__) || defined(__clang__)
 #define FIO2070_TRAP() __builtin_trap()
 #else
 #include <stdlib.h>

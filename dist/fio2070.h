@@ -3,7 +3,7 @@
  *
  * The field I/O transition link of the Model 2070: the header of fio2070.c.
  *
- * Sources: 47c2bf2168810543ec86723077402a7804d166e4ffda3f9e686349ea01c41a2f (SHA-256; packaging/release-files --sources)
+ * Sources: cd2d07d5139ee69deeddd98be588bcd4d346e4eff694052046a85cd116595090 (SHA-256; packaging/release-files --sources)
  * Kit: rattle-kit-13f logic dac8208d650f15bf
  * Proof: logic=proved functions=219 target=wasm64-unknown-unknown sum=dac8208d650f15bf native=nat,char,string
  * Made by `make release-files`: do not edit.

@@ -33,7 +33,7 @@
 /* The module is proved not to come here: the processor or its memory failed, or something else wrote to a struct. By default an
  * instruction that is none ends the program: a signal where there is a system, the handler of faults where there is none. */
 #ifndef FIO2070_TRAP
-#if defined(__GNUC__)
+#if defined(__GNUC__) || defined(__clang__)
 #define FIO2070_TRAP() __builtin_trap()
 #else
 #include <stdlib.h>
