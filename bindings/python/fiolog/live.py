@@ -145,7 +145,6 @@ class Station:
 
 def run(option):
     """Hears the line until it ends; status 1 also if it ends with a fault."""
-    output.end_at_signals()
     for name in ('exec', 'serial', 'fifo'):
         given = getattr(option, name)
         if given is not None and not given.strip():
