@@ -16,10 +16,12 @@ const CHECK_NOTE: &str =
     "fio2070: check judges the order of messages; fio2070 record judges what their entries say";
 
 /// What standard error says below a text of `show` that has a fault, if it is a terminal.
-const SHOW_NOTE: &str = "fio2070: show reads frames, a line of hexadecimal digits each; fiolog reads logs of other tools";
+const SHOW_NOTE: &str =
+    "fio2070: show reads frames, a line of hexadecimal digits each; fiolog reads logs of other tools";
 
-/// What standard error says if a command is given a file as an argument, and it is a terminal.
-const FILE_NOTE: &str = "fio2070: give the file as standard input, as in: fio2070 show < FILE; fiolog reads logs of other tools";
+/// What standard error says if the last argument is none and may name a file, and it is a terminal.
+const FILE_NOTE: &str =
+    "fio2070: give a file as standard input, as in: fio2070 show < FILE; fiolog reads logs of other tools";
 
 fn main(rt: HostRuntime) -> ExitCode {
     match run(&rt) {
@@ -38,7 +40,9 @@ fn run(rt: &HostRuntime) -> Result<u8, AllocError> {
     let words: Vec<String> = words::words(rt, alloc)?;
     let words: Vec<&str> = words.iter().map(|word| word.as_str()).collect(alloc)?;
     let status = run_program(alloc, words.as_slice(), &mut rt.stdin(), &mut rt.stdout());
-    if let Some(note) = note(words.as_slice(), status) && rt.stderr().is_terminal() {
+    if let Some(note) = note(words.as_slice(), status)
+        && rt.stderr().is_terminal()
+    {
         let _ = eprintln!(rt; "{note}");
     }
     Ok(status)
@@ -50,7 +54,7 @@ fn note(words: &[&str], status: u8) -> Option<&'static str> {
         Some(CHECK_NOTE)
     } else if words.len() == 2 && words[1] == "show" && status == 1 {
         Some(SHOW_NOTE)
-    } else if words.len() == 3 && status == 2 {
+    } else if words.len() > 1 && !words[words.len() - 1].starts_with('-') && status == 2 {
         Some(FILE_NOTE)
     } else {
         None
