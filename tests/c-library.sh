@@ -357,7 +357,7 @@ else
     skip 'Python' 'python3 is not installed'
 fi
 if [ -n "$(command -v gcc)" ] && [ -n "$(command -v g++)" ] && [ -n "$(command -v python3)" ]; then
-    for document in README.md docs/C-LIBRARY.md tools/conformance/README.md tools/portable/README.md; do
+    for document in README.md docs/C-LIBRARY.md bindings/python/README.md tools/conformance/README.md tools/portable/README.md; do
         holds "the blocks of $document" reads "$top/$document"
     done
     holds 'the examples of the header' illustrated
