@@ -66,7 +66,8 @@ class Line(NamedTuple):
     nothing makes sure, DOUBTFUL for one below frames; DAMAGED for a line that may have held a frame, or frames that were lost on
     their way here; PIECE for each of the two lines of one message; PART for a further line of the frame above, or of one that
     ends below; BLANK; PASSED for any other. `time` is in seconds, `direction` is `>` or `<`, `note` is the reason; `said` is
-    what the log says of the direction, if it does; `file` is the name of its file, if it is one of several that are read as one log."""
+    what the log says of the direction, if it does; `file` is the name of its file, if it is one of several that are read as one log. Of a
+    line with several messages `message` is which one it is, and `octet` which of all their octets is its first, both from 1."""
     number: int
     kind: str
     raw: bytes = b''
@@ -76,6 +77,14 @@ class Line(NamedTuple):
     note: str = ''
     said: str = ''
     file: str = ''
+    message: int = 0
+    octet: int = 0
+
+    @property
+    def where(self):
+        """Which line it is, and of a line with several messages which message, and where it begins."""
+        parts = ('line', self.number), ('message', self.message), ('octet', self.octet)
+        return ', '.join('%s %d' % part for part in parts if part[1])
 
     @property
     def head(self):
@@ -218,7 +227,11 @@ class Batch:
         frames = range(self.frames_above(line), self.frames_above(line + 1)) if kind in (FRAME, POSSIBLE, DOUBTFUL) else ()
         if not frames:
             return [event._replace(note=REASONS.get(verdict.reason, verdict.reason))]
-        return [event._replace(octets=self.octets[frame], direction=_WAYS[self.senders[frame]]) for frame in frames]
+        events = [event._replace(octets=self.octets[frame], direction=_WAYS[self.senders[frame]]) for frame in frames]
+        if len(events) == 1:
+            return events
+        begins = accumulate((len(one.octets) for one in events), initial=1)
+        return [one._replace(message=place, octet=octet) for place, (one, octet) in enumerate(zip(events, begins), 1)]
 
     def numbered(self, first=0):
         """The events of the lines from this one on, each with the index of its line."""

@@ -98,7 +98,7 @@ class Station:
         """Says what frames break, and where the module restarted."""
         for event, found in broken:
             self.broken['restarted' if found.is_restart else 'breaches in content' if found.is_content else 'breaches'] += 1
-            self._write('line %d: %s: %s\n' % (event.number, self.paint('fault', found.rule), found.meaning))
+            self._write('%s: %s: %s\n' % (event.where, self.paint('fault', found.rule), found.meaning))
 
     def flush(self):
         """Writes out what is held, and the status line on a terminal; and what lines would be that wait, if the log ended now."""
