@@ -46,7 +46,7 @@ static int begin_anew(struct run *run) {
 }
 
 static void make_short(struct run *run) {
-    run->is_cut = !conformance_shrink(&run->ends, fresh_of(run), &run->script, &run->difference, &run->spent);
+    run->is_cut = !conformance_shrink(&run->ends, fresh_of(run), &run->script, &run->difference);
     conformance_simulate(&run->ends, fresh_of(run), &run->script);
 }
 
