@@ -16,6 +16,7 @@ complete -c fiolog -n '__fish_seen_subcommand_from decode check stats convert re
 complete -c fiolog -n '__fish_seen_subcommand_from decode check stats convert record' -l no-check -d 'with --sdlc: each line ends with one frame, without the frame check'
 complete -c fiolog -n '__fish_seen_subcommand_from decode check stats convert record' -l line -x -a 'octets bits bits-high-first' -d 'the file is what a line carried: octets, or bits (bits-high-first), one a clock, as a text of 0 and 1 or eight to an octet'
 complete -c fiolog -n '__fish_seen_subcommand_from decode check stats convert record live' -l address -x -d 'the address of the frames of a line that are judged (14), with or without the control octet (1483), or any'
+complete -c fiolog -n '__fish_seen_subcommand_from decode check stats convert record live' -l like -x -d 'a line with a message as this log writes it, such as "TX 36 05", or @FILE for such lines; may be given again'
 complete -c fiolog -n '__fish_seen_subcommand_from decode check stats convert record' -l merge -d 'read the files as one log, in the order of their times: such as one file of each channel'
 complete -c fiolog -n '__fish_seen_subcommand_from decode check stats convert record live' -s v -l verbose -d 'name each line that is skipped, and why'
 complete -c fiolog -n '__fish_seen_subcommand_from decode check stats convert record' -s q -l quiet -d 'write only errors to standard error'

@@ -416,6 +416,8 @@ public:
     explicit LogReader(::fio2070_log_form form = FIO2070_LOG_AUTO) {
         ::fio2070_log_start(&reader_, static_cast<std::uint8_t>(form));
     }
+    /// Learns forms from sample lines, before octets of the log are read, and returns how many: 0 if they show none.
+    std::uint32_t like(Octets samples) { return ::fio2070_log_like(&reader_, samples.data(), samples.size()); }
     /// Takes octets until all are taken or the batch has no room for another verdict, and returns how many it took. The batch
     /// then has the verdicts that were due. After the end, once each verdict was given, octets begin a new log of the same
     /// form, whose lines are counted from 1.
@@ -424,6 +426,12 @@ public:
     }
     /// Ends the log. Read no octets then, until the batch has no verdicts.
     void end() { ::fio2070_log_end(&reader_); }
+    /// By which forms the lines are read that have a verdict, in the order of the forms.
+    std::vector<::fio2070_log_read_as> forms() const {
+        ::fio2070_log_form_list found;
+        ::fio2070_log_forms(&reader_, &found);
+        return {found.forms, found.forms + found.count};
+    }
 
 private:
     ::fio2070_log_reader reader_;

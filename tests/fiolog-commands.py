@@ -57,8 +57,8 @@ def check_decode(check):
                 [row['line'] for row in fiolog('decode', '--json', '--unanswered', text=cut).objects()])
     check.equal('by order a line ends at a carriage return too', ['1:     > wrong length needed 2 got 1', '2:     > unknown type 110'],
                 fiolog('decode', '--format', 'frames', text='36\r6e\r# a remark\n').out.splitlines())
-    check.equal('a time of the day as the log writes it, with thousandths after a colon', ['1:     07:15:02:100 > poll block 5'],
-                fiolog('decode', text='07:15:02:100 TX 36 05\n').out.splitlines()[:1])
+    check.equal('a time of the day as the log writes it, with thousandths after a colon', ['1:     07:15:02:100 < block 5 entries 0 status 00 stamp 1'],
+                fiolog('decode', text='07:15:02:100 RX B6 05 00 00 00 00 00 01\n').out.splitlines()[:1])
     check.holds('colours where they are asked for', '\x1b[' in fiolog('decode', '--color', 'always', text=LOG).out)
     check.holds('no colours in a pipe', '\x1b[' not in fiolog('decode', text=LOG).out)
 
@@ -99,7 +99,7 @@ def check_judged(check):
                         ('number', 'block 5 was asked for, 6 came'), ('rest', 'the block has no entries, but the block before it says that more wait (C)'),
                         ('same', 'E says that the same block number was asked for again, but'), ('sequence', 'G says that the number is not the one before plus one, but'),
                         ('refusal', 'the module says that it is done (S is 0), but')]:
-        done = fiolog('check', '-q', os.path.join(EXAMPLES, 'breaks-%s.transcript' % rule))
+        done = fiolog('check', '-q', '--format', 'transcript', os.path.join(EXAMPLES, 'breaks-%s.transcript' % rule))
         check.holds('what a message does that breaks ' + rule, ': %s: %s' % (rule, words) in done.out, done.out)
     done = fiolog('check', '-q', text='> 3605\n< b605000300000000\n')
     check.holds('E and G', 'line 2: sequence: E says that the same block number was asked for again, and G' in done.out, done.out)
@@ -116,7 +116,7 @@ def check_judged(check):
 def check_words(check):
     """What is written on standard error, and the statuses."""
     done = fiolog('decode', text=LOG)
-    check.equal('a log that is read whole', (0, 'fiolog: frames of types that may have any length: 2; if the logger cut one off, nothing shows it\n'), (done.status, done.err))
+    check.equal('a log that is read whole', (0, ''), (done.status, done.remarks))
     done = fiolog('decode', '-v', text=LOG + 'link down\n')
     check.holds('a line that is skipped', 'line %d: no octets: link down' % (len(SESSION) + 1) in done.err, done.err)
     check.holds('how many are skipped', '1 of %d lines skipped: no octets' % (len(SESSION) + 1) in done.err)
@@ -237,7 +237,7 @@ def check_check(check):
                 done.found(r'line (\d+): (\w+): ([^:\n]*)'))
     check.holds('how often, from where to where', 'fiolog: advance: 2 times, first in line 3, last in line 6\n' in done.err, done.err)
     timed_log = '07:15:02.100 TX 36 ff\n07:15:02.200 TX 36 00\n'
-    check.holds('since when', 'fiolog: advance: once, in line 2 at 07:15:02.200\n' in fiolog('check', text=timed_log).err)
+    check.holds('since when', 'fiolog: advance: once, in line 2 at 07:15:02.200\n' in fiolog('check', '--like', timed_log.splitlines()[0], text=timed_log).err)
     for name, above, number, words in (
             ('ahead', 13, 15, 'block 14 was due, 15 came: the CPU went on without an answer, and what block 14 had is lost, which '
              'TEES allows; or the log lost a line (own profile)'),
@@ -252,10 +252,10 @@ def check_check(check):
             ('a block with another number', '> 3605\n< b6060000000003e8\n', 'number', 'TEES 2009', False),
             ('an entry that is doubled', text_of('examples/doubled-entry.transcript'), 'fresh', 'TEES 2009; layout own profile', False),
             ('an entry above 63', '> 3605\n< b605014000000000000005\n', 'limits', 'TEES 2009 and own profile', False)):
-        done = fiolog('check', text=text)
+        done = fiolog('check', '--format', 'transcript', text=text)
         check.equal('the source: ' + name, [(rule, source)], done.found(r'^line \d+: (\w+): .* \(([^()]+)\)$'))
-        check.equal('the source in an object: ' + name, [source], [one['source'] for one in fiolog('check', '--json', text=text).objects()[:-1]])
-        done = fiolog('check', '--tees', text=text)
+        check.equal('the source in an object: ' + name, [source], [one['source'] for one in fiolog('check', '--json', '--format', 'transcript', text=text).objects()[:-1]])
+        done = fiolog('check', '--tees', '--format', 'transcript', text=text)
         check.equal('--tees: ' + name, (int(not is_own), is_own), (done.status, '1 breach of a rule that is left out' in done.out))
         check.holds('--explain has the source: ' + name, 'Source: behaviour ' + source.split(';')[0] in fiolog('check', '--explain', rule).out)
     done = fiolog('check', text=text_of('examples/lost-answer.frames'))
@@ -294,7 +294,7 @@ def check_terminal(check, folder):
     for name, value in (('NO_COLOR', '1'), ('TERM', 'dumb')):
         text = on_terminal(sys.executable, ['decode', '-q'], text=LOG, **{name: value})
         check.holds('no colours with %s' % name, '\x1b[' not in text, text)
-    text = on_terminal(sys.executable, ['check', '-q'], text='> 36ff\n> 3600\n')
+    text = on_terminal(sys.executable, ['check', '-q', '--format', 'transcript'], text='> 36ff\n> 3600\n')
     check.holds('the colour of a breach', 'line 2: \x1b[31;1madvance\x1b[0m: block 255 was due' in text, text)
     kept = os.path.join(folder, 'kept')
     # Long by its octets, not by its messages.
@@ -342,12 +342,23 @@ def check_plot(check, folder):
 
 
 def fault_of_following():
-    """`decode` answers each line at once, as with `tail -f`, but a short one of a form that nothing has made sure."""
-    command = started('decode', '-q', stderr=None)
+    """`decode` answers each line at once, as with `tail -f`, once the log has shown its forms; by a sample line from the first line on."""
+    return fault_of_answers(16) or fault_of_answers(0, '--like', 'TX 36 04', '--like', 'RX B6 04 00 00 00 00 00 01')
+
+
+def fault_of_answers(above, *words):
+    """The same below so many rounds."""
+    command = started('decode', '-q', *words, stderr=None)
     try:
-        command.stdin.write(b'TX 36 04\n')
-        for line, expected in [(b'RX B6 04 00 00 00 00 00 01\n', b'poll block 4'), (b'', b'block 4 entries 0'), (b'TX 36 05\n', b'poll block 5'),
-                               (b'RX B6 05 00 00 00 00 00 01\n', b'block 5 entries 0'), (b'TX 36 06\n', b'poll block 6')]:
+        for number in range(256 - above, 256):
+            command.stdin.write(b'TX 36 %02X\nRX B6 %02X 00 00 00 00 00 01\n' % (number, number))
+        command.stdin.flush()
+        for number in range(256 - above, 256):
+            rows = command.stdout.readline(), command.stdout.readline()
+            if not (b'poll block %d' % number in rows[0] and b'block %d entries 0' % number in rows[1]):
+                return rows
+        for line, expected in [(b'TX 36 00\n', b'poll block 0'), (b'RX B6 00 00 00 00 00 00 01\n', b'block 0 entries 0'),
+                               (b'TX 36 01\n', b'poll block 1'), (b'RX B6 01 00 00 00 00 00 01\n', b'block 1 entries 0')]:
             command.stdin.write(line)
             command.stdin.flush()
             found = command.stdout.readline()
@@ -383,7 +394,7 @@ def check_faulty_words(check):
         done = fiolog('decode', *words, text='3605\n')
         check.equal('decode %s' % ' '.join(words), (2, True), (done.status, words[0] in done.err))
     check.equal('live --udp 65536', 2, fiolog('live', '--udp', '65536').status)
-    check.equal('lines from one on', '3:     > poll block 7\n', fiolog('decode', '-q', '--lines', '3-', text='3605\n3606\n3607\n').out)
+    check.equal('lines from one on', '3:     > poll block 7\n', fiolog('decode', '-q', '--format', 'frames', '--lines', '3-', text='3605\n3606\n3607\n').out)
 
 
 def check_hostile(check, folder):
@@ -394,17 +405,16 @@ def check_hostile(check, folder):
                           ('a line of words', b'tx rx ' * 40_000 + b'3605\n'), ('no UTF-8', b'\x80\xfe TX 36 05\n'),
                           ('a long row', b'{"data": "' + b' ' * 200_000 + b'3605"}\n')]:
         done = fiolog('decode', '-v', written(folder, 'hostile', hostile + good))
-        status = 1 if name == 'no UTF-8' else 0     # that line is damaged: it may have held a frame
-        check.equal('below %s' % name, (status, ['2', '3', '4']), (done.status, done.found(r'^([2-9]):')))
+        check.equal('below %s' % name, (0, ['2', '3', '4']), (done.status, done.found(r'^([2-9]):.*[<>]')))
         check.holds('%s is named' % name, 'line 1: ' in done.err or name in ('zeros', 'no UTF-8'), done.err[:300])
     for seed in range(3):
         done = fiolog('decode', written(folder, 'hostile', draw.randbytes(60_000)))
         check.equal('random octets, %d' % seed, (1, ''), (done.status, done.out))
-    packed = gzip.compress(good * 2000)
+    packed = gzip.compress(b''.join(b'TX 36 %02X\nRX B6 %02X 00 00 00 00 00 01\n' % (number % 256, number % 256) for number in range(3000)))
     for name, octets, words in [('gzip', packed, ''), ('a gzip file cut short', packed[:-20], 'is read'),
                                 ('a damaged gzip file', packed[:-60] + bytes(60), 'is read')]:
         done = fiolog('decode', written(folder, 'hostile', octets))
-        check.holds(name, done.out.startswith('1:     > poll block 5\n2:     < block 5') and words in done.err, done.err)
+        check.holds(name, done.out.startswith('1:     > poll block 0\n2:     < block 0') and words in done.err, done.err)
     done = fiolog('decode', os.path.join(EXAMPLES, 'captures', 'udp.pcap'))
     check.equal('a capture file', (0, ['1', '2', '3', '4', '5', '6', '7']), (done.status, done.found(r'^([0-9]+):')))
     done = fiolog('decode', folder)

@@ -1,9 +1,6 @@
 #!/usr/bin/env -S python3 -B
 """Logs that have more than one link in them: lines of other ports, other ids and other programs between those of the link. The
-expected frames are those that were written for the link; no right link is accused. And a message that confirms itself, by a count of
-its entries or items or by its frame check, is found: if the lines directly above and below a line are blank, and the line says no
-other message, that message is the one frame of its line, however it is written, and whatever the rest of the log is. Last line:
-`N passed, M failed`."""
+expected frames are those that were written for the link; no right link is accused. Last line: `N passed, M failed`."""
 
 import random
 
@@ -118,15 +115,6 @@ def check_counters(check):
         check.equal('numbers that change: %s' % name, (frames, {}), (found, broken))
 
 
-def check_directions(check):
-    """Once eight frames had the direction of their lines, a message that has the other one is none."""
-    pairs = [line for number in range(8) for line in ('TX 36 %02x' % number, 'RX b6 %02x 00 00 00 00 00 01' % number)]
-    for name, lines, last in (('the other direction', pairs + ['RX 36 08', 'RX 36 09'], []), ('its own', pairs + ['TX 36 08', 'TX 36 09'], ['3608', '3609']),
-                              ('too few frames', pairs[:6] + ['RX 36 08'], ['3608'])):
-        found, _, _ = read(lines)
-        check.equal('a message with %s' % name, last, [octets.hex() for octets in found[sum(line in pairs for line in lines):]])
-
-
 def check_digits(check):
     """A message that confirms itself is a frame, however many digits its octets have."""
     rows = [(b'\x36' + bytes([number]), bytes([182, number, 1, 12, number // 16, number, 0, 0, 0, 0, number])) for number in range(40, 100)]
@@ -151,73 +139,11 @@ def check_dumps(check):
         check.equal('a dump after %r' % words, frames, found)
 
 
-# A message that confirms itself ---------------------------------------------------------------------------------------
-
-WRITTEN = {
-    'words': lambda octets: octets.hex(' '),
-    'capitals': lambda octets: octets.hex(' ').upper(),
-    'digits without blanks': lambda octets: octets.hex(),
-    'dashes': lambda octets: octets.hex('-'),
-    'colons': lambda octets: octets.hex(':'),
-    'words of four digits': lambda octets: octets.hex(' ', -2),
-    '0x and commas': lambda octets: ', '.join('0x%02x' % octet for octet in octets),
-    'escapes': lambda octets: ''.join('\\x%02x' % octet for octet in octets),
-    'numbers in brackets': lambda octets: str(list(octets)),
-    'bytes of Python': repr,
-}
-FRONTS = '', 'TX ', 'RX ', '07:15:02.123 ', '2026-11-22 07:15:02 RX: ', 'data=', 'sent ', '    '
-TAILS = '', ' ok', ' ; note', ' .'
-
-
-def sure_message(draw):
-    """A message that confirms itself, and the octets that say it."""
-    count = draw.choice([0, 1, 1, 2, 3, 5])
-    block = bytes([182, draw.randrange(256), count]) + draw.randbytes(3 * count) + bytes([draw.choice([0, 2, 4, 8])]) + draw.randbytes(4)
-    items = draw.randrange(1, 4)
-    message = draw.choice([block, bytes([51, items]) + draw.randbytes(3 * items)])
-    if draw.random() < .7:
-        return message, message
-    message = draw.choice([message, bytes([54, draw.randrange(256)]), bytes([179, 0])])
-    octets = with_check(b'\x14\x83' + message)
-    return message, draw.choice([octets, b'~' + octets + b'~'])
-
-
-def other_lines(draw):
-    """Lines that may want the ones below them: cut messages, rows of a dump, octets alone, short messages, words."""
-    in_form = WRITTEN[draw.choice(sorted(WRITTEN))]
-    for _ in range(draw.randrange(6)):
-        message, octets = sure_message(draw)
-        front = draw.choice(FRONTS + ('0000  ', '0010  ', '00000000 '))
-        yield draw.choice([
-            front + in_form(octets[:draw.randrange(1, len(octets) + 1)]),
-            front + '%02x' % draw.choice([35, 36, 49, 53, 54, 182]),
-            front + in_form(bytes([54, draw.randrange(256)])) + draw.choice(TAILS),
-            'connected at 9600 baud',
-            '',
-        ])
-
-
-def check_alone(check, count):
-    """Each way of writing, before and after random lines."""
-    for name, in_form in WRITTEN.items():
-        draw, faults = random.Random(name), []
-        for _ in range(count):
-            message, octets = sure_message(draw)
-            above, below = list(other_lines(draw)), list(other_lines(draw))
-            lines = above + [''] * bool(above) + [draw.choice(FRONTS) + in_form(octets) + draw.choice(TAILS)] + [''] * bool(below) + below
-            place = len(above) + bool(above)
-            verdict = verdicts_on('\n'.join(lines).encode())[place]
-            if (verdict.kind, verdict.frames) != ('frames', (message,)):
-                faults.append((lines, message.hex(), verdict))
-        check.equal('a message that confirms itself, alone: ' + name, [], faults[:1])
-
-
 def main():
-    check = Check(messages=(100, 2000))
+    check = Check()
     use_library(check, 'logs with neighbours')
-    for part in (check_sources, check_others, check_counters, check_directions, check_digits, check_dumps):
+    for part in (check_sources, check_others, check_counters, check_digits, check_dumps):
         part(check)
-    check_alone(check, check.given.messages)
     check.end()
 
 

@@ -77,7 +77,7 @@ def check_judged(check, folder):
             ('an answer that is cut', of_link(*link, cut=3), 0, '1 skipped line (octets may be lost)'),
             ('other packets between', pcap([one for octets in link for one in (ethernet(ipv4(udp(octets))), ethernet(ipv4(bytes(20), protocol=6)),
                                                                               ethernet(ipv4(udp(bytes(12), (53, 5353)))))], 1), 0,
-             '20 skipped lines (no octets 10, octets that are no message 10)')):
+             '20 skipped lines (no octets)')):
         done = fiolog('check', written(folder, 'link.pcap', octets))
         check.equal(name, (status, True), (done.status, words in done.out))
     parts = pcap([ethernet(ipv4(udp(one))) if place != 3 else ethernet(ipv4(udp(one)[:8], part=0x2000)) for place, one in enumerate(link)], 1)

@@ -57,7 +57,7 @@ def check_check(check):
     done = checked(RESTART)
     check.equal('a restart', (['line 6: restarted: ' + WORDS, 'frames 10, polls 4, repeats 0, answers lost 0, gap marks 0, breaches 0, restarted 1',
                                'not judged: 1 loss of sync, 2 frames from a loss of sync to the next poll'],
-                              'fiolog: restarted: once, in line 6\n', 1), (done.out.splitlines(), done.err, done.status))
+                              'fiolog: restarted: once, in line 6\n', 1), (done.out.splitlines(), done.remarks, done.status))
     done = checked(RESTART, '--json')
     check.equal('its object', {'file': '-', 'line': 6, 'outcome': 'restarted', 'says': WORDS}, done.objects()[0])
     check.equal('the object of the summary', (0, 1, 1), (done.summary()['breaches'], done.summary()['restarted'], done.status))
@@ -71,7 +71,7 @@ def check_check(check):
     done = checked(RESTART + JUMP)
     check.equal('a breach below the next poll', (['6: restarted', '11: advance'], True), (done.found(TOLD), 'breaches 1, restarted 1' in done.out))
     check.equal('a watchdog that is forgotten', ['line 4: restarted: the module restarted, or forgot its watchdog: it says that none was set before'],
-                checked(['> 3a32', '< ba00'] * 2).found('^line .*'))
+                checked(['> 3a32', '< ba00'] * 2, '--format', 'transcript').found('^line .*'))
 
 
 def check_others(check, folder):
@@ -167,19 +167,21 @@ def check_losses(check):
 
 
 POLL, ANSWER, LATER = (('frames', '', (bytes.fromhex(digits),)) for digits in ('3605', 'b60500000000000a', '3607'))
-LOSS, HEADING, TEXT, SHORT = (('passed over', reason, ()) for reason in ('loss', 'heading', 'no octets', 'short message'))
+LOSS, HEADING, TEXT, BROKEN = (('passed over', reason, ()) for reason in ('loss', 'heading', 'no octets', 'broken'))
+POSSIBLE, MORE = ('possible', 'no form', ()), ('frames', 'more', LATER[2])
 NEXT_POLL, SENT_AGAIN = (('frames', '', (bytes.fromhex(digits),)) for digits in ('3606', 'b60600020000000b'))
-# Lines, which rules are broken, and how often sync is lost. Block 6 is due below block 5. A remark of loss, or a line that may be a
-# frame, explains that up to the next block or poll, and a block that is sent again up to the next block; a heading that, and what is
-# up to the next poll.
+# Lines, which rules are broken, and how often sync is lost. Block 6 is due below block 5. A remark of loss explains that up to the next
+# block or poll, and a block that is sent again up to the next block; a heading, a line that may be a message, and octets that are in no
+# frame explain that, and what is up to the next poll.
 REMARKS = {
     'other text': ([POLL, ANSWER, TEXT, LATER], {'advance': 1}, 1),
     'a remark of loss': ([POLL, ANSWER, LOSS, LATER], {}, None),
     'one above a block': ([POLL, LOSS, ANSWER, LATER], {'advance': 1}, None),
     'a remark above an answer that nothing waits for': ([POLL, ANSWER, LOSS, ANSWER], {}, None),
-    'a short message, not sure': ([POLL, ANSWER, SHORT, LATER], {}, None),
-    'a short message above such an answer': ([POLL, ANSWER, SHORT, ANSWER], {}, None),
-    'a short message above a block': ([POLL, SHORT, ANSWER, LATER], {'advance': 1}, None),
+    'a line that may be a message': ([POLL, ANSWER, POSSIBLE, LATER], {}, 1),
+    'one above all': ([POSSIBLE, POLL, ANSWER, LATER], {'advance': 1}, 1),
+    'a message that is not whole': ([POLL, ANSWER, BROKEN, LATER], {}, 1),
+    'octets beside a poll': ([POLL, ANSWER, MORE, ANSWER], {}, 2),
     'no remark above such an answer': ([POLL, ANSWER, ANSWER], {'pair': 1}, 1),
     'a remark above the poll for a block that is sent again': ([POLL, ANSWER, LOSS, NEXT_POLL, SENT_AGAIN], {}, None),
     'no remark above such a poll': ([POLL, ANSWER, NEXT_POLL, SENT_AGAIN], {'same': 1}, 1),
@@ -199,7 +201,7 @@ def check_remarks(check, folder):
             found = summary_of(path)
             check_run, live, record = (copied(words, b'')[:2] for words in (
                 ('check', '-q', path), ('live', '-q', '--fifo', path), ('record', '-q', path)))
-        skipped = sum(kind == 'passed over' for kind, _, _ in lines)
+        skipped = sum(kind == 'passed over' and reason != 'broken' for kind, reason, _ in lines)
         check.equal('a summary, ' + name, (broken, skipped, 0), (dict(found.broken), found.left_out['skipped_lines'], found.left_out['damaged_lines']))
         if lost is not None:
             check.equal('losses of sync, ' + name, lost, found.left_out['losses_of_sync'])

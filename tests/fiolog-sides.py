@@ -8,7 +8,7 @@ import tempfile
 
 from support.check import Check
 from support.fiolog import fiolog, use_library, written
-from support.kinds import KINDS, SIGNS, blocks, polls
+from support.kinds import KINDS, LIKE, SIGNS, blocks, polls
 from support.loggers import LOGGERS
 from support.talking import session
 
@@ -57,15 +57,15 @@ def sentences(done):
 def check_sides(check):
     """What is said of a log, by each command that judges."""
     for name, (text, said, breaches, status) in SIDES.items():
-        done = fiolog('check', text=text)
+        done = fiolog('check', *LIKE, text=text)
         check.equal(name, (said, breaches, status), (sentences(done), len(done.found('^line ')), done.status))
         if said and status:
-            record, last = fiolog('record', text=text), fiolog('check', '--json', text=text).summary()
+            record, last = fiolog('record', *LIKE, text=text), fiolog('check', *LIKE, '--json', text=text).summary()
             check.equal('record: ' + name, (said, 0, 1), (sentences(record), record.out.count('breaks') + record.err.count('was due'), record.status))
             not_judged = {key: count for key, count in last['not_judged'].items() if 'frame' in key and count}
             check.equal('no frame is judged: ' + name, {'frames_of_one_direction': last['frames']}, not_judged)
     for words in ('--late-answers', '--start-at-poll', '--whole'):
-        done = fiolog('check', words, text=polls(5, 6, 7, 8))
+        done = fiolog('check', words, *LIKE, text=polls(5, 6, 7, 8))
         check.equal('polls that rise, ' + words, (True, 0, 1), (COMMANDS in done.err, done.out.count('line '), done.status))
 
 
@@ -73,13 +73,13 @@ def check_many(check, folder):
     """A row of a table says it, and so does a live line."""
     paths = [written(folder, name, text) for name, text in (
         ('tx.log', polls(5, 6, 7, 8)), ('rx.log', blocks(5, 6, 7, 8)), ('good.log', polls(5) + blocks(5)))]
-    *rows, _ = fiolog('check', '--json', *paths).objects()
+    *rows, _ = fiolog('check', *LIKE, '--json', *paths).objects()
     found = {os.path.basename(row['file']): (row['breaches'], row.get('remarks')) for row in rows}
     check.equal('logs of one direction in a table', {'tx.log': (0, {'the commands alone': 1}), 'rx.log': (0, {'the answers alone': 1}), 'good.log': (0, None)}, found)
-    check.equal('its status', (1, 0), (fiolog('check', *paths).status, fiolog('check', paths[2], paths[2]).status))
-    check.holds('its words', re.search('tx.log .*the commands alone', fiolog('check', *paths).out))
+    check.equal('its status', (1, 0), (fiolog('check', *LIKE, *paths).status, fiolog('check', *LIKE, paths[2], paths[2]).status))
+    check.holds('its words', re.search('tx.log .*the commands alone', fiolog('check', *LIKE, *paths).out))
     for path, said in zip(paths, (COMMANDS, ANSWERS)):
-        done = fiolog('live', '-q', '--fifo', path)
+        done = fiolog('live', *LIKE, '-q', '--fifo', path)
         check.equal('live on ' + os.path.basename(path), (True, 0, 1), (said in done.err, done.out.count('line '), done.status))
 
 

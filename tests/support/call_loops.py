@@ -64,18 +64,12 @@ def next_log(run):
             yield 'FAILED the next log: %s' % found
 
 
-def dump(count):
-    """Blocks in rows of sixteen octets."""
-    octets = BLOCK * count
-    return ''.join('%08x  %s\n' % (at, octets[at:at + 16].hex(' ')) for at in range(0, len(octets), 16))
-
-
 def ends_with_verdicts_due(run):
-    """Lines that may say a poll wait for those below, so with the frames of a dump their verdicts are due at once. The batch is full
-    before it has them all, and then the log ends with a line that begins another dump. No frame is lost, wherever it is full."""
+    """The first lines with frames wait until they show their form, so their verdicts are due at once. The batch is full before it has
+    them all, and then the log ends with a line that waits. No frame is lost, wherever it is full."""
     for end in ('', '\n'):
         for blank in range(4085, 4097):
-            text = '\n' * blank + ''.join('tick %c 36 %02x\n' % (97 + line, line) for line in range(5)) + dump(4) + '00000000  36 05' + end
+            text = '\n' * blank + ''.join('RX b6 %02x 00 00 00 00 00 01\n' % line for line in range(4)) + 'RX b6 04 00 00 00 00 00 01' + end
             text, frames, taken = text.encode(), 0, 0
             run.call('log_start', '0')
             while taken < len(text):

@@ -8,6 +8,10 @@ from support.tables import TOP
 SIGNS = runpy.run_path(os.path.join(TOP, 'bindings', 'python', 'fiolog', 'log_words.py'))['SIGNS']
 
 
+# Short messages alone show no form: of logs of few of them the lines are given.
+LIKE = '--like', 'TX 36 05', '--like', 'RX B6 05 00 00 00 00 00 01'
+
+
 def polls(*numbers):
     """Polls for these numbers, as lines."""
     return ''.join('TX 36 %02X\n' % number for number in numbers)
@@ -29,7 +33,8 @@ LINES = [line for number in NUMBERS for line in (polls(number), blocks(number))]
 KINDS = {
     'one link in order': (LINES, ''),
     'each frame twice': ([line * 2 for line in LINES], 'twice'),
-    'the logs of both ends': ([line + of_other_end(line) for line in LINES], 'both ends'),
+    # Each line of the other end repeats the frame above: it is a copy, and the log that of one end.
+    'the logs of both ends': ([line + of_other_end(line) for line in LINES], ''),
     'the last line first': (LINES[::-1], 'reversed'),
     'two links': ([line for number in NUMBERS for line in (polls(number), blocks(number), polls(number + 90), blocks(number + 90))],
                   'two links'),

@@ -65,13 +65,6 @@ BY_CHANCE = {
     ('lists of numbers, 114', 203): '3303c22af11641198b363b',
 }
 
-# The lines of them of which it is remarked that they would say a message with a count: the log, the line, and the reason.
-REMARKED = {
-    ('a dump of words, 17', 1498): 'two more',
-    ('sums of files, 31', 706): 'two more',
-    ('lists of numbers, 114', 269): 'two more',
-}
-
 
 def other_text(count, length=2000):
     """Logs of `length` lines each, with `count` lines in all: the name of each, and its text."""

@@ -119,6 +119,15 @@ class CLogBatch(ctypes.Structure):
                 20480), ('octets', c_uint8 * 65536)]
 
 
+class CLogReadAs(ctypes.Structure):
+    _fields_ = [('from', c_uint64), ('lines', c_uint64), ('damaged', c_uint64), ('is_echo', c_uint8),
+                ('front_length', c_uint8), ('reserved', c_uint8 * 6), ('front', c_uint8 * 120)]
+
+
+class CLogFormList(ctypes.Structure):
+    _fields_ = [('count', c_uint32), ('reserved', c_uint8 * 4), ('forms', CLogReadAs * 16)]
+
+
 class CLogCounts(ctypes.Structure):
     _fields_ = [('frames', c_uint64), ('polls', c_uint64), ('repeats', c_uint64), ('unanswered', c_uint64),
                 ('marks', c_uint64), ('entries', c_uint64), ('restarts', c_uint64), ('types', c_uint64 * 256), ('inputs', c_uint64
@@ -246,6 +255,8 @@ _declare('fio2070_log_counts_lose', None, POINTER(CLogCounts))
 _declare('fio2070_log_counts_frame', c_uint8, POINTER(CLogCounts), c_uint8, c_uint64, c_char_p, c_size_t,
          POINTER(c_uint64))
 _declare('fio2070_log_counts_batch', c_uint32, POINTER(CLogCounts), POINTER(CLogBatch), POINTER(c_uint64))
+_declare('fio2070_log_forms', None, POINTER(CLogReader), POINTER(CLogFormList))
+_declare('fio2070_log_like', c_uint32, POINTER(CLogReader), c_char_p, c_size_t)
 _declare('fio2070_log_judge_start', c_uint8, POINTER(CLogJudge), CLimits, c_uint8, c_uint8)
 _declare('fio2070_log_judge_lose', None, POINTER(CLogJudge))
 _declare('fio2070_log_judge_possible', None, POINTER(CLogJudge))

@@ -12,8 +12,9 @@ from .encode import Octets, octets_of
 
 _FORMS = {'auto': constants.LOG_AUTO, 'frames': constants.LOG_FRAMES, 'transcript': constants.LOG_TRANSCRIPT}
 _KINDS = ('blank', 'frames', 'part', 'possible', 'damaged', 'passed over')
-_REASONS = ('', 'no octets', 'no message', 'short message', 'several messages', 'may be longer', 'too long',
-            'bad line', 'exchanged', 'two more', 'loss', 'heading', 'one less')
+# By their numbers, of which some are free.
+_REASONS = ('', 'no octets', 'no message', 'no form', 'more', None, 'too long', 'bad line', None, None, 'loss', 'heading', None, 'copy',
+            'broken')
 _SIDES = ('', '>', '<')
 # The most frames of a batch.
 MOST_FRAMES = c.CLogBatch.lengths.size // 2
@@ -22,24 +23,25 @@ _PIECE = 65536
 # The numbers of struct fio2070_log_verdict and struct fio2070_log_place, in the processor's order of octets: these, and the names
 # that take them below, are written by tools/generate-layouts.
 _VERDICT, _PLACE = struct.Struct('=QQIIBBBB4x'), struct.Struct('=QII')
-# Where in a verdict its kind, whether it has a time and its side are; in words of 32 bits how many frames it has; and in words of 64
-# its line and its time.
-_KIND, _HAS_TIME, _SAID = c.CLogVerdict.kind.offset, c.CLogVerdict.has_time.offset, c.CLogVerdict.said.offset
+# Where in a verdict its kind, its reason, whether it has a time and its side are; in words of 32 bits how many frames it has; and in
+# words of 64 its line and its time.
+_KIND, _REASON = c.CLogVerdict.kind.offset, c.CLogVerdict.reason.offset
+_HAS_TIME, _SAID = c.CLogVerdict.has_time.offset, c.CLogVerdict.said.offset
 _FRAMES, _LINE, _TIME = c.CLogVerdict.frames.offset // 4, c.CLogVerdict.line.offset // 8, c.CLogVerdict.time.offset // 8
 
 
 class Verdict(NamedTuple):
     """What the reader says of a line of a log.
 
-    `line` is its number, from 1. `kind` is 'blank'; 'frames', whose frames these are; 'part', of the frames of a line above;
-    'possible', a message that nothing confirms; 'damaged', which may have held a frame; or 'passed over', skipped. `reason` says why
-    the line gives no frame, in one of these words: 'no octets', 'no message', 'short message', 'several messages', 'may be
-    longer', 'too long', 'exchanged' (a message that has a count, if the octets of each pair are exchanged), 'two more' (one but
-    for two octets at one end), 'one less' (of a damaged line: one but for its last octet), 'loss' (no octets, and words of loss),
-    'heading' (no message, and the heading of a log or of a part of one), and by order 'bad line'; else it is empty. The octets of `frames` are written at `places`, in
-    their order: each is the number of a line, and where it begins and ends there, in octets of UTF-8, after colours, NUL and
-    marks are taken out. `time` is in microseconds since 1970, or since midnight or a start; None if the log has none there. `said` is
-    '>' if the line says that the CPU sent these octets, '<' if the module, else empty."""
+    `line` is its number, from 1. `kind` is 'blank'; 'frames', which end in it, or of which it shows that they ended above; 'part', of
+    a frame that ends below; 'possible', which no form has, and which may be a message; 'damaged', which a form has, and which gives no
+    frame; or 'passed over', skipped. `reason` says why the line gives no frame, in one of these words: 'no octets', 'no message',
+    'no form', 'too long', 'loss' (no octets, and words of loss), 'heading' (no message, and the heading of a log or of a part of one),
+    'copy' (of the frame above), and by order 'bad line'; or what else is in one that does: 'more' (octets that may be a message),
+    'broken' (the message above is not whole, and does not go on here; of a line of any kind but a damaged one); else it is empty. The
+    octets of `frames` are written at `places`, in their order: each is the number of a line, and where it begins and ends there, in
+    octets of UTF-8, after colours, NUL and marks are taken out. `time` is in microseconds since 1970, or since midnight or a start; None
+    if the log has none there. `said` is '>' if the line says that the CPU sent these octets, '<' if the module, else empty."""
     line: int
     kind: str
     reason: str
@@ -47,6 +49,17 @@ class Verdict(NamedTuple):
     places: Tuple[Tuple[int, int, int], ...]
     time: Optional[int]
     said: str
+
+
+class ReadAs(NamedTuple):
+    """Lines of one form. `front` is the text before the octets of the first line that is read by it, or its end, as octets; `first` the
+    number of that line, 0 if none is; `lines` how many are, and `damaged` how many of these give no frame. If `is_echo`, its frames
+    repeat those above them, and are no frames of their own."""
+    front: bytes
+    first: int
+    lines: int
+    damaged: int
+    is_echo: bool
 
 
 class LogBatch:
@@ -114,6 +127,11 @@ class LogBatch:
         return self._each(_KIND)
 
     @property
+    def reasons(self) -> bytes:
+        """The reason of each line, one of `constants.LOG_NO_REASON` and those after it."""
+        return self._each(_REASON)
+
+    @property
     def sides(self) -> bytes:
         """Who sent the octets of each line, as the line says, one of `constants.LOG_NO_SIDE` and those after it."""
         return self._each(_SAID)
@@ -157,10 +175,6 @@ class LogBatch:
         """Changes who sent the frames of a line, as it says, one of `constants.LOG_NO_SIDE` and those after it."""
         self._batch.verdicts[index].said = side
 
-    def truncate(self, count: int) -> None:
-        """Takes away the lines from this index on, which have no frames."""
-        self._batch.verdict_count = count
-
     def verdicts(self) -> List[Verdict]:
         """The verdicts."""
         verdicts, frame, place, all_frames = [], 0, 0, tuple(self.frames())
@@ -177,12 +191,32 @@ class LogReader:
     """A reader of a log, which takes its octets in pieces of any length."""
 
     def __init__(self, form: str = 'auto') -> None:
-        """`form` is 'auto', by the definition of docs/CAPTURES.md; or by order 'frames' or 'transcript', whose lines are read
-        as `fio2070 show` and `fio2070 check` read theirs; other than there a line also ends at CR."""
+        """`form` is 'auto', by the forms that the log shows (docs/CAPTURES.md); or by order 'frames' or 'transcript', whose lines are
+        read as `fio2070 show` and `fio2070 check` read theirs; other than there a line also ends at CR."""
         if form not in _FORMS:
             raise ValueError('the form is auto, frames or transcript')
         self._reader, self._batch = c.CLogReader(), LogBatch()
         c.library.fio2070_log_start(self._reader, _FORMS[form])
+
+    def like(self, samples: Octets) -> int:
+        """Learns forms from sample lines, before octets of the log are read. The log is then read by them from its first line on.
+        Returns how many forms they show: 0 if they show none, or the lines are read by order."""
+        samples = octets_of(samples)
+        return int(c.library.fio2070_log_like(self._reader, samples, len(samples)))
+
+    def forms(self) -> List[ReadAs]:
+        """By which forms the lines are read that have a verdict, in the order of the forms: a line is read by the first that has it."""
+        found = c.CLogFormList()
+        c.library.fio2070_log_forms(self._reader, found)
+        return [ReadAs(bytes(one.front[:one.front_length]), getattr(one, 'from'), one.lines, one.damaged, bool(one.is_echo))
+                for one in found.forms[:found.count]]
+
+    def ended(self) -> 'LogReader':
+        """A reader of what was read down to here, as a log that has ended. This one reads on."""
+        other = LogReader.__new__(LogReader)
+        other._reader, other._batch = type(self._reader).from_buffer_copy(self._reader), LogBatch()
+        c.library.fio2070_log_end(other._reader)
+        return other
 
     def batches(self, octets: Octets) -> Iterator[LogBatch]:
         """Takes the next octets of the log, and yields the verdicts that are due, in the order of the lines, as batches. Each batch is
@@ -205,8 +239,8 @@ class LogReader:
             yield self._batch
 
     def read(self, octets: Octets) -> List[Verdict]:
-        """Takes the next octets of the log, and returns the verdicts that are due, in the order of the lines. A line gets its
-        verdict once it is decided, which can be lines later. After `end`, octets begin a new log of the same form, whose
+        """Takes the next octets of the log, and returns the verdicts that are due, in the order of the lines. The first ones wait until
+        the log shows its forms; a line gets its verdict once it is decided, which can be a line later. After `end`, octets begin a new log of the same form, whose
         lines are counted from 1."""
         return [verdict for batch in self.batches(octets) for verdict in batch.verdicts()]
 

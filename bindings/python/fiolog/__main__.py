@@ -80,6 +80,9 @@ def check_forms(parser, option):
     file."""
     if getattr(option, 'line', '') and (option.pattern or option.sdlc or option.format != 'auto'):
         parser.error('--line is of a file without lines: leave out --format, --pattern and --sdlc')
+    if getattr(option, 'like', ()) and (getattr(option, 'line', '') or getattr(option, 'pattern', None) or getattr(option, 'sdlc', False)
+                                        or getattr(option, 'format', 'auto') != 'auto'):
+        parser.error('--like is of the lines of a log by their forms: leave out --format, --line, --pattern and --sdlc')
     if getattr(option, 'pattern', None):
         try:
             if 'octets' not in re.compile(option.pattern).groupindex:

@@ -10,22 +10,22 @@ from itertools import accumulate, chain, repeat
 from typing import NamedTuple, Optional
 
 import fio2070
-from fio2070.constants import LOG_BLANK, LOG_DAMAGED, LOG_FROM_CPU, LOG_FROM_MODULE, LOG_PART, LOG_PASSED_OVER, LOG_POSSIBLE, LOG_SAYS
-from fio2070.constants import TYPE_ANSWER, TYPE_POLL
+from fio2070.constants import LOG_BLANK, LOG_BROKEN, LOG_DAMAGED, LOG_FROM_CPU, LOG_FROM_MODULE, LOG_MORE, LOG_PART, LOG_PASSED_OVER
+from fio2070.constants import LOG_POSSIBLE, LOG_SAYS, TYPE_ANSWER, TYPE_POLL
 
-from .log_words import CURES, REASONS
+from .log_words import REASONS
 from .message import direction_of, words_of
 from .terminal import shown
 
 # Kinds of lines as the library names them, and others.
 FRAME, POSSIBLE, DAMAGED, PASSED, PART, BLANK = 'frames', 'possible', 'damaged', 'passed over', 'part', 'blank'
-BAD, OTHER, DOUBTFUL, PIECE = 'bad', 'other', 'doubtful', 'piece'
-# The kinds of lines at which judges lose their place, and the kinds that judges get.
-LOSSES = DAMAGED, DOUBTFUL, PIECE
+BAD, OTHER, DROPPED, BELOW, WAITING = 'bad', 'other', 'dropped', 'below', 'waiting'
+# The kinds of lines that may have held a frame, at which judges lose their place, and the kinds that judges get.
+LOSSES = DAMAGED, DROPPED, POSSIBLE
 JUDGED = FRAME, BAD, *LOSSES
-# The notes of skipped lines that judges get too: a frame may be missing here, since the line speaks of loss, or may be one itself; or
-# another part of the log begins.
-MISSING, HEADING = (REASONS['loss'], REASONS['short message']), REASONS['heading']
+# The notes of skipped lines that judges get too: a frame may be missing here, since the line speaks of loss; or another part of the log
+# begins.
+MISSING, HEADING = REASONS['loss'], REASONS['heading']
 # The octets that are kept of a line, at most.
 LONGEST_TEXT = 1 << 16
 # Times from here on have a date; an earlier one is a time of day if the line has one, else seconds since some start.
@@ -43,10 +43,13 @@ MOST_LINES, MOST_OCTETS = 4096, 1 << 16
 _WAYS = {LOG_FROM_CPU: '>', LOG_FROM_MODULE: '<'}
 _BY_TYPE = bytes(LOG_FROM_MODULE if code >= TYPE_ANSWER else LOG_FROM_CPU for code in range(256))
 # The kinds of events as the library names them; any other one is passed over.
-_KINDS = {**{kind: kind for kind in (FRAME, BLANK, PART)}, BAD: FRAME, **dict.fromkeys(LOSSES, DAMAGED)}
-_REMARKS = {**dict.fromkeys(MISSING, 'loss'), HEADING: 'heading'}
-# The lines that give no frame, but for blank ones and parts of the frames above.
+_KINDS = {**{kind: kind for kind in (FRAME, BLANK, PART, POSSIBLE, DAMAGED)}, BAD: FRAME, DROPPED: DAMAGED, BELOW: DAMAGED}
+_REMARKS = {MISSING: 'loss', HEADING: 'heading'}
+# The lines that give no frame, but for blank ones and parts of frames; and the reasons of lines with octets that are in no frame, beside
+# what the lines give.
 _OTHERS = re.compile(b'[%c%c%c]' % (LOG_POSSIBLE, LOG_DAMAGED, LOG_PASSED_OVER))
+_DROPPED = re.compile(b'[%c%c]' % (LOG_MORE, LOG_BROKEN))
+_DROPPED_WORDS = 'more', 'broken'
 _POLL = bytes([TYPE_POLL])
 
 
@@ -62,10 +65,10 @@ def text_of(line):
 
 class Line(NamedTuple):
     """A line of a log, `raw` as it is in the log. `kind` is FRAME for octets that spell a message; BAD for those that are a frame by
-    order or by their carrier, and spell none; OTHER for a frame with an address that is not judged; POSSIBLE for a message that
-    nothing makes sure, DOUBTFUL for one below frames; DAMAGED for a line that may have held a frame, or frames that were lost on
-    their way here; PIECE for each of the two lines of one message; PART for a further line of the frame above, or of one that
-    ends below; BLANK; PASSED for any other. `time` is in seconds, `direction` is `>` or `<`, `note` is the reason; `said` is
+    order or by their carrier, and spell none; OTHER for a frame with an address that is not judged; POSSIBLE for a line that no form
+    has and that may be a message; DAMAGED for a line that a form has and that gives no frame, or frames that were lost on their way
+    here; DROPPED for octets that are in no frame, beside what their line gives, and BELOW for the place below its frames; WAITING for a message that may go on in a line that
+    has not come yet; PART for a line of a frame that ends below; BLANK; PASSED for any other. `time` is in seconds, `direction` is `>` or `<`, `note` is the reason; `said` is
     what the log says of the direction, if it does; `file` is the name of its file, if it is one of several that are read as one log."""
     number: int
     kind: str
@@ -98,12 +101,12 @@ class Line(NamedTuple):
     @property
     def is_loss(self):
         """Whether judges may lose their place here: a line that may have held a frame, or says that one is missing, or a heading."""
-        return self.kind in LOSSES or self.kind == PASSED and self.note in _REMARKS
+        return self.kind in (BELOW, *LOSSES) or self.kind == PASSED and self.note in _REMARKS
 
     @property
     def words(self):
-        """What is said of it with -v: why it gives no frame, what helps, and its text."""
-        return 'line %d: %s%s: %s' % (self.number, self.note, ' (%s)' % CURES[self.note] if self.note in CURES else '', self.text[:100])
+        """What is said of it with -v: why it gives no frame, or what else it has, and its text."""
+        return 'line %d: %s: %s' % (self.number, self.note, self.text[:100])
 
     @property
     def text(self):
@@ -136,14 +139,14 @@ def frame_of(number, octets, **line):
 class Batch:
     """Lines of a log, one below the other. `said` is what the library says of them, `made` are events that take the place of what it
     says, each in a list, by the index of their line; `raw_of` gives a line by its number. If `as_said`, the lines say themselves who
-    sent a frame. A message that nothing makes sure is doubtful below the line with the index `first`. `others` are the events of the lines
-    that give no frame, but for blank lines and parts of the frames above, each with the index of its line."""
+    sent a frame. `others` are the events that are no frames, but for blank lines and parts of frames, each with the index of its line."""
 
-    def __init__(self, said, as_said=False, made=None, raw_of=None, first=-1):
-        self.said, self.kinds, self.as_said, self._made, self._raw_of, self._first = said, said.kinds, as_said, made or {}, raw_of, first
+    def __init__(self, said, as_said=False, made=None, raw_of=None):
+        self.said, self.kinds, self.as_said, self._made, self._raw_of = said, said.kinds, as_said, made or {}, raw_of
         # Whether each line gives one frame, as the library says it.
         self.is_plain = not made and self.kinds.count(LOG_SAYS) == len(self.kinds) == said.frame_count
-        self.others = [(line, event) for line in (found.start() for found in _OTHERS.finditer(self.kinds)) for event in self.of_line(line)]
+        lines = {found.start() for found in _OTHERS.finditer(self.kinds)} | {found.start() for found in _DROPPED.finditer(said.reasons)}
+        self.others = [(line, event) for line in sorted(lines) for event in self.of_line(line) if event.kind not in (FRAME, PART)]
 
     # ---- Frames, by their index
 
@@ -168,7 +171,7 @@ class Batch:
     def event(self, frame):
         """The event of a frame."""
         line = self.line_of(frame)
-        return self.of_line(line)[frame - self.frames_above(line)]
+        return [event for event in self.of_line(line) if event.kind in (FRAME, BAD)][frame - self.frames_above(line)]
 
     @functools.cached_property
     def senders(self):
@@ -191,34 +194,39 @@ class Batch:
         return any(octets[:1] == _POLL and len(octets) == 2 and sender == LOG_FROM_CPU
                    for octets, sender in zip(self.octets[first:last], self.senders[first:last]))
 
-    @functools.cached_property
+    def above(self, line, event):
+        """How many frames there are above an event of a line that is no frame."""
+        return self.frames_above(line + (event.kind == BELOW))
+
+    @property
     def count(self):
-        """How many frames are judged: those of lines that nothing makes sure are none."""
-        return self.said.frame_count if self.is_plain else sum(
-            frames for kind, frames in zip(self.kinds, self.said.frame_counts()) if kind == LOG_SAYS)
+        """How many frames there are."""
+        return self.said.frame_count
 
     def steps(self):
         """Each frame as its index and None, and each other event with None in place of the index, in order."""
         frame = 0
         for line, event in self.others:
-            yield from zip(range(frame, self.frames_above(line)), repeat(None))
+            yield from zip(range(frame, self.above(line, event)), repeat(None))
             yield None, event
-            frame = self.frames_above(line + 1)
+            frame = self.above(line, event)
         yield from zip(range(frame, self.said.frame_count), repeat(None))
 
     # ---- Lines, by their index
 
     def of_line(self, line):
-        """The events of a line: one, or one for each frame."""
+        """The events of a line: what of it is in no frame, and one for each frame; if both, the place below these too."""
         if line in self._made:
             return self._made[line]
         verdict = self.said.told(line)
-        kind = DOUBTFUL if verdict.kind == POSSIBLE and line > self._first else verdict.kind
-        event = Line(verdict.line, kind, self._raw_of(verdict.line), time=seconds_of(verdict.time), said=verdict.said)
-        frames = range(self.frames_above(line), self.frames_above(line + 1)) if kind in (FRAME, POSSIBLE, DOUBTFUL) else ()
-        if not frames:
-            return [event._replace(note=REASONS.get(verdict.reason, verdict.reason))]
-        return [event._replace(octets=self.octets[frame], direction=_WAYS[self.senders[frame]]) for frame in frames]
+        event = Line(verdict.line, verdict.kind, self._raw_of(verdict.line), time=seconds_of(verdict.time), said=verdict.said)
+        is_dropped, note = verdict.reason in _DROPPED_WORDS, REASONS.get(verdict.reason, verdict.reason)
+        frames = range(self.frames_above(line), self.frames_above(line + 1))
+        dropped = [event._replace(kind=DROPPED, note=note)] * is_dropped
+        if verdict.kind not in (FRAME, PART):
+            return dropped or [event._replace(note=note)]
+        said = [event._replace(octets=self.octets[frame], direction=_WAYS[self.senders[frame]]) for frame in frames]
+        return dropped + (said + [event._replace(kind=BELOW)] * is_dropped if said else [event])
 
     def numbered(self, first=0):
         """The events of the lines from this one on, each with the index of its line."""
@@ -234,23 +242,6 @@ class Batch:
         kinds = Counter({FRAME: self.count - bad, BAD: bad, BLANK: self.kinds.count(LOG_BLANK), PART: self.kinds.count(LOG_PART)})
         kinds.update(event.kind for _, event in self.others)
         return kinds
-
-    # ---- Messages in two lines
-
-    def mark(self, place, event):
-        """Puts an event in place of one of the others: its line may have held a part of a frame."""
-        line, _ = self.others[place]
-        self.others[place] = line, event
-        self._made[line] = [event]
-        self.said.set_kind(line, LOG_DAMAGED)
-
-    def cut(self, line):
-        """Takes away the lines from this one on, which give no frames, and returns their events."""
-        events = [event for _, event in self.numbered(line)]
-        self.said.truncate(line)
-        self.kinds, self.is_plain = self.kinds[:line], False
-        self.others = [one for one in self.others if one[0] < line]
-        return events
 
 
 def _verdict_of(event):

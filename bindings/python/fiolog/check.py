@@ -4,8 +4,8 @@ come and what came, or with what the breach means."""
 import sys
 from collections import Counter
 
-from . import log, options, sides, terminal
-from .batch import OTHER, PART, PASSED, POSSIBLE
+from . import judgement, log, options, terminal
+from .batch import OTHER, PART, PASSED
 from .counts import Counts, in_words, unjudged_numbers, unjudged_words
 from .message import BLOCK, POLL, TYPE_ANSWER
 from .output import Refused
@@ -36,20 +36,20 @@ def judged(read, option):
     """The lines of a log, with the breaches and restarts that are certain now and what judges them, which is new for each file; at
     the end of a file None with the others. With --start-at-poll from the first poll on."""
     for of_log, batches in read.logs():
-        judgement = None
+        judge = None
         for batch in batches:
             if not (batch.count or any(event.is_loss for _, event in batch.others)):
                 continue
-            judgement = judgement or sides.Judgement(rules_for(option), read.name if read.has_several else '', not option.start_at_poll)
+            judge = judge or judgement.Judgement(rules_for(option), read.name if read.has_several else '', not option.start_at_poll)
             if option.at in ('cpu', 'bus'):
                 read.balance += batch.balance
-            batch = judgement.opened(batch)
-            yield batch, judgement.take(batch), judgement
-        if judgement:
-            broken = [(0, *one) for one in judgement.end(of_log.reasons, of_log.kinds[POSSIBLE])]
-            read.judgements.append(judgement)
-            read.unjudged += judgement.unjudged
-            yield None, broken, judgement
+            batch = judge.opened(batch)
+            yield batch, judge.take(batch), judge
+        if judge:
+            broken = [(0, *one) for one in judge.end()]
+            read.judgements.append(judge)
+            read.unjudged += judge.unjudged
+            yield None, broken, judge
 
 
 def rules_for(option):
@@ -114,8 +114,8 @@ def run(option):
         from . import many
         return many.run(option)
     read, counts = log.Log(option, sys.stdout.flush, writes=option.json), Counts()
-    findings, judgement = Findings(option, read), None
-    for batch, broken, judgement in judged(read, option):
+    findings, judge = Findings(option, read), None
+    for batch, broken, judge in judged(read, option):
         if batch:
             findings.look_for_late(batch, broken, counts)
             counts.take(batch)
@@ -123,14 +123,14 @@ def run(option):
             if batch:
                 read.name_passed(batch.line_of(frame))
             findings.add(where, found)
-    if not read.summary():
+    if not read.summary(says_forms=True):
         return 1
     for words in () if option.quiet else findings.words():
         terminal.say(words)
-    return end(option, read, counts, judgement, findings)
+    return end(option, read, counts, judge, findings)
 
 
-def end(option, read, counts, judgement, findings):
+def end(option, read, counts, judge, findings):
     """The summary, and the hints."""
     kinds = read.kinds
     left_out = counts.unjudged() + read.unjudged + Counter(skipped_lines=kinds[PASSED], frames_of_others=kinds[OTHER])
@@ -138,19 +138,20 @@ def end(option, read, counts, judgement, findings):
     restarted = {'restarted': findings.restarts} if findings.restarts or option.json else {}
     parts = {'parts_of_frames': kinds[PART]} if option.sdlc and (kinds[PART] or option.json) else {}
     numbers = {**counts.in_short(), **late, 'breaches': findings.count, **restarted, **parts}
-    sides.say_signs(read.judgements)
+    judgement.say_signs(read.judgements)
     if option.json:
-        remarks = [words for one in read.judgements for words in (sides.IN_SHORT.get(one.verdict), one.sign) if words]
-        terminal.print_object({'summary': {**numbers, **({'remarks': remarks} if remarks else {}), 'not_judged': unjudged_numbers(left_out)}})
+        remarks = [words for one in read.judgements for words in (judgement.IN_SHORT.get(one.verdict), one.sign) if words]
+        terminal.print_object({'summary': {**numbers, **({'remarks': remarks} if remarks else {}), **log.forms_numbers(*read.read_as()),
+                                           'not_judged': unjudged_numbers(left_out)}})
     else:
         print(', '.join('%s %d' % (in_words(name), number) for name, number in numbers.items()))
         if left_out:
             print('not judged: ' + unjudged_words(left_out, read.reasons))
     say_excused(left_out['frames_not_at_the_cpu'])
-    is_fault = sides.say(read.judgements)
+    is_fault = judgement.say(read.judgements)
     if read.balance > 0:
         terminal.say('most lines say the other direction than their messages: if this is the log of the module, try --at module')
-    if judgement and judgement.rules.is_above_polls and counts.polls and not option.start_at_poll:
+    if judge and judge.rules.is_above_polls and counts.polls and not option.start_at_poll:
         terminal.say('the log begins in the middle of traffic: try --start-at-poll')
     if findings.has_late_answers and not option.late_answers:
         terminal.say('answers came late or twice: try --late-answers' + ' --except advance' * (option.at == 'bus'))

@@ -17,8 +17,8 @@ KINDS = {
             'unpack it first, or save it as text', 'unpack it first, or save it as text'),
     'script': (r'^fio2070 script ', 'a script for fio2070 simulate', 'fio2070 simulate runs it', 'the view Play runs it'),
     'record': (r'^record \d+\n', 'a record, which fio2070 record wrote of a log', 'read the log itself', 'open the log itself'),
-    'binary': (r'^(?!\xff\xfe|\xfe\xff)[\s\S]*\0', 'a binary file', 'pass it through `xxd` or `hexdump -C`; or, if it is what a line carried, see --line',
-               'if it is what a line carried, or messages without flags, say so at “How is it written?”'),
+    'binary': (r'^(?!\xff\xfe|\xfe\xff)[\s\S]*\0', 'a binary file', 'no message is sure in its octets, read as rows of a dump; if it is what a line carried, see --line',
+               'no message is sure in its octets; if it is what a line carried, say so at “How is it written?”'),
 }
 _PATTERNS = {kind: re.compile(row[0].encode('latin-1')) for kind, row in KINDS.items()}
 _CONTROLS = bytes(octet for octet in range(32) if octet not in b'\t\n\r\f\x1b')

@@ -8,6 +8,7 @@ import fio2070
 from fio2070.constants import WIRE_ADDRESS, WIRE_CONTROL
 
 from .batch import DAMAGED, OTHER, Line, frame_of, made_of
+from .files import kind_of
 from .log_words import LINE
 from .message import direction_of
 from .options import BITS, HIGH_FIRST, OCTETS
@@ -16,6 +17,8 @@ from .rules import WRONG_CHECK
 # The address and control octet of frames that are judged, if the caller names none.
 OWN = WIRE_ADDRESS, WIRE_CONTROL
 FLAG = b'\x7e'
+# A file that is neither a text nor what a line of SDLC carried.
+ROWS = 'rows'
 # The first octets of a file, which show what it is, and the first bits, which show how long one is.
 WINDOW = 1 << 14
 # The octets that show whether bits are a text.
@@ -67,7 +70,8 @@ class Beginning:
         self.seen, self.line, self.is_strange, self.frames, self.damaged = 0, b'', False, 0, 0
 
     def form(self, octets, is_all=False):
-        """Takes octets. Returns one of LINES, or '' for a text; None if more octets are needed to know."""
+        """Takes octets. Returns one of LINES, ROWS for another file that is no text, or '' for a text; None if more octets are needed to
+        know."""
         self.held += octets
         for piece in _PIECES.findall(self.held[self.seen:WINDOW]):
             self.seen += len(piece)
@@ -78,7 +82,9 @@ class Beginning:
             return None
         if _BITS.fullmatch(self.held[:WINDOW]):
             return BITS if _ANY_BIT.search(self.held, 0, WINDOW) else ''
-        return OCTETS if self.frames and self.frames >= self.damaged else ''
+        if self.frames and self.frames >= self.damaged:
+            return OCTETS
+        return ROWS if kind_of(self.held) == 'binary' else ''
 
     def _form_by(self, piece):
         """What this piece of a line shows."""

@@ -1,32 +1,20 @@
-"""What is said of the lines of a log: why one gives no frame, by the reasons of `fio2070.Verdict` in the order of their numbers; of
-which frames damage is not seen; which directions are missing; and of what a line carried. tools/generate-messages writes the same
-words for the page."""
+"""What is said of the lines of a log: why one gives no frame, or what else is in one that does, by the reasons of `fio2070.Verdict`
+in the order of their numbers; which directions are missing; and of what a line carried. tools/generate-messages writes the same words
+for the page."""
 
 REASONS = {
     'no octets': 'no octets',
     'no message': 'octets that are no message',
-    'short message': 'a short message in a line unlike those of other messages',
-    'several messages': 'more than one message',
-    'may be longer': 'it may be one message with the line below or above, or one by itself',
+    'no form': 'octets that may be a message, and no form of this log',
+    'more': 'beside its frames it has octets that may be a message',
     'too long': 'longer than a line with a frame can be',
     'bad line': 'bad line',
-    'exchanged': 'octets that are a message if those of each pair are exchanged',
-    'two more': 'octets that are a message but for two at their beginning or end',
     'loss': 'octets may be lost',
     'heading': 'heading',
-    'one less': 'an octet too few',
+    'copy': 'a copy of the frame above',
+    'broken': 'the message above is not whole, and does not go on here',
 }
-# What helps, by the words of a reason.
-CURES = {
-    REASONS['exchanged']: 'write the log with `xxd` or `hexdump -C`',
-    REASONS['two more']: 'try --sdlc --no-check if they are at the beginning, --pattern if they are at the end',
-}
-POSSIBLE = 'possible: nothing in the log confirms it'
-DOUBTS = {
-    'rows': 'each row has one octet: if a row is missing, the rest may read as another message',
-    'numbers': 'frames whose octets are numbers without leading zeros: {count}; if the log lost a digit, nothing shows it',
-    'loose': 'frames of types that may have any length: {count}; if the logger cut one off, nothing shows it',
-}
+WAITING = 'it may go on in the next line'
 SIDES = {
     'commands': 'this log has the commands alone: the answers were not logged, so no rule is judged',
     'answers': 'this log has the answers alone: the commands were not logged, so no rule is judged',

@@ -6,7 +6,7 @@ import sys
 from functools import partial, reduce
 from operator import add
 
-from . import log, options, sides, terminal
+from . import judgement, log, options, terminal
 from .counts import OF_LINES, UNJUDGED, in_words, unjudged_numbers, unjudged_words
 from .output import Refused
 from .summary import Summary, summary_of
@@ -56,7 +56,7 @@ def first_words(summary):
         return 'line %d: %s' % summary.first_breach[:2]
     if summary.first_restart:
         return 'line %d: restarted' % summary.first_restart
-    return ', '.join(map(sides.IN_SHORT.get, summary.verdicts)) if summary.counts.frames else 'no frame'
+    return ', '.join(map(judgement.IN_SHORT.get, summary.verdicts)) if summary.counts.frames else 'no frame'
 
 
 def left_out(summary, counts_alone):
@@ -69,7 +69,7 @@ def write_json(rows, faults, total, counts_alone):
     """An object for each file, and one for all."""
     def object_of(one):
         key, _, missing = left_out(one, counts_alone)
-        remarks = {'remarks': {sides.IN_SHORT[name]: count for name, count in one.verdicts.items()}} if one.verdicts else {}
+        remarks = {'remarks': {judgement.IN_SHORT[name]: count for name, count in one.verdicts.items()}} if one.verdicts else {}
         return {**numbers(one), **remarks, key.replace(' ', '_'): missing, 'rules': dict(one.broken)}
     for name, one in rows:
         terminal.print_object({'file': shown(name), **object_of(one), 'first': one.first_breach})
@@ -87,7 +87,7 @@ def write_csv(rows, faults):
     for name, one in rows:
         found, (line, rule, _) = {**numbers(one), 'lines': one.lines}, one.first_breach or ('', '', '')
         table.writerow([shown(name), *(found[column] for column in names), *(one.left_out[column] for column in missing),
-                        *(one.broken[column] for column in options.NAMES), line, rule, ', '.join(map(sides.IN_SHORT.get, one.verdicts)), ''])
+                        *(one.broken[column] for column in options.NAMES), line, rule, ', '.join(map(judgement.IN_SHORT.get, one.verdicts)), ''])
     for name, words in faults:
         table.writerow([shown(name), *[''] * (len(names) + len(missing) + len(options.NAMES) + 3), shown(words)])
 
@@ -133,7 +133,7 @@ def run(option, counts_alone=False):
         write_csv(rows, faults)
     else:
         (write_json if option.json else write_table)(rows, faults, total, counts_alone)
-    is_bad = not total.counts.frames or not counts_alone and (total.breaches or total.restarted or any(map(sides.is_fault, total.verdicts)))
+    is_bad = not total.counts.frames or not counts_alone and (total.breaches or total.restarted or any(map(judgement.is_fault, total.verdicts)))
     if len(done) < count:
         terminal.say('ended: %d of %d logs were read' % (len(done), count))
         return 130

@@ -8,10 +8,11 @@ from operator import itemgetter
 import fio2070
 from fio2070.constants import BIT_LOST as LOST
 
-from . import hires, log, options, sides, terminal
+from . import hires, log, options, terminal
 from .check import judged
 from .convert import block_of
 from .counts import unjudged_words
+from .judgement import say
 from .message import BLOCK, POLL, spells
 from .output import Refused
 from .terminal import shown
@@ -227,4 +228,4 @@ def run(option):
     is_read = read.summary()
     if read.unjudged and not option.quiet:
         terminal.say('not judged: ' + unjudged_words(read.unjudged))
-    return 1 if sides.say(read.judgements) or record.faults or not is_read else 0
+    return 1 if say(read.judgements) or record.faults or not is_read else 0

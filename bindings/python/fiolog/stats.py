@@ -3,7 +3,7 @@
 from collections import Counter
 
 from . import log, options, terminal
-from .batch import OTHER, PASSED, PIECE
+from .batch import DROPPED, OTHER, PASSED, POSSIBLE
 from .counts import OF_LINES, Counts, in_words, unjudged_numbers, unjudged_words, placed
 
 MILLI = 1000    # microseconds
@@ -51,7 +51,8 @@ def run(option):
     if not read.summary():
         return 1
     missing = counts.unjudged() + Counter(
-        damaged_lines=read.damaged, lines_with_parts=read.kinds[PIECE], skipped_lines=read.kinds[PASSED], frames_of_others=read.kinds[OTHER])
+        damaged_lines=read.damaged, lines_with_dropped_octets=read.kinds[DROPPED], possible_lines=read.kinds[POSSIBLE],
+        skipped_lines=read.kinds[PASSED], frames_of_others=read.kinds[OTHER])
     if option.json:
         terminal.print_object({**numbers(counts), 'not_counted': unjudged_numbers(missing, OF_LINES)}, indent=1)
     else:

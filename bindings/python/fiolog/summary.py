@@ -10,10 +10,10 @@ from collections import Counter
 
 from .counts import Counts
 from .log import CHUNK, decoded
-from .batch import OTHER, POSSIBLE
+from .batch import OTHER
 from .reader import Reader
 from .rules import Rules
-from .sides import Judgement
+from .judgement import Judgement
 
 
 class Summary:
@@ -25,7 +25,7 @@ class Summary:
         self.counts, self.broken, self.first_breach = Counts(), Counter(), None
         self.restarted, self.first_restart = 0, None    # how often, and the first line that shows it
         self.lines, self.unjudged, self.reasons = 0, Counter(), Counter()
-        self.verdicts = Counter()   # of how many logs little can be judged, by its reason (sides.py)
+        self.verdicts = Counter()   # of how many logs little can be judged, by its reason (judgement.py)
 
     @property
     def breaches(self):
@@ -69,15 +69,15 @@ def chunks_of(source):
         yield from source
 
 
-def summary_of(source, start_at_poll=False, form='auto', pattern=None, framing='', line='', address=None, **rules):
+def summary_of(source, start_at_poll=False, form='auto', pattern=None, framing='', line='', address=None, like=(), **rules):
     """The summary of a log: a path, a file open for reading octets, or an iterator of octets. With `start_at_poll` it begins with the first
     poll; `rules` are what rules.Rules takes, and all else what the reader does."""
-    summary, judgement, reader = Summary(), Judgement(Rules(**rules), is_open=not start_at_poll), Reader(form, pattern, framing, line, address)
+    summary, judgement, reader = Summary(), Judgement(Rules(**rules), is_open=not start_at_poll), Reader(form, pattern, framing, line, address, like)
     for batch in reader.read(decoded(iter(chunks_of(source)), not line)):
         batch = judgement.opened(batch)
         summary.add_breaches(judgement.take(batch))
         summary.counts.take(batch)
-    summary.add_breaches(judgement.end(reader.reasons, reader.kinds[POSSIBLE]))
+    summary.add_breaches(judgement.end())
     summary.lines, summary.reasons = reader.count, reader.reasons
     if judgement.verdict:
         summary.verdicts[judgement.verdict] += 1

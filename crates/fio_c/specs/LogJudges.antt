@@ -90,19 +90,24 @@ is_sent_frame as_said said octets = nat_lt (unwrap_or (slice_get octets 0) 0) AN
 abbrev pub event_of_frame : Bool → Option Bool → List ℕ → LogEvent
 event_of_frame as_said said octets = Found (is_sent_frame as_said said octets) said octets
 
--- The event that a line without frames is to the judge, if any, by its kind and its reason: a message that nothing confirms, or a
--- heading; damage; a remark of loss, or a short message in a line unlike those of other messages, which may have been a frame.
+-- The event that a line is to the judge above its frames, if any, by its kind and its reason: damage, a message above that is
+-- broken, or something beside the line's frames; octets that may be a message in a line of no form, or a heading; a remark of
+-- loss.
 abbrev pub event_of_line : ℕ → ℕ → List LogEvent
-event_of_line kind reason = if kind == 3 || kind == 5 && reason == 11 then Possible ∷ []
-    else if kind == 4 then Lost ∷ []
-    else if kind == 5 && (reason == 3 || reason == 10) then Missing ∷ []
+event_of_line kind reason = if kind == 4 || reason == 14 || kind == 1 && not (reason == 0) then Lost ∷ []
+    else if kind == 3 || kind == 5 && reason == 11 then Possible ∷ []
+    else if kind == 5 && reason == 10 then Missing ∷ []
     else []
+
+-- the event below a frame, if any: something is beside the frames of its line
+abbrev pub event_below_frame : ℕ → List LogEvent
+event_below_frame reason = if reason == 0 then [] else Lost ∷ []
 
 -- the judge after one item more: a frame of a line whose kind has no frames is not judged
 abbrev pub log_below_item : Bool → LogJudging → BatchItem → LogJudging
 log_below_item as_said judge (verdict, None) = log_below_events judge (event_of_line verdict.kind verdict.reason)
 log_below_item as_said judge (verdict, Some octets) = if verdict.kind == 1
-    then log_with_event judge (event_of_frame as_said (end_in verdict.said) octets)
+    then log_below_events (log_with_event judge (event_of_frame as_said (end_in verdict.said) octets)) (event_below_frame verdict.reason)
     else judge
 
 -- the outcome of a frame of a verdict

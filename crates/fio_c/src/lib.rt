@@ -72,6 +72,7 @@ pub mod laws;
 mod log;
 mod log_batch;
 mod log_counts;
+mod log_forms;
 mod log_judge;
 mod log_judge_batch;
 mod log_signs;

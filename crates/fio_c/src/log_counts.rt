@@ -99,15 +99,20 @@ fn count_frame(counts: &mut LogCounts, verdict: &LogVerdict, octets: &[u8]) -> O
     if verdict.kind != FRAMES {
         return None;
     }
-    counts.frame(time_from(verdict.has_time, verdict.time), octets)
+    let time = counts.frame(time_from(verdict.has_time, verdict.time), octets);
+    if verdict.reason != 0 {
+        counts.lose();
+    }
+    time
 }
 
-/// Takes a line: a frame may be lost at a message that nothing makes sure, damage, a remark that speaks of loss, and a heading.
+/// Takes a line: a frame may be lost at octets of no form, at damage, at a message above that is broken, beside other frames, at
+/// a remark that speaks of loss, and at a heading.
 fn count_line(counts: &mut LogCounts, verdict: &LogVerdict)
     ensures { counts.new ≡ counts_with_item counts.old (verdict.now, None) }
 {
     match (verdict.kind, verdict.reason) {
-        (3 | 4, _) | (5, 3 | 10 | 11) => counts.lose(),
+        (3 | 4, _) | (_, 14) | (1, 1..=255) | (5, 10 | 11) => counts.lose(),
         _ => {}
     }
 }

@@ -3,7 +3,7 @@ ghost use Rattle.std.specs.Prelude.{◌≡◌, ◌==◌, ◌++◌, ◌≤◌, Li
 ghost use Rattle.std.specs.List.{sum_by};
 ghost use Rattle.fio_check.specs.LogJudges.{log_below_events, log_judging};
 ghost use Rattle.fio_c.specs.BatchItems.{frame_count, items_of_content, items_of_told};
-ghost use Rattle.fio_c.specs.LogJudges.{LogReservesZeros, event_of_line, is_sent_frame, log_below_item, log_judge_in, outcome_of_item, outcomes_of_items};
+ghost use Rattle.fio_c.specs.LogJudges.{LogReservesZeros, event_below_frame, event_of_line, is_sent_frame, log_below_item, log_judge_in, outcome_of_item, outcomes_of_items};
 ghost use Rattle.fio_c.specs.Logs.{Content, Holds, content_of};
 ghost use Rattle.fio_c.specs.Told.{Told};
 
@@ -86,7 +86,18 @@ fn judge_frame(
         return without_breach(5, 0);
     }
     let said = end_from(verdict.said);
-    log_outcome_from(judge.frame(is_sent_frame(as_said, said, octets), said, octets))
+    let outcome = judge.frame(is_sent_frame(as_said, said, octets), said, octets);
+    lose_below(judge, verdict.reason);
+    log_outcome_from(outcome)
+}
+
+/// Takes what is beside a frame in its line, by the reason of the line.
+fn lose_below(judge: &mut LogJudge, reason: u8)
+    ensures { log_judging judge.new ≡ log_below_events (log_judging judge.old) (event_below_frame reason) }
+{
+    if reason != 0 {
+        judge.lose();
+    }
 }
 
 /// Returns whether the CPU's end sent a frame: by its line, if lines count and this one names the sender, else by its type.
@@ -99,14 +110,14 @@ pub(crate) fn is_sent_frame(as_said: bool, said: Option<bool>, octets: &[u8]) ->
     }
 }
 
-/// Takes a line that gives no frame, by its kind and its reason.
+/// Takes a line, above its frames, by its kind and its reason.
 fn take_line(judge: &mut LogJudge, kind: u8, reason: u8)
     ensures { log_judging judge.new ≡ log_below_events (log_judging judge.old) (event_of_line kind reason) }
 {
     match (kind, reason) {
+        (4, _) | (_, 14) | (1, 1..=255) => judge.lose(),
         (3, _) | (5, 11) => judge.possible(),
-        (4, _) => judge.lose(),
-        (5, 3 | 10) => judge.miss(),
+        (5, 10) => judge.miss(),
         _ => {}
     }
 }

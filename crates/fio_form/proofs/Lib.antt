@@ -1,7 +1,11 @@
-pub mod Stepping
 pub mod Values
-pub mod MessageSize
+pub mod Stepping
+pub mod Finding
+pub mod Frames
+pub mod Wholing
+pub mod Sizes
 pub mod Ends
+pub mod Characters
 pub mod Fronts
 pub mod OneOctet
 pub mod FixedTexts
@@ -10,5 +14,9 @@ pub mod OctetTexts
 pub mod Gaps
 pub mod Runs
 pub mod Lines
+pub mod Saying
+pub mod MessageSize
+pub mod Telling
 pub mod Logs
+pub mod GoesOn
 pub mod Cuts

@@ -1,8 +1,7 @@
 //! Times in lines of logs, which verdicts report.
-ghost use Rattle.std.specs.Prelude.{◌≤◌, ◌<◌, IfSome, length};
+ghost use Rattle.std.specs.Prelude.{◌≡◌, ◌≤◌, ◌<◌, IfSome, length, slice_index};
 
 use crate::digits::{digit, is_decimal, is_letter};
-use crate::marks::character;
 use crate::parts::TimeParts;
 
 /// A time in a line.
@@ -371,4 +370,14 @@ fn half_end(line: &[u8], place: usize, parts: &mut TimeParts) -> usize
         _ => return place,
     }
     end + 2
+}
+
+/// Returns the character at `place`; 0 after the end of the line.
+fn character(line: &[u8], place: usize) -> u8
+    ensures { result ≡ slice_index line.now place }
+{
+    match line.get(place) {
+        Some(character) => *character,
+        None => 0,
+    }
 }

@@ -1,7 +1,9 @@
 //! Lines of a log, from octets as they come.
 ghost use Rattle.std.specs.Prelude.{◌≡◌, ℕ, ◌+◌, ◌≤◌, ◌<◌, [], true, length, slice_index, take};
+ghost use Rattle.fio_log.specs.Blanks.{is_blank_line};
 ghost use Rattle.fio_log.specs.Lines.{ended, finished, goes_on_held, held_first, held_next, held_octets, held_text, is_plain, is_whole, lines_after, no_line, no_text, only, open_line, pushed, with_all, with_character, with_line_octet, with_making, with_octet_made};
 
+use crate::blanks::are_blanks;
 use arrayvec::ArrayVec;
 use std::marker::Model;
 
@@ -364,4 +366,24 @@ fn is_plain(octet: u8) -> bool
     ensures { result ≡ is_plain octet }
 {
     matches!(octet, b' '..=b'~')
+}
+
+/// A line that is read.
+#[derive(Clone, Copy)]
+pub(crate) struct NumberedLine<'a> {
+    /// The line's number.
+    pub number: u64,
+    /// The line's characters.
+    pub text: &'a [u8],
+    /// Whether the line has more characters than are kept.
+    pub is_long: bool,
+}
+
+impl NumberedLine<'_> {
+    /// Returns whether the line has nothing but blanks.
+    pub(crate) fn is_blank(self) -> bool
+        ensures { result ≡ is_blank_line (record { octets = self.entry.text.now; is_long = self.entry.is_long }) }
+    {
+        !self.is_long && are_blanks(self.text)
+    }
 }

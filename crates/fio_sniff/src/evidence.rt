@@ -1,61 +1,182 @@
-//! What shows a form: numbers and counts.
+//! What the lines of a window say for a form, and whether that is enough.
+use crate::fronts::differs_in_a_word;
+use fio_form::{Digits, LineForm, LineRows, Piece, Step};
+use fio_guess::hash_of;
+use fio_guess::table::{
+    COPY_FIFTHS, FEW, KIN, KIN_HUNDREDTHS, LOOSE_SHARE, PAIR_TENTHS, PAIRS, SPLIT_TENTHS, SURE,
+    SURE_OF_FEW, SURE_SHARE,
+};
 
-use fio_form::{Octets, Read};
+/// What the lines of a window say for a form.
+#[derive(Clone, Copy, Default)]
+pub(crate) struct Evidence {
+    /// Messages that begin, and octets that are none.
+    pub(crate) there: u32,
+    /// Messages.
+    pub(crate) frames: u32,
+    /// Octets that are no message and begin one.
+    pub(crate) lacking: u32,
+    /// Sure messages.
+    pub(crate) many: u32,
+    /// Different sure messages.
+    pub(crate) sure: u32,
+    /// Different messages.
+    pub(crate) distinct: u32,
+    /// Types of sure messages.
+    pub(crate) sure_types: u32,
+    /// Types of messages of two octets or more.
+    pub(crate) types: u32,
+    /// Messages that answer the nearest one of another form, or that it answers.
+    pub(crate) pairs: u32,
+    /// Messages that are the nearest one of another form again.
+    pub(crate) same: u32,
+    /// Messages that are the nearest one of another form above them again.
+    pub(crate) echoes: u32,
+    /// Commands.
+    pub(crate) commands: u32,
+    /// Messages of which an octet has one digit, and those of which one has eight, with a sign.
+    pub(crate) short: u32,
+    pub(crate) signs: u32,
+    /// Messages of `LOOSE_OCTETS` or more; those of them that have a blank between octets, and nothing between octets.
+    pub(crate) long: u32,
+    pub(crate) blanks: u32,
+    pub(crate) glued: u32,
+    /// Whether its polls are those of a link.
+    pub(crate) are_polls: bool,
+}
 
-/// So many messages that differ from the one above, and are sure, show a form.
-pub const SURE: usize = 3;
-
-/// A message of a known length is sure if it has so many octets.
-pub const SURE_OCTETS: usize = 5;
-
-/// So many messages that are answered by frames of other forms, or answer them, show a form.
-pub const PAIRS: usize = 2;
-
-/// One of so many messages, or more, is answered or answers.
-pub const PAIR_SHARE: usize = 3;
-
-/// A form is a copy if more than this many of `COPY_PARTS` of its messages are those of other forms.
-pub const COPY: usize = 4;
-
-/// See `COPY`.
-pub const COPY_PARTS: usize = 5;
-
-/// The most forms of sample lines that are tried.
-pub const TRIED: usize = 60;
-
-/// The octets of a message in the octets of a line; none if it says no message.
-pub(crate) fn message_of(read: Read, octets: &Octets) -> &[u8] {
-    match read {
-        Read::Frame { start, end } if start <= end && end <= octets.len() => &octets[start..end],
-        _ => &[],
+impl Evidence {
+    /// Returns the number of messages, and of octets that are none and begin none.
+    pub(crate) fn rest(&self) -> u32 {
+        self.there.saturating_sub(self.lacking)
     }
 }
 
-/// Returns whether a message is of a type whose length is known, and long, or counts its elements.
-pub(crate) fn is_sure(message: &[u8]) -> bool {
-    match message {
-        [51, ..] => message.len() > 2,
-        [56 | 57 | 59 | 183 | 184 | 185 | 187 | 188, ..] => false,
-        _ => message.len() >= SURE_OCTETS,
+/// Returns a multiple of a count.
+pub(crate) fn times(factor: usize, count: u32) -> u64 {
+    (factor as u64).saturating_mul(u64::from(count))
+}
+
+/// Returns whether octets stand before or after the messages of a form.
+fn is_cut(form: &LineForm) -> bool {
+    form.before > 0 || form.after > 0
+}
+
+/// Returns whether the lines of a form give messages.
+pub(crate) fn fits(form: &LineForm, evidence: &Evidence) -> bool {
+    if form.rows == LineRows::Pieces {
+        return times(10, evidence.frames) >= times(SPLIT_TENTHS, evidence.there);
+    }
+    let (share, of) = if is_cut(form) { (3, 4) } else { (1, 2) };
+    times(10, evidence.frames) >= u64::from(evidence.there)
+        && times(of, evidence.frames) >= times(share, evidence.rest())
+}
+
+/// Returns whether messages need the notation of a form: if it reads more than another one does, some have to be written so.
+pub(crate) fn is_needed(form: &LineForm, evidence: &Evidence) -> bool {
+    let is_loose = form.cycle().contains(&Step::MaybeBlank);
+    let is_mixed = evidence.long > 0
+        && times(LOOSE_SHARE, evidence.blanks) >= u64::from(evidence.long)
+        && times(LOOSE_SHARE, evidence.glued) >= u64::from(evidence.long);
+    let is_short = evidence.signs > 0
+        || times(LOOSE_SHARE, evidence.short) >= u64::from(evidence.frames);
+    (!is_loose || is_mixed) && (form.digits() != Digits::Short || is_short)
+}
+
+/// Returns whether messages show a form by themselves.
+pub(crate) fn is_shown(form: &LineForm, evidence: &Evidence, is_few: bool) -> bool {
+    if is_cut(form) && !form.is_framed && evidence.sure_types < 2 {
+        return false;
+    }
+    if evidence.are_polls && !is_cut(form) && evidence.frames == evidence.there {
+        return true;
+    }
+    let is_narrow = form.front().contains(&Piece::Value);
+    let least = if is_few && form.after == 0 && !is_narrow {
+        SURE_OF_FEW
+    } else {
+        SURE
+    };
+    evidence.sure as usize >= least
+        && times(SURE_SHARE, evidence.many) >= u64::from(evidence.frames)
+}
+
+/// Returns whether the messages of other forms show a form, which they answer or are answered by.
+pub(crate) fn is_paired(form: &LineForm, evidence: &Evidence, is_few: bool) -> bool {
+    let least = if is_few { 1 } else { PAIRS };
+    !is_cut(form)
+        && evidence.distinct as usize >= least
+        && evidence.pairs as usize >= least
+        && times(10, evidence.pairs) >= times(PAIR_TENTHS, evidence.frames)
+}
+
+/// Returns whether the messages of a form are those of other forms again.
+pub(crate) fn is_copy(evidence: &Evidence) -> bool {
+    evidence.frames > 1 && times(5, evidence.same) > times(COPY_FIFTHS, evidence.frames)
+}
+
+/// Returns whether the messages of a form are those of other forms above them again.
+pub(crate) fn is_echo(evidence: &Evidence) -> bool {
+    evidence.frames > 1 && times(5, evidence.echoes) > times(COPY_FIFTHS, evidence.frames)
+}
+
+/// Returns whether one word tells the front of a form from that of another one, and all its messages are of one end.
+pub(crate) fn is_kin(form: &LineForm, other: &LineForm, evidence: &Evidence) -> bool {
+    let is_one_end = evidence.commands == 0 || evidence.commands == evidence.frames;
+    form.digits() == other.digits()
+        && form.cycle() == other.cycle()
+        && !is_cut(form)
+        && evidence.types > 1
+        && is_one_end
+        && evidence.frames as usize >= KIN
+        && times(100, evidence.frames) >= times(KIN_HUNDREDTHS, evidence.there)
+        && differs_in_a_word(form.front(), other.front())
+}
+
+/// How good a form is: the one of the larger rank is better. Of forms that read the same the one that says more of a line is.
+#[derive(Clone, Copy, Default, PartialEq, PartialOrd)]
+pub(crate) struct Rank {
+    sure: u32,
+    /// Messages, less for octets before and after them.
+    messages: u64,
+    /// More for fewer octets after a message.
+    is_short: u8,
+    rows: u8,
+    notation: u8,
+    is_fixed: bool,
+    pieces: usize,
+    hash: u64,
+}
+
+/// Returns how much is said of rows: their offsets, their width, or nothing.
+fn rows_rank(rows: LineRows) -> u8 {
+    match rows {
+        LineRows::Offset { .. } => 2,
+        LineRows::Pieces => 0,
+        _ => 1,
     }
 }
 
-/// Returns whether two messages are of one type.
-pub(crate) fn is_of_type(one: &[u8], other: &[u8]) -> bool {
-    match (one, other) {
-        ([first, ..], [second, ..]) => first == second,
-        _ => false,
+/// Returns the rank of a form.
+pub(crate) fn rank_of(form: &LineForm, evidence: &Evidence) -> Rank {
+    let cut = u64::from(form.before) + 2 * u64::from(form.after);
+    Rank {
+        sure: evidence.sure,
+        messages: 8 * u64::from(evidence.frames) + 1024 - cut,
+        is_short: 255 - form.after,
+        rows: rows_rank(form.rows),
+        notation: match form.digits() {
+            Digits::Text(10) => 2,
+            Digits::Pairs => 1,
+            _ => 0,
+        },
+        is_fixed: !form.cycle().contains(&Step::MaybeBlank),
+        pieces: form.front().len(),
+        hash: hash_of(form),
     }
 }
 
-/// Returns whether a message may be the answer to a command.
-pub(crate) fn is_answer(command: &[u8], answer: &[u8]) -> bool {
-    match (command, answer) {
-        ([54, block, ..], [182, number, ..]) => block == number,
-        ([first, ..], [other, _, ..]) => *first < 128
-            && *other >= 128
-            && *other - 128 == *first
-            && *first != 54,
-        _ => false,
-    }
+/// Returns whether a log that has ended is so short that less shows a form.
+pub(crate) fn is_few(lines: usize, is_ended: bool) -> bool {
+    is_ended && lines <= FEW
 }

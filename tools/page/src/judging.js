@@ -1,7 +1,7 @@
 // A log by the library's judge: the breaches, the restarts of the module, and how many messages are not judged, by why. A log of one
 // direction no rule can judge: commands whose answers were not logged, or answers without their commands.
 
-import { LOG_REASONS, LOG_TAKEN, OUTCOMES, WHY } from './constants.js';
+import { LOG_TAKEN, OUTCOMES, WHY } from './constants.js';
 import { POLL } from './library.js';
 import { MARKS } from './messagelist.js';
 import { each } from './slices.js';
@@ -21,7 +21,7 @@ export class Judging {
     Object.assign(this, { unjudged: new Uint32Array(Object.keys(WHY).length), losses: 0, causes: new Set() });
   }
 
-  // Judges each message that is sure. Nobody is accused for what a line that gave none may have held.
+  // Judges each message. Nobody is accused for what a line that gave none may have held.
   *work() {
     const { log } = this;
     this.judge.start(TAKEN[log.taken]);
@@ -33,20 +33,26 @@ export class Judging {
     const { log } = this, damage = log.damaged.get(place);
     this.takeMarks(log.marks[place]);
     // At the CPU, what has a wrong check was not heard.
-    if (damage && !(log.taken === ENDS.cpu && damage.hasWrongCheck)) {
-      this.judge.call('lose');
-      this.noteLoss(CAUSES.line);
+    if (damage?.isPossible) this.takePossible(CAUSES.line);
+    else if (damage && !(log.taken === ENDS.cpu && damage.hasWrongCheck)) {
+      this.lose();
     }
-    if (log.isPossible[place]) this.takePossible(CAUSES.line);
-    else if (!log.isBadLine(place)) this.takeMessage(place);
+    if (!log.isBadLine(place)) this.takeMessage(place);
   }
 
   takeMarks(marks) {
+    if (marks & MARKS.lost) this.lose();
     if (marks & MARKS.loss) this.judge.call('miss');
     if (marks & MARKS.heading) this.takePossible(CAUSES.heading);
   }
 
-  // Below a message that is sure, a possible one may have been one, and a heading begins another part of the log.
+  // Octets are in no message here.
+  lose() {
+    this.judge.call('lose');
+    this.noteLoss(CAUSES.line);
+  }
+
+  // Below a message a line of no form may have been one, and a heading begins another part of the log.
   takePossible(cause) {
     this.judge.call('possible');
     if (this.isBegun) this.noteLoss(cause);
@@ -83,13 +89,13 @@ const LEAST = 4;
 // Counts the messages of a log to tell which directions it has.
 export class Sides {
   constructor(log) {
-    Object.assign(this, { log, sure: 0, sent: 0, unread: log.passed[LOG_REASONS.noMessage], polled: new Set() });
+    Object.assign(this, { log, sure: 0, sent: 0, unread: 0, polled: new Set() });
   }
 
   add(place) {
     const { log } = this, isSent = log.isSure(place) && log.isSent(place);
     if (log.isSure(place)) this.sure += 1;
-    else if (!log.isPossible[place] && !log.others.has(place)) this.unread += 1;
+    else if (!log.others.has(place)) this.unread += 1;
     if (isSent) this.sent += 1;
     if (isSent && log.codes[place] === POLL) this.polled.add(log.blocks[place]);
   }

@@ -16,7 +16,7 @@ export class Log {
   // `found` is what was read. `end` says where the log was taken: what was sent there is what the CPU sent or heard. If it is
   // `auto`, most directions say which end it was.
   constructor(library, arena, name, found, end) {
-    const { octets, end: after, texts, doubts, ...columns } = found, { remarks, isReversed, form } = found;
+    const { octets, end: after, texts, ...columns } = found, { remarks, isReversed, form } = found;
     Object.assign(this, { library, name, remarks, isReversed, ...columns });
     this.hasTimes = this.clocks.some((clock) => clock !== '');
     this.hasDirections = this.sides.some((it) => it !== noSide);
@@ -58,9 +58,9 @@ export class Log {
     return this.lengths[place] === 0;
   }
 
-  // Whether a place has a message that is sure, or octets that are read as one.
+  // Whether a place has a message, or octets that are read as one.
   isSure(place) {
-    return !this.isPossible[place] && !this.isBadLine(place);
+    return !this.isBadLine(place);
   }
 
   // The lines that `show` writes of a message.
@@ -81,11 +81,9 @@ export class Log {
     return line === this.lines[place - 1] || place + 1 < this.count && line === this.lines[place + 1] ? `message ${place + 1}${octet} of line ${line}` : `line ${line}`;
   }
 
-  // What a message that is only possible says stays out of counts, of what is judged, and of the record.
   decode(place) {
-    const isOther = this.others.has(place), isRead = !this.isPossible[place] && !isOther;
-    const message = isRead && !this.isBadLine(place) ? this.library.decode(this.address(place), this.lengths[place]) : null;
-    this.isFaulty[place] = isRead && message === null ? 1 : 0;
+    const isOther = this.others.has(place), message = !isOther && !this.isBadLine(place) ? this.library.decode(this.address(place), this.lengths[place]) : null;
+    this.isFaulty[place] = !isOther && message === null ? 1 : 0;
     // A transcript by order says itself who sent a frame.
     this.directions[place] = this.form === LOG_FORMS.transcript ? this.sides[place] : isOther || this.isFaulty[place] ? noSide : this.wayByType(place);
     if (message === null) return;
@@ -196,7 +194,7 @@ export const FACTS = [
   ['broken', 'breach', (log, place) => log.breaches.has(place), 'bad'],
   ['restarts', 'restart', (log, place) => log.restarts.has(place), 'warn'],
   ['faults', 'faulty line', (log, place) => log.isFaulty[place] === 1, 'bad'],
-  ['possible', 'possible message', (log, place) => log.isPossible[place] === 1, 'warn'],
+  ['possible', 'formless line', (log, place) => log.damaged.get(place)?.isPossible === true, 'warn'],
   ['others', 'other frame', (log, place) => log.others.has(place), 'warn'],
   ['gaps', 'gap mark', (log, place) => log.hasBit(place, STATUS_BITS.lost), 'bad'],
   ['repeats', 'repeated block', (log, place) => log.hasBit(place, STATUS_BITS.again), 'warn'],

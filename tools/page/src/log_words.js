@@ -1,26 +1,17 @@
-// What is said of the lines of a log: why one gives no frame, by the number of the reason; of which frames damage is not
-// seen; which directions are missing; and of what a line carried. Written by tools/generate-messages.
+// What is said of the lines of a log: why one gives no frame, or what else is in one that does, by the number of the reason; which
+// directions are missing; and of what a line carried. Written by tools/generate-messages.
 
-export const REASONS = [
-  '',
-  'no octets',
-  'octets that are no message',
-  'a short message in a line unlike those of other messages',
-  'more than one message',
-  'it may be one message with the line below or above, or one by itself',
-  'longer than a line with a frame can be',
-  'bad line',
-  'octets that are a message if those of each pair are exchanged',
-  'octets that are a message but for two at their beginning or end',
-  'octets may be lost',
-  'heading',
-  'an octet too few',
-];
-export const POSSIBLE = 'possible: nothing in the log confirms it';
-export const DOUBTS = {
-  rows: 'each row has one octet: if a row is missing, the rest may read as another message',
-  numbers: 'frames whose octets are numbers without leading zeros: {count}; if the log lost a digit, nothing shows it',
-  loose: 'frames of types that may have any length: {count}; if the logger cut one off, nothing shows it',
+export const REASONS = {
+  1: 'no octets',
+  2: 'octets that are no message',
+  3: 'octets that may be a message, and no form of this log',
+  4: 'beside its frames it has octets that may be a message',
+  6: 'longer than a line with a frame can be',
+  7: 'bad line',
+  10: 'octets may be lost',
+  11: 'heading',
+  13: 'a copy of the frame above',
+  14: 'the message above is not whole, and does not go on here',
 };
 export const SIDES = {
   'commands': 'this log has the commands alone: the answers were not logged, so no rule is judged',

@@ -30,33 +30,29 @@ const WORDS = {
   'own profile': 'what this project chose where TEES 2009 leaves a choice: a device that chose otherwise breaks such a rule, and may be right',
 };
 
-// What helps, by the reason why lines are skipped.
-const CURES = {
-  [LOG_REASONS.exchanged]: ' (write the log with xxd or hexdump -C)',
-  [LOG_REASONS.twoMore]: ' (at “How is it written?” choose SDLC frames, without their check, or an expression)',
-};
 // The reasons of lines that have no octets.
 const WITHOUT_OCTETS = [LOG_REASONS.noOctets, LOG_REASONS.loss, LOG_REASONS.heading];
 
-// How many lines are skipped, and why, the most frequent reasons first; and what stays doubtful, a sentence each.
+// How many lines are skipped, and why, the most frequent reasons first; and how the others are read, a sentence each.
 function passedWords({ passed, remarks }) {
-  const reasons = [...passed.entries()].filter(([, count]) => count > 0).sort(([, one], [, other]) => other - one);
-  const words = reasons.map(([reason, count]) => REASONS[reason] + (reasons.length > 1 ? ` ${withCommas(count)}` : '') + (CURES[reason] || ''));
-  const skipped = words.length === 0 ? [] : [`${counted(passed.reduce((sum, count) => sum + count), 'line')} skipped: ${words.join(', ')}.`];
+  const reasons = [...passed].sort(([, one], [, other]) => other - one);
+  const words = reasons.map(([reason, count]) => REASONS[reason] + (reasons.length > 1 ? ` ${withCommas(count)}` : ''));
+  const skipped = words.length === 0 ? [] : [`${counted([...passed.values()].reduce((sum, count) => sum + count), 'line')} skipped: ${words.join(', ')}.`];
   return [...skipped, ...remarks.map(sentence)].map((one) => ' ' + one).join('');
 }
 
 // The noun of a fact. What may be no message is a row too.
 function nounOf({ summary }, name, noun) {
-  const words = name === 'messages' && summary.badLines + summary.possible > 0 ? 'row' : noun;
+  const words = name === 'messages' && summary.badLines > 0 ? 'row' : noun;
   return summary[name] === 1 ? words : words.replace(/y$/, 'ie').replace(/h$/, 'he') + 's';
 }
 
-const FIRST_OCTETS = 4096;
+// The octets that show what a file is.
+const SHOWING = 4096;
 
 // One sentence on a file, by its octets, and by whether lines of it have octets.
 function kindOf(file, hasOctets) {
-  const first = asLatin(file.subarray(0, FIRST_OCTETS)), found = Object.values(FILES).find(({ begins }) => begins.test(first));
+  const first = asLatin(file.subarray(0, SHOWING)), found = Object.values(FILES).find(({ begins }) => begins.test(first));
   if (found) return `It is ${found.is}${found.act === '' ? '' : `: ${found.act}`}.`;
   return hasOctets ? 'It is text with octets that are no message. Perhaps it is a log of another link, or the bits of its octets are in reverse order.'
     : 'It is text without octets of a message.';
@@ -112,7 +108,7 @@ export class MessagesView {
   open(log, file, readAsAny) {
     this.log = log;
     const has = { times: log.hasTimes, notes: hasNotes(log), rules: log.breaches.size + log.restarts.size > 0,
-      doubts: log.damaged.size + log.others.size + log.summary.possible > 0 };
+      doubts: log.damaged.size + log.others.size > 0 };
     for (const [what, isSo] of Object.entries(has)) this.table.root.classList.toggle('has-' + what, isSo);
     byId('log').hidden = false;
     this.drawVerdict();
@@ -120,12 +116,12 @@ export class MessagesView {
     const isOther = log.form !== LOG_FORMS.auto && log.summary.badLines > 0;
     byId('note').replaceChildren(this.noteOf(log), ...isOther ? [' ', element('button', { id: 'as-any', onclick: readAsAny }, 'Read it as any log')] : []);
     this.showAll();
-    if (log.verdict.kind === 'none' && log.summary.possible === 0) this.showNoMessage(file);
+    if (log.verdict.kind === 'none') this.showNoMessage(file);
   }
 
   // Says what a text is that is no log, and what can be read.
   showNoMessage(file) {
-    const { log } = this, hasOctets = log.passed.some((count, reason) => count > 0 && !WITHOUT_OCTETS.includes(reason));
+    const { log } = this, hasOctets = [...log.passed.keys()].some((reason) => !WITHOUT_OCTETS.includes(reason));
     this.showNone(`No message was found in ${log.name}`, element('p', { id: 'no-log-kind' }, kindOf(file, hasOctets)),
       ...log.count === 0 ? [] : [element('p', {}, `${counted(log.count, 'line')} may have octets and could not be read, the first in line ${log.lines[0]}.`)],
       element('p', { id: 'no-log-passed' }, passedWords(log)),
@@ -208,7 +204,7 @@ export class MessagesView {
 
   kindsOf(place, note) {
     const { log } = this, kinds = [...log.directions[place] === LOG_SIDES.fromCpu ? ['sent'] : [], ...note === '' ? ['bare'] : []];
-    if (log.isPossible[place] || log.others.has(place)) kinds.push('possible');
+    if (log.damaged.get(place)?.isPossible || log.others.has(place)) kinds.push('possible');
     else if (log.breaches.has(place)) kinds.push('broken');
     else if (log.restarts.has(place)) kinds.push('restarted');
     else if (log.isFaulty[place]) kinds.push('faulty');

@@ -11,16 +11,16 @@ import { RESTART_HELP, ruleOf } from './rules.js';
 // Its kind, as the style names it; its sentence, and more on it; the place of the first breach or restart (-1 if there is none); what kind
 // of log it looks like if it is not the log of one link in order; and sentences on what was not judged.
 export function verdictOf(log) {
-  const { messages, badLines, possible } = log.summary, readable = messages - badLines - possible;
+  const { messages, badLines } = log.summary, readable = messages - badLines;
   const [kind, text, more = '', first = -1] = saidOf(log, readable);
   return { kind, text, more, first, looksLike: sentence(SIGNS[log.sign]), notJudged: sentencesOf(log, readable > 0) };
 }
 
 // The kind, the sentence, more, and the place, where so many messages are sure.
 function saidOf(log, readable) {
-  const { messages, broken, restarts, possible, badLines } = log.summary, judged = log.judging.unjudged.reduce((rest, count) => rest - count, readable);
+  const { messages, broken, restarts, badLines } = log.summary, judged = log.judging.unjudged.reduce((rest, count) => rest - count, readable);
   const couldBe = `No rule is broken in the ${counted(judged, 'message')} that could be judged.`;
-  if (readable === 0) return ['none', possible > 0 ? 'No message is sure, so none is judged.' : 'No message was found.'];
+  if (readable === 0) return ['none', 'No message was found.'];
   if (isOfOneSide(log.logged)) return ['unjudged', sentence(SIDES[log.logged])];
   if (broken > 0) return brokenOf(log, readable);
   if (restarts > 0) return ['restarted', restartsIn(log), `. ${couldBe} ${RESTART_HELP}`, [...log.restarts][0]];
@@ -28,7 +28,7 @@ function saidOf(log, readable) {
   if (2 * judged < messages) {
     return ['unjudged', `Only ${counted(judged, 'message')} of ${withCommas(messages)} could be judged.`, ` No rule is broken in ${judged === 1 ? 'it' : 'them'}.`];
   }
-  const isPart = badLines > 0 || judged < readable || possible > 0 || log.others.size > 0 || log.logged !== '';
+  const isPart = badLines > 0 || judged < readable || log.others.size > 0 || log.logged !== '';
   return isPart ? ['partly', couldBe] : ['good', `No rule is broken in ${counted(judged, 'message')}.`];
 }
 
@@ -51,15 +51,14 @@ function restartsIn(log) {
 
 // What was not judged, and why.
 function sentencesOf(log, isJudged) {
-  const { inTwoLines, hasDirections, end, summary: { possible, badLines }, judging: { unjudged, losses } } = log;
+  const { hasDirections, end, summary: { possible, badLines }, judging: { unjudged, losses } } = log;
   const { [WHY.aboveCommand]: aboveCommand, [WHY.unheard]: unheard, [WHY.load]: belowLoads } = unjudged;
-  const [first] = log.breaches.keys(), poll = log.codes.indexOf(POLL), unread = badLines - 2 * inTwoLines;
+  const [first] = log.breaches.keys(), poll = log.codes.indexOf(POLL), unread = badLines - possible;
   // How many, with the verb; nothing of what the log has none of.
   const said = (count, noun, words) => count > 0 && `${counted(count, noun)} ${words.replace(/\bare\b/, count === 1 ? 'is' : 'are')}.`;
   return [
     said(unread, 'line', 'could not be read as a message and are not judged'),
-    said(inTwoLines, 'message', 'split over two lines are not read'),
-    said(possible, 'message', 'are possible and not judged: nothing in the log makes sure that the octets are a message'),
+    possible > 0 && `${counted(possible, 'line')} may be a message, and ${possible === 1 ? 'has' : 'have'} no form of this log.`,
     said(log.others.size, 'frame', 'with another address are not judged'),
     !isOfOneSide(log.logged) && sentence(SIDES[log.logged] || ''),
     said(aboveCommand, 'message', 'above the first command are not judged: what was asked is not in the log'),

@@ -13,8 +13,7 @@ verdicts-preserved c =
     let told = c.in-Some.ensures.told in
     record {
       verdicts = λ first whole has. verdict_more first whole before after verdict c.verdicts.batch c.add.new.batch told c.add.ensures.spelled
-          (λ texts read. verdict_of texts before after verdict told c.in-Some.ensures.kept c.in-Some.ensures.written c.in-Some.ensures.words c.in-Some.ensures.own
-          c.in-Some.ensures.last read)
+          (λ texts read. verdict_of texts before after verdict told c.in-Some.ensures.own c.in-Some.ensures.last read)
           (λ all holds. content_more all (told_by verdict after) c.add.new.batch (c.add.ensures.told (content_of all) holds))
           (c.verdicts.invariant.verdicts first whole has);
       making = told.making ∙ c.verdicts.invariant.making;
@@ -29,5 +28,5 @@ returns-in_default-clause-verdicts c = λ first whole has.
     let after = c.verdict.new.self in
     let more = c.in_default.ensures.told in
     verdicts_same first whole before after c.verdicts.batch more.told more.form
-    (λ texts read. same_read texts before after more.making more.read c.in_default.ensures.kept read)
+    (λ texts read. same_read texts before after more.making more.read read)
     (c.verdicts.invariant.verdicts first whole has)

@@ -1,0 +1,5 @@
+use Rattle.std.proofs.Common.{◌≤◌, length}
+use Rattle.fio_log.proofs.by_forms.FormReader.tell_seconds.Given as goal
+
+abbrev pub invariant-seconds : goal.invariant-seconds
+invariant-seconds l = length l.initial.told.frames ≤ length l.told.frames

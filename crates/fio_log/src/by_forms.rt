@@ -1,0 +1,317 @@
+//! Lines read by the forms that are known.
+ghost use Rattle.std.specs.Prelude.{◌≡◌, [], length, true, false};
+ghost use Rattle.fio_log.specs.Verdicts.{Agrees, has_reason};
+ghost use Rattle.fio_log.specs.declared.verdict.Kind.TheVariants.{Frames};
+
+use crate::counts::{Counts, ReadAs};
+use crate::heading::Heading;
+use crate::lines::NumberedLine;
+use crate::quiet::is_plain_quiet;
+use crate::rows::{Rows, StreamRows};
+use crate::shapes::Shapes;
+use crate::told::Told;
+use crate::verdict::{Kind, LineVerdict, Reason};
+use arrayvec::ArrayVec;
+use fio_form::{LineForm, Octets, Piece};
+use fio_guess::hash_of;
+use fio_rows::{LineSaid, Next, Reading, Said, Stream};
+use fio_sniff::Forms;
+
+/// What a line says by the forms, before its verdict is made.
+#[derive(Clone, Copy)]
+pub(crate) struct Heard {
+    /// What it says.
+    pub said: LineSaid,
+    /// Whether its octets go on with those of the lines above.
+    pub goes_on: bool,
+    /// Whether it is longer than a line that is kept.
+    pub is_long: bool,
+}
+
+mod telling;
+
+/// Reads lines by forms.
+#[derive(Drop)]
+pub(crate) struct FormReader {
+    forms: Forms,
+    counts: Counts,
+    reading: Reading,
+    /// The rows of the message that is open.
+    rows: Rows,
+    stream: Stream,
+    /// The rows of the octets of the stream that are in no message yet.
+    stream_rows: StreamRows,
+    heading: Heading,
+    /// What is said of the message that is open.
+    begun: Heading,
+    /// The last frame.
+    last: Octets,
+    octets: Octets,
+    held: Octets,
+    shapes: Shapes,
+    /// Whether the last line that no form has had octets that may be a message.
+    is_loud: bool,
+    /// How many forms were given by samples.
+    given: usize,
+}
+
+/// Returns the index of a form, if it is known; the number of forms if not.
+fn place_of(forms: &[LineForm], form: &LineForm) -> usize {
+    for (at, one) in forms.iter().enumerate() {
+        if is_same(one, form) {
+            return at;
+        }
+    }
+    forms.len()
+}
+
+/// Returns whether two forms are one.
+fn is_same(one: &LineForm, other: &LineForm) -> bool {
+    hash_of(one) == hash_of(other)
+        && one.is_echo == other.is_echo
+        && one.values.as_slice() == other.values.as_slice()
+}
+
+/// Returns whether a form is among others.
+fn has_same(forms: &[LineForm], form: &LineForm) -> bool {
+    place_of(forms, form) < forms.len()
+}
+
+/// Returns whether one of some forms has a front.
+fn has_front(forms: &[LineForm], front: &[Piece]) -> bool {
+    for form in forms {
+        if form.front() == front {
+            return true;
+        }
+    }
+    false
+}
+
+impl FormReader {
+    /// Returns a reader without forms.
+    pub(crate) fn new() -> FormReader {
+        FormReader {
+            forms: ArrayVec::new(),
+            counts: Counts::new(),
+            reading: Reading::new(),
+            rows: Rows::new(),
+            stream: Stream::new(),
+            stream_rows: StreamRows::new(),
+            heading: Heading::new(),
+            begun: Heading::new(),
+            last: ArrayVec::new(),
+            octets: ArrayVec::new(),
+            held: ArrayVec::new(),
+            shapes: Shapes::new(),
+            is_loud: false,
+            given: 0,
+        }
+    }
+
+    /// Begins without forms.
+    pub(crate) fn clear(&mut self) {
+        self.forms.clear();
+        self.counts.clear();
+        self.reading.close();
+        self.rows.clear();
+        self.stream.clear();
+        self.stream_rows.clear();
+        self.heading = Heading::new();
+        self.begun = Heading::new();
+        self.last.clear();
+        self.shapes.clear();
+        self.is_loud = false;
+        self.given = 0;
+    }
+
+    /// Returns the forms.
+    pub(crate) fn forms(&self) -> &[LineForm] {
+        &self.forms
+    }
+
+    /// Returns how the lines of a form look, and how many there are.
+    pub(crate) fn read_as(&self, form: usize) -> Option<ReadAs<'_>> {
+        if form >= self.forms.len() {
+            return None;
+        }
+        self.counts.get(form, self.forms[form].is_echo)
+    }
+
+    /// Adds forms behind those that are known, as far as there is room.
+    pub(crate) fn add(&mut self, forms: &[LineForm]) {
+        for form in forms {
+            if self.forms.try_push(form.copied()).is_ok() {
+                self.counts.add();
+            }
+        }
+    }
+
+    /// Adds forms that are given by samples: they stay, and come before those that are learnt.
+    pub(crate) fn give(&mut self, forms: &[LineForm]) {
+        self.add(forms);
+        self.given = self.forms.len();
+    }
+
+    /// Returns whether other forms may be taken: no message is open, and no octets of a stream are held.
+    pub(crate) fn is_between(&self) -> bool {
+        !self.reading.is_open() && self.stream.octets.is_empty()
+    }
+
+    /// Reads by these forms from the next line on. Of those that were known the given ones stay, and those with a front that none of
+    /// these has.
+    pub(crate) fn adopt(&mut self, forms: &[LineForm]) {
+        let mut kept: Forms = ArrayVec::new();
+        let mut counts = Counts::new();
+        for (at, form) in self.forms.iter().enumerate() {
+            if at < self.given && kept.try_push(form.copied()).is_ok() {
+                counts.add_from(&self.counts, at);
+            }
+        }
+        for form in forms {
+            if !has_same(&self.forms[..self.given.min(self.forms.len())], form)
+                && kept.try_push(form.copied()).is_ok()
+            {
+                counts.add_from(&self.counts, place_of(&self.forms, form));
+            }
+        }
+        for (at, form) in self.forms.iter().enumerate() {
+            if at >= self.given
+                && !has_front(forms, form.front())
+                && kept.try_push(form.copied()).is_ok()
+            {
+                counts.add_from(&self.counts, at);
+            }
+        }
+        self.forms = kept;
+        self.counts = counts;
+    }
+
+    /// Returns whether the last line, which no form has, may be of a form that is not known.
+    pub(crate) fn is_new(&mut self, verdict: LineVerdict, line: &[u8]) -> bool {
+        match verdict.kind {
+            Kind::Possible | Kind::Damaged => true,
+            Kind::PassedOver => self.is_loud
+                || self.forms.is_empty() && !is_plain_quiet(line, &mut self.octets),
+            _ => false,
+        }
+    }
+
+    /// Hears what a line says, after the line above it.
+    pub(crate) fn hear(&mut self, line: NumberedLine) -> Heard {
+        let was_open = self.reading.is_open();
+        let said = if line.is_long {
+            self.reading.skip()
+        } else {
+            self.reading.read(&self.forms, line.text)
+        };
+        let goes_on = was_open
+            && !said.is_broken
+            && !said.is_ended
+            && matches!(said.said, Said::Frame | Said::Part | Said::Damaged)
+            && !line.is_long;
+        Heard {
+            said,
+            goes_on,
+            is_long: line.is_long,
+        }
+    }
+
+    /// Returns whether the verdict of a line that was heard last waits for the next line, or the end of the log, which may end a
+    /// message.
+    pub(crate) fn waits(&self, heard: Heard) -> bool {
+        heard.said.said == Said::Stream
+            || self.reading.may_have_ended()
+            || !self.stream.octets.is_empty()
+    }
+
+    /// Returns whether the next line shows if a message has ended with the one that was heard last.
+    pub(crate) fn is_open(&self) -> bool {
+        self.reading.may_have_ended()
+    }
+
+    /// Tells the message that ended with the line above the one that was heard last, or with the log.
+    pub(crate) fn tell_ended(
+        &mut self,
+        above: LineVerdict,
+        is_end: bool,
+        told: &mut Told,
+    ) -> LineVerdict
+        ensures { Agrees result (length told.new.frames) }
+    {
+        let is_told = if is_end {
+            take_message(&self.reading.message, &self.rows, &mut self.last, told)
+        } else {
+            take_message(&self.reading.ended, &self.rows, &mut self.last, told)
+        };
+        if !is_told {
+            return LineVerdict {
+                kind: Kind::Damaged,
+                reason: Reason::TooLong,
+                ..above
+            };
+        }
+        LineVerdict {
+            kind: Kind::Frames,
+            reason: reason_of_frames(above),
+            time: self.begun.time,
+            said: self.begun.said,
+            ..above
+        }
+    }
+
+    /// Tells the messages that end with the log, if there are any, in the verdict on its last line, whose frames are told.
+    pub(crate) fn tell_end(&mut self, last: LineVerdict, told: &mut Told) -> LineVerdict
+        requires { Agrees last (length told.old.frames) }
+        ensures { Agrees result (length told.new.frames) }
+    {
+        let is_whole = self.reading.end();
+        if is_whole {
+            return self.tell_ended(last, true, told);
+        }
+        let top = self.stream_rows.top();
+        if let Next::Message(count) = self.stream.end() {
+            self.tell_of_stream(count, told);
+        }
+        match told.frames() {
+            0 => last,
+            1 if last.kind != Kind::Frames => LineVerdict {
+                kind: Kind::Frames,
+                reason: Reason::None,
+                said: top.said,
+                time: top.time,
+                ..last
+            },
+            _ => LineVerdict {
+                kind: Kind::Frames,
+                reason: reason_of_frames(last),
+                ..last
+            },
+        }
+    }
+}
+
+/// Returns the reason of a verdict of which frames are told, if lines with frames may have it.
+fn reason_of_frames(verdict: LineVerdict) -> Reason
+    ensures { has_reason Frames result ≡ true }
+{
+    match verdict.reason {
+        Reason::More => Reason::More,
+        Reason::Broken => Reason::Broken,
+        _ => Reason::None,
+    }
+}
+
+/// Takes a message, with the places of its rows, as the only frame; returns whether there was room.
+fn take_message(message: &[u8], rows: &Rows, last: &mut Octets, told: &mut Told) -> bool
+    ensures taken { result ≡ true → length told.new.frames ≡ 1 }
+    ensures none { result ≡ false → told.new.frames ≡ [] }
+{
+    told.clear();
+    if !told.add_frame(message) || !rows.add_to(told) {
+        told.clear();
+        return false;
+    }
+    last.clear();
+    let _fits = last.try_extend_from_slice(message);
+    true
+}

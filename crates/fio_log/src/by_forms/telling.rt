@@ -1,0 +1,343 @@
+//! Verdicts on lines that were heard.
+ghost use Rattle.std.specs.Prelude.{◌≡◌, ◌≤◌, ℕ, List, [], length, true};
+ghost use Rattle.fio_log.specs.Blanks.{is_blank_line};
+ghost use Rattle.fio_log.specs.Verdicts.{Agrees, has_frames, has_reason};
+ghost use Rattle.fio_log.specs.Wordings.{SaysWords};
+
+use crate::by_forms::{FormReader, Heard, take_message};
+use crate::cut::{ends_in_gap, has_ends, is_cut_line};
+use crate::heading::Heading;
+use crate::lines::NumberedLine;
+use crate::places::Place;
+use crate::quiet::{Held, has_fronts, held_by_text};
+use crate::rows::StreamRow;
+use crate::second::{is_quiet_between, may_follow, second_in};
+use crate::told::Told;
+use crate::verdict::{Kind, LineVerdict, Reason};
+use crate::wordings::{reason_beside_octets, reason_without_octets};
+use fio_form::{Found, LineRows, Whole};
+use fio_rows::{KEPT, Next, Said};
+
+impl FormReader {
+    /// Returns the verdict on the line that was heard last, and takes its frames.
+    pub(crate) fn tell(&mut self, line: NumberedLine, heard: Heard, told: &mut Told) -> LineVerdict
+        ensures agrees { Agrees result (length told.new.frames) }
+        ensures words { SaysWords line.entry.text.now result.reason }
+        ensures blank { result.kind ≡ Kind.Blank → is_blank_line (record { octets = line.entry.text.now; is_long = line.entry.is_long }) ≡ true }
+    {
+        told.clear();
+        let found = heard.said.found;
+        let place = if heard.said.said == Said::Other {
+            line.text.len()
+        } else {
+            found.start
+        };
+        let own = Heading::of(line.text, place);
+        let said = if found.end > 0 {
+            own.or(self.heading)
+        } else {
+            own
+        };
+        let above = if self.stream.octets.is_empty() {
+            said
+        } else {
+            self.stream_rows.top()
+        };
+        let (kind, reason) = self.tell_kind(line, heard, said, told);
+        if kind != Kind::PassedOver || heard.said.said != Said::Other {
+            self.heading = Heading::new();
+        }
+        self.count(line, heard, kind);
+        let shown = match heard.said.said {
+            Said::Stream => above,
+            _ if kind == Kind::Frames => self.begun,
+            _ => said,
+        };
+        LineVerdict {
+            time: shown.time.or(own.time),
+            ..LineVerdict::of(
+                line.number,
+                kind,
+                with_break(kind, reason, heard),
+                shown.said,
+            )
+        }
+    }
+
+    /// Returns what a line is, and takes its frames.
+    fn tell_kind(
+        &mut self,
+        line: NumberedLine,
+        heard: Heard,
+        said: Heading,
+        told: &mut Told,
+    ) -> (Kind, Reason)
+        requires { told.old.frames ≡ [] }
+        ensures reason { has_reason result.0 result.1 ≡ true }
+        ensures frames { has_frames result.0 (length told.new.frames) ≡ true }
+        ensures words { SaysWords line.entry.text.now result.1 }
+        ensures blank { result.0 ≡ Kind.Blank → is_blank_line (record { octets = line.entry.text.now; is_long = line.entry.is_long }) ≡ true }
+    {
+        if heard.is_long {
+            return (Kind::Damaged, Reason::TooLong);
+        }
+        let found = heard.said.found;
+        match heard.said.said {
+            Said::Frame => self.tell_frame(line, heard, said, told),
+            Said::Part => {
+                if self.take_row(line.number, heard, said) {
+                    (Kind::Part, Reason::None)
+                } else {
+                    self.reading.close();
+                    (Kind::Damaged, Reason::TooLong)
+                }
+            }
+            Said::Stream => self.tell_stream(line.number, found, said, told),
+            Said::Idle => (Kind::PassedOver, Reason::NoMessage),
+            Said::Stray | Said::Damaged => (Kind::Damaged, Reason::NoMessage),
+            Said::Other => self.tell_other(line),
+        }
+    }
+
+    /// Counts the line for its form.
+    fn count(&mut self, line: NumberedLine, heard: Heard, kind: Kind) {
+        if heard.said.said != Said::Other && !heard.is_long {
+            self.counts.count(
+                heard.said.form,
+                line.number,
+                line.text,
+                heard.said.found,
+                kind == Kind::Damaged,
+            );
+        }
+    }
+
+    /// Takes the row of a message that a line has; returns whether there was room.
+    fn take_row(&mut self, number: u64, heard: Heard, said: Heading) -> bool {
+        if !heard.goes_on {
+            self.rows.clear();
+            self.begun = said;
+        }
+        let found = heard.said.found;
+        self.rows.push(Place {
+            line: number,
+            start: found.start,
+            end: found.end,
+        })
+    }
+
+    /// Takes the message that ends with a line, and those behind it.
+    fn tell_frame(
+        &mut self,
+        line: NumberedLine,
+        heard: Heard,
+        said: Heading,
+        told: &mut Told,
+    ) -> (Kind, Reason)
+        requires { told.old.frames ≡ [] }
+        ensures reason { has_reason result.0 result.1 ≡ true }
+        ensures frames { has_frames result.0 (length told.new.frames) ≡ true }
+        ensures words { SaysWords line.entry.text.now result.1 }
+        ensures blank { result.0 ≡ Kind.Blank → is_blank_line (record { octets = line.entry.text.now; is_long = line.entry.is_long }) ≡ true }
+    {
+        let is_echo = heard.said.form < self.forms.len() && self.forms[heard.said.form].is_echo;
+        if is_echo {
+            return if self.reading.message.as_slice() == self.last.as_slice() {
+                (Kind::PassedOver, Reason::Copy)
+            } else {
+                (Kind::Damaged, Reason::NoMessage)
+            };
+        }
+        let is_kept = self.take_row(line.number, heard, said);
+        if !is_kept || !take_message(&self.reading.message, &self.rows, &mut self.last, told) {
+            told.clear();
+            return (Kind::Damaged, Reason::TooLong);
+        }
+        let form = heard.said.form;
+        let end = heard.said.found.end;
+        let is_cut = form < self.forms.len()
+            && end <= line.text.len()
+            && ends_in_gap(&self.forms[form], &line.text[end..]);
+        let is_all = self.tell_seconds(line, end, told) && !is_cut;
+        (
+            Kind::Frames,
+            if is_all { Reason::None } else { Reason::More },
+        )
+    }
+
+    /// Takes the messages behind the first one of a line; returns whether nothing else of it may be one.
+    fn tell_seconds(&mut self, line: NumberedLine, end: usize, told: &mut Told) -> bool
+        ensures { length told.old.frames ≤ length told.new.frames }
+    {
+        let mut from = end;
+        let mut is_all = true;
+        'seconds: for _ in end..line.text.len() {
+            if from >= line.text.len() {
+                break;
+            }
+            let Some((found, whole)) = second_in(
+                &self.forms,
+                line.text,
+                from,
+                &mut self.octets,
+                &mut self.held,
+            ) else {
+                break;
+            };
+            let (start, stop) = match whole {
+                Whole::Message { start, end } | Whole::Any { start, end } => (start, end),
+                _ => (0, 0),
+            };
+            if start >= stop || stop > self.octets.len() || found.end <= from {
+                return false;
+            }
+            let place = Place {
+                line: line.number,
+                start: found.start,
+                end: found.end,
+            };
+            let is_told = add_second(&self.octets[start..stop], place, told);
+            is_all = is_all && may_follow(&self.last, &self.octets[start..stop]);
+            self.last.clear();
+            let _fits = self.last.try_extend_from_slice(&self.octets[start..stop]);
+            is_all = is_all
+                && is_told
+                && is_quiet_between(&self.forms, line.text, from, found.front, &mut self.octets);
+            from = found.end;
+        }
+        is_all
+            && is_quiet_between(
+                &self.forms,
+                line.text,
+                from,
+                line.text.len(),
+                &mut self.octets,
+            )
+    }
+
+    /// Returns what a line is that no form has.
+    fn tell_other(&mut self, line: NumberedLine) -> (Kind, Reason)
+        ensures reason { has_reason result.0 result.1 ≡ true }
+        ensures frames { has_frames result.0 0 ≡ true }
+        ensures words { SaysWords line.entry.text.now result.1 }
+        ensures blank { result.0 ≡ Kind.Blank → is_blank_line (record { octets = line.entry.text.now; is_long = line.entry.is_long }) ≡ true }
+    {
+        if line.is_blank() {
+            return (Kind::Blank, Reason::None);
+        }
+        if is_cut_line(&self.forms, line.text, &mut self.octets) {
+            return (Kind::Damaged, Reason::NoMessage);
+        }
+        let held = held_by_text(&self.forms, line.text, &mut self.octets);
+        self.is_loud = held != Held::Nothing || has_ends(&self.forms, line.text, &mut self.octets);
+        if !self.is_loud {
+            self.heading = Heading::of(line.text, line.text.len());
+            return (Kind::PassedOver, reason_without_octets(line.text));
+        }
+        let reason = reason_beside_octets(line.text);
+        if reason != Reason::None {
+            return (Kind::PassedOver, reason);
+        }
+        let is_usual = self.shapes.are_usual(line.text, held == Held::Message);
+        if is_usual && !has_fronts(&self.forms, line.text, &mut self.octets) {
+            (Kind::PassedOver, Reason::NoMessage)
+        } else {
+            (Kind::Possible, Reason::NoForm)
+        }
+    }
+
+    /// Takes the octets of a stream that a line has, and the messages that they end.
+    fn tell_stream(
+        &mut self,
+        number: u64,
+        found: Found,
+        said: Heading,
+        told: &mut Told,
+    ) -> (Kind, Reason)
+        ensures reason { has_reason result.0 result.1 ≡ true }
+        ensures frames { has_frames result.0 (length told.new.frames) ≡ true }
+        ensures words { (text : List ℕ) → SaysWords text result.1 }
+        ensures blank { result.0 ≡ Kind.Blank → ⊥ }
+    {
+        let count = self.reading.octets.len();
+        let place = Place {
+            line: number,
+            start: found.start,
+            end: found.end,
+        };
+        let mut is_whole = self.stream_rows.push(StreamRow::of(place, count, said));
+        let is_flags = self.forms.iter().any(|form| form.rows == LineRows::Flags);
+        for at in 0..count {
+            if let Some(octet) = self.reading.octets.get(at).copied() {
+                is_whole = self.stream.take(octet) && is_whole;
+                is_whole = self.divide(is_flags, told) && is_whole;
+            }
+        }
+        if !is_whole && told.frames() == 0 {
+            (Kind::Damaged, Reason::NoMessage)
+        } else if told.frames() == 0 {
+            (Kind::Part, Reason::None)
+        } else {
+            (
+                Kind::Frames,
+                if is_whole {
+                    Reason::None
+                } else {
+                    Reason::Broken
+                },
+            )
+        }
+    }
+
+    /// Divides off what the octets of the stream have ended; returns whether that was all messages.
+    fn divide(&mut self, is_flags: bool, told: &mut Told) -> bool {
+        let mut is_whole = true;
+        'parts: for _ in 0..KEPT {
+            let next = if is_flags {
+                self.stream.unframe()
+            } else {
+                self.stream.divide()
+            };
+            match next {
+                Next::Message(count) => is_whole = self.tell_of_stream(count, told) && is_whole,
+                Next::Broken(count) => {
+                    self.stream_rows.take(count, false, told);
+                    is_whole = false;
+                }
+                Next::Idle(count) => {
+                    self.stream_rows.take(count, false, told);
+                }
+                Next::Wait => return is_whole,
+            }
+        }
+        is_whole
+    }
+
+    /// Takes a message of the stream, which has so many of its octets; returns whether there was room.
+    pub(super) fn tell_of_stream(&mut self, count: usize, told: &mut Told) -> bool
+        ensures { length told.old.frames ≤ length told.new.frames }
+    {
+        let is_told = told.add_frame(&self.stream.message);
+        self.stream_rows.take(count, true, told) && is_told
+    }
+}
+
+/// Returns the reason of a line, if the message of the lines above may be broken.
+fn with_break(kind: Kind, reason: Reason, heard: Heard) -> Reason
+    requires { has_reason kind reason ≡ true }
+    ensures reason { has_reason kind result ≡ true }
+    ensures words { (text : List ℕ) → SaysWords text reason → SaysWords text result }
+{
+    if heard.said.is_broken && kind != Kind::Damaged && kind != Kind::Possible {
+        Reason::Broken
+    } else {
+        reason
+    }
+}
+
+/// Adds a further message of a line, with its place; returns whether there was room.
+fn add_second(message: &[u8], place: Place, told: &mut Told) -> bool
+    ensures { length told.old.frames ≤ length told.new.frames }
+{
+    told.add_frame(message) && told.add_place(place)
+}

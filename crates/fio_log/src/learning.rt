@@ -1,0 +1,154 @@
+//! Learns the forms of a log from its lines.
+ghost use Rattle.std.specs.Prelude.{◌≡◌, ◌+◌, ◌≤◌, [], length, true};
+ghost use Rattle.fio_guess.specs.declared.table.TheConstants.{LINES};
+
+use fio_guess::Window;
+use fio_sniff::{Forms, Looking, Sniffer};
+
+/// So many lines below one that may be of a form that is not known are looked at with it.
+const NEAR: u8 = 64;
+
+/// So many lines are passed over after a window that gave no forms; twice as many after each further one, up to the most.
+const REST: u64 = 1_024;
+
+const LONGEST_REST: u64 = 65_536;
+
+/// Learns forms from lines: from those of the first window, and later from those near a line that may be of a form that is not
+/// known.
+#[derive(Drop)]
+pub(crate) struct Learning {
+    /// The lines.
+    pub window: Window,
+    sniffer: Sniffer,
+    looking: Looking,
+    /// Whether the first window still fills.
+    is_first: bool,
+    /// Whether a line since the last look may be of a form that is not known.
+    is_new: bool,
+    /// How many lines more are looked at.
+    near: u8,
+    /// How many lines more are passed over.
+    rest: u64,
+    /// How many are passed over after the next window without forms.
+    next_rest: u64,
+}
+
+impl Learning {
+    /// Begins without lines.
+    pub(crate) fn new() -> Learning
+        ensures { result.window ≡ [] }
+    {
+        Learning {
+            window: Window::new(),
+            sniffer: Sniffer::new(),
+            looking: Looking::new(),
+            is_first: true,
+            is_new: false,
+            near: 0,
+            rest: 0,
+            next_rest: REST,
+        }
+    }
+
+    /// Begins with another log.
+    pub(crate) fn start_again(&mut self)
+        ensures { self.new.window ≡ [] }
+    {
+        self.clear();
+        self.is_first = true;
+        self.near = 0;
+        self.rest = 0;
+        self.next_rest = REST;
+    }
+
+    /// Begins another window.
+    pub(crate) fn clear(&mut self)
+        ensures { self.new.window ≡ [] }
+    {
+        self.window.clear();
+        self.looking.clear();
+        self.is_first = false;
+        self.is_new = false;
+    }
+
+    /// Takes a line of a log whose forms are not known; returns whether there was room.
+    pub(crate) fn push(&mut self, line: &[u8]) -> bool
+        ensures pushed { result ≡ true → length self.new.window ≡ length self.old.window + 1 }
+        ensures few { result ≡ true → length self.new.window ≤ LINES }
+    {
+        self.window.push(line)
+    }
+
+    /// Returns the forms that two looks in a row give, of the lines down to here; none if they do not yet.
+    pub(crate) fn look(&mut self) -> Option<Forms>
+        ensures { self.new.window ≡ self.old.window }
+    {
+        self.looking.look(&mut self.sniffer, &self.window)
+    }
+
+    /// Returns the forms of all lines; `is_ended`: these are the whole log.
+    pub(crate) fn last_look(&mut self, is_ended: bool) -> Forms {
+        self.sniffer.sniff(&self.window, is_ended)
+    }
+
+    /// Returns a form for each line, which is a sample.
+    pub(crate) fn like(&mut self) -> Forms {
+        self.sniffer.like(&self.window)
+    }
+
+    /// Takes the lines of a sample.
+    pub(crate) fn take_sample(&mut self, sample: &[u8]) {
+        let mut start = 0;
+        'characters: for at in 0..sample.len() {
+            if sample[at] == b'\n' {
+                let _fits = self.window.push(&sample[start..at]);
+                start = at + 1;
+            }
+        }
+        if start < sample.len() {
+            let _fits = self.window.push(&sample[start..]);
+        }
+    }
+
+    /// Takes a line of a log whose forms are known; `is_new`: it may be of another one. Returns the forms of the window, once two
+    /// looks in a row give them, if there was such a line.
+    pub(crate) fn offer(&mut self, line: &[u8], is_new: bool) -> Option<Forms> {
+        if self.rest > 0 {
+            self.rest -= 1;
+            return None;
+        }
+        if is_new {
+            self.near = NEAR;
+            self.is_new = true;
+        }
+        if !self.is_first && self.near == 0 {
+            return None;
+        }
+        self.near = self.near.saturating_sub(1);
+        if !self.window.push(line) {
+            self.end_window();
+            return None;
+        }
+        if !self.is_new {
+            return None;
+        }
+        let forms = self.look();
+        if forms.is_some() {
+            self.is_new = false;
+        }
+        forms
+    }
+
+    /// Ends a window that is full; after one that gave no forms lines are passed over.
+    fn end_window(&mut self) {
+        if self.is_new {
+            self.rest = self.next_rest;
+            self.next_rest = if self.next_rest < LONGEST_REST {
+                2 * self.next_rest
+            } else {
+                LONGEST_REST
+            };
+        }
+        self.clear();
+    }
+}

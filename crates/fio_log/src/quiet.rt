@@ -1,0 +1,135 @@
+//! What is quiet: text in which no frame can be hidden.
+use crate::digits::is_letter;
+use fio_form::{
+    Digits, LineForm, Octets, Size, Step, find, front_in, is_message, run_in, size_of, swap,
+};
+use fio_guess::may_begin;
+
+/// What a text has in the notations of some forms.
+#[derive(Clone, Copy, Debug, PartialEq, Eq)]
+pub(crate) enum Held {
+    /// Nothing that may be a frame.
+    Nothing,
+    /// Two octets or more that begin a message, or are one whose length nothing tells.
+    Beginning,
+    /// A message of two octets or more, whose length is known.
+    Message,
+}
+
+impl Held {
+    /// Returns the greater of two.
+    fn or(self, other: Held) -> Held {
+        match (self, other) {
+            (Held::Message, _) | (_, Held::Message) => Held::Message,
+            (Held::Beginning, _) | (_, Held::Beginning) => Held::Beginning,
+            _ => Held::Nothing,
+        }
+    }
+}
+
+/// Returns what octets are: those of a run may have more behind a message.
+fn held_by(octets: &[u8]) -> Held {
+    if octets.len() < 2 {
+        return Held::Nothing;
+    }
+    match size_of(octets) {
+        Size::Known(size) if size > 1 && size <= octets.len() && is_message(&octets[..size]) =>
+            Held::Message,
+        Size::Known(size) if size > octets.len() => Held::Beginning,
+        Size::Unknown => Held::Beginning,
+        Size::Any if is_message(octets) => Held::Beginning,
+        _ => Held::Nothing,
+    }
+}
+
+/// Returns whether what a text has up to a place may be octets of a notation: it is no part of a longer word, and a literal has
+/// an escape.
+fn is_run(digits: Digits, text: &[u8], end: usize) -> bool {
+    let end = end.min(text.len());
+    if let Digits::Text(_) = digits {
+        return text[..end].contains(&b'\\');
+    }
+    if end == text.len() || !is_letter(text[end]) {
+        return true;
+    }
+    let mut has_gap = false;
+    for character in &text[..end] {
+        has_gap = has_gap || !is_letter(*character);
+    }
+    has_gap
+}
+
+/// Returns what a text has in the notation of a form.
+fn held_in(form: &LineForm, text: &[u8], octets: &mut Octets) -> Held {
+    let before = usize::from(form.before);
+    let mut held = Held::Nothing;
+    let mut next = 0;
+    'places: for place in 0..text.len() {
+        if place >= next
+            && may_begin(text, place)
+            && let Some(count) = run_in(form.digits(), form.cycle(), &text[place..], octets)
+        {
+            if form.is_swapped {
+                swap(octets);
+            }
+            if is_run(form.digits(), &text[place..], count) {
+                held = held.or(held_by(octets));
+                if octets.len() > before {
+                    held = held.or(held_by(&octets[before..]));
+                }
+            }
+            if count > 1 && count <= text.len() - place {
+                next = place + count;
+            }
+        }
+    }
+    held
+}
+
+/// Returns what a text has in the notations of some forms. If that is nothing, it is *quiet*.
+pub(crate) fn held_by_text(forms: &[LineForm], text: &[u8], octets: &mut Octets) -> Held {
+    let mut held = Held::Nothing;
+    for form in forms {
+        held = held.or(held_in(form, text, octets));
+    }
+    held
+}
+
+/// Returns whether the front of a form stands somewhere in a line. A front without a word stands everywhere.
+fn has_front(form: &LineForm, line: &[u8], octets: &mut Octets) -> bool {
+    'places: for place in 0..line.len() {
+        if front_in(form, &line[place..]).is_some() {
+            return true;
+        }
+    }
+    find(form, line, octets).is_some()
+}
+
+/// Returns whether the front of one of some forms stands somewhere in a line.
+pub(crate) fn has_fronts(forms: &[LineForm], line: &[u8], octets: &mut Octets) -> bool {
+    for form in forms {
+        if has_front(form, line, octets) {
+            return true;
+        }
+    }
+    false
+}
+
+/// The cycles in which most logs write octets: `3605` and `36 05`.
+const PLAIN: [&[Step]; 2] = [&[Step::Octet], &[Step::Octet, Step::Mark(b' ')]];
+
+/// Returns whether a text has no octets of two hexadecimal digits, with a blank between two or none, that may be a message.
+pub(crate) fn is_plain_quiet(text: &[u8], octets: &mut Octets) -> bool {
+    for cycle in PLAIN {
+        'places: for place in 0..text.len() {
+            if may_begin(text, place)
+                && let Some(count) = run_in(Digits::Pairs, cycle, &text[place..], octets)
+                && held_by(octets) != Held::Nothing
+                && is_run(Digits::Pairs, &text[place..], count)
+            {
+                return false;
+            }
+        }
+    }
+    true
+}

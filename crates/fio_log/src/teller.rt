@@ -1,0 +1,411 @@
+//! Reads the lines of a log by forms: each is heard in order, and told when its verdict depends on no line below it.
+ghost use Rattle.std.specs.Prelude.{◌≡◌, ◌+◌, ◌≤◌, length, false, true, None};
+ghost use Rattle.fio_log.specs.Verdicts.{Agrees, WaitingAgrees};
+ghost use Rattle.fio_log.specs.Waiting.{Fills, KnowsAsBefore, WaitsForOne};
+
+use crate::by_forms::{FormReader, Heard};
+use crate::counts::ReadAs;
+use crate::learning::Learning;
+use crate::lines::{LineMaker, NumberedLine};
+use crate::told::Told;
+use crate::verdict::{Kind, LineVerdict, Reason};
+use fio_sniff::Forms;
+
+/// How far a log is read.
+#[derive(Clone, Copy)]
+pub(crate) struct At {
+    /// How many lines are read.
+    pub read: u64,
+    /// Of how many of these the verdict was returned.
+    pub told: u64,
+    /// Whether the log has ended.
+    pub is_ended: bool,
+}
+
+/// Reads lines by the forms that it learns from them.
+#[derive(Drop)]
+pub(crate) struct Teller {
+    learning: Learning,
+    by_forms: FormReader,
+    /// The number of the first line of the window while its lines have their verdicts; 0 before and after that. And how many
+    /// lines the window had then.
+    first: u64,
+    lines: u64,
+    /// The forms that are taken as soon as no message is open.
+    found: Option<Forms>,
+    /// Whether the forms of the log are known, or the first window had none.
+    is_known: bool,
+    /// What the line says whose verdict is next, if it was heard.
+    heard: Option<Heard>,
+    /// The verdict that is next and waits for the next line; whether that may show that its message has ended.
+    waiting: Option<LineVerdict>,
+    is_open: bool,
+}
+
+impl Teller {
+    /// Returns a teller that has read nothing.
+    pub(crate) fn new() -> Teller
+        ensures waiting { result.waiting ≡ None }
+        ensures kept { Fills result 0 0 }
+        ensures unknown { result.is_known ≡ false }
+    {
+        Teller {
+            learning: Learning::new(),
+            by_forms: FormReader::new(),
+            first: 0,
+            lines: 0,
+            found: None,
+            is_known: false,
+            heard: None,
+            waiting: None,
+            is_open: false,
+        }
+    }
+
+    /// Begins with another log.
+    pub(crate) fn start_again(&mut self)
+        ensures waiting { self.new.waiting ≡ None }
+        ensures kept { Fills self.new 0 0 }
+        ensures unknown { self.new.is_known ≡ false }
+    {
+        self.learning.start_again();
+        self.by_forms.clear();
+        self.first = 0;
+        self.lines = 0;
+        self.found = None;
+        self.is_known = false;
+        self.heard = None;
+        self.waiting = None;
+        self.is_open = false;
+    }
+
+    /// Learns forms from sample lines; returns how many.
+    pub(crate) fn like(&mut self, sample: &[u8]) -> usize
+        ensures few { result ≤ 16 }
+        ensures waiting { self.new.waiting ≡ self.old.waiting }
+        ensures kept { Fills self.new 0 0 }
+    {
+        self.learning.take_sample(sample);
+        let forms = self.learning.like();
+        self.learning.start_again();
+        self.by_forms.give(&forms);
+        self.is_known = self.is_known || !forms.is_empty();
+        forms.len()
+    }
+
+    /// Returns how many forms are known.
+    pub(crate) fn forms(&self) -> usize {
+        self.by_forms.forms().len()
+    }
+
+    /// Returns how the lines of a form look, and how many there are.
+    pub(crate) fn read_as(&self, form: usize) -> Option<ReadAs<'_>> {
+        self.by_forms.read_as(form)
+    }
+
+    /// Reads the line that is whole; returns whether a verdict can be told.
+    pub(crate) fn read_line(&mut self, maker: &LineMaker, at: At) -> bool
+        ensures waiting { self.new.waiting ≡ self.old.waiting }
+        ensures kept { (self.old.is_known ≡ false → at.read ≤ at.told + length self.old.learning.window + 1) → Fills self.new at.read at.told }
+        ensures one { result ≡ false → WaitsForOne self.new at.read at.told }
+    {
+        if self.is_known {
+            return self.hear_next(maker, at);
+        }
+        self.learn(maker, at);
+        self.hear_next(maker, at)
+    }
+
+    /// Takes the last line into the window of a log whose forms are not known; the forms are, if two looks in a row show them, or
+    /// if the window has no room for the line.
+    fn learn(&mut self, maker: &LineMaker, at: At)
+        requires { self.old.is_known ≡ false }
+        ensures waiting { self.new.waiting ≡ self.old.waiting }
+        ensures kept { at.read ≤ at.told + length self.old.learning.window + 1 → Fills self.new at.read at.told }
+    {
+        let is_kept = !maker.is_long() && self.learning.push(maker.octets());
+        if !is_kept {
+            self.know(at);
+            return;
+        }
+        if let Some(forms) = self.learning.look() {
+            self.by_forms.add(&forms);
+            self.drain(at);
+        }
+    }
+
+    /// Takes the forms of the window, whether or not they are shown early. If the log has ended, the window is all of it.
+    fn know(&mut self, at: At)
+        ensures waiting { self.new.waiting ≡ self.old.waiting }
+        ensures known { self.new.is_known ≡ true }
+    {
+        if !self.is_known {
+            let forms = self.learning.last_look(at.is_ended);
+            self.by_forms.add(&forms);
+            self.drain(at);
+        }
+    }
+
+    /// Begins with the verdicts on the lines of the window.
+    fn drain(&mut self, at: At)
+        ensures waiting { self.new.waiting ≡ self.old.waiting }
+        ensures known { self.new.is_known ≡ true }
+    {
+        self.is_known = true;
+        self.first = at.told.saturating_add(1);
+        self.lines = self.learning.window.len() as u64;
+    }
+
+    /// Ends the log.
+    pub(crate) fn end(&mut self, maker: &LineMaker, at: At)
+        ensures known { self.new.is_known ≡ true }
+        ensures waiting { self.new.waiting ≡ self.old.waiting }
+    {
+        self.know(at);
+        self.hear_next(maker, at);
+    }
+
+    /// Hears the line whose verdict is next, if it is there; returns whether its verdict can be told.
+    pub(crate) fn hear_next(&mut self, maker: &LineMaker, at: At) -> bool
+        ensures waiting { self.new.waiting ≡ self.old.waiting }
+        ensures known { KnowsAsBefore self.old self.new }
+        ensures one { result ≡ false → WaitsForOne self.new at.read at.told }
+    {
+        if !self.is_known {
+            return false;
+        }
+        if self.waiting.is_none() {
+            self.end_window(at);
+            self.hear_first(maker, at);
+        }
+        self.is_due(at)
+    }
+
+    /// Hears the line whose verdict is next, if it is there and was not heard.
+    fn hear_first(&mut self, maker: &LineMaker, at: At)
+        ensures waiting { self.new.waiting ≡ self.old.waiting }
+        ensures known { KnowsAsBefore self.old self.new }
+    {
+        if self.heard.is_some() {
+            return;
+        }
+        self.adopt();
+        let number = at.told.saturating_add(1);
+        if let Some(line) = line_at(
+            maker,
+            &self.learning,
+            self.first,
+            self.lines,
+            at.read,
+            number,
+        ) {
+            self.heard = Some(self.by_forms.hear(line));
+        }
+    }
+
+    /// Returns whether the next verdict can be told: the line below it is there, or it does not wait for that.
+    fn is_due(&self, at: At) -> bool
+        ensures { result ≡ false → at.read ≤ at.told + 1 }
+    {
+        if at.told.saturating_add(2) <= at.read {
+            return true;
+        }
+        match (self.waiting, self.heard) {
+            (None, Some(heard)) => !self.by_forms.waits(heard),
+            _ => false,
+        }
+    }
+
+    /// Ends with the lines of the window once each of them has a verdict, or waits for the one below it.
+    fn end_window(&mut self, at: At)
+        ensures waiting { self.new.waiting ≡ self.old.waiting }
+        ensures known { KnowsAsBefore self.old self.new }
+    {
+        if self.first > 0 && at.told.saturating_add(1) >= self.first.saturating_add(self.lines) {
+            self.first = 0;
+        }
+    }
+
+    /// Takes the forms that were found, if no message is open.
+    fn adopt(&mut self)
+        ensures waiting { self.new.waiting ≡ self.old.waiting }
+        ensures known { KnowsAsBefore self.old self.new }
+    {
+        if self.found.is_some() && self.by_forms.is_between() {
+            if let Some(forms) = &self.found {
+                self.by_forms.adopt(forms);
+            }
+            self.found = None;
+        }
+    }
+
+    /// Looks for forms that are not known among the lines below the window.
+    fn look_on(&mut self, verdict: LineVerdict, maker: &LineMaker)
+        ensures waiting { self.new.waiting ≡ self.old.waiting }
+        ensures known { KnowsAsBefore self.old self.new }
+    {
+        if !self.is_known || self.first > 0 || maker.is_long() {
+            return;
+        }
+        let is_new = self.by_forms.is_new(verdict, maker.octets());
+        if let Some(forms) = self.learning.offer(maker.octets(), is_new) {
+            self.found = Some(forms);
+        }
+    }
+
+    /// Tells the line that was heard, whose text goes with the next octets.
+    pub(crate) fn settle(&mut self, maker: &LineMaker, at: At, frames: &mut Told)
+        requires { WaitingAgrees self.old.waiting (length frames.old.frames) }
+        ensures agrees { WaitingAgrees self.new.waiting (length frames.new.frames) }
+        ensures known { KnowsAsBefore self.old self.new }
+    {
+        if let Some(heard) = self.heard {
+            let verdict = self.tell_heard(maker, at, heard, frames);
+            self.waiting = Some(verdict);
+            self.heard = None;
+        }
+    }
+
+    /// Tells what was heard of the line whose verdict is next.
+    fn tell_heard(
+        &mut self,
+        maker: &LineMaker,
+        at: At,
+        heard: Heard,
+        frames: &mut Told,
+    ) -> LineVerdict
+        ensures agrees { Agrees result (length frames.new.frames) }
+        ensures waiting { self.new.waiting ≡ self.old.waiting }
+        ensures known { KnowsAsBefore self.old self.new }
+    {
+        let number = at.told.saturating_add(1);
+        let Some(line) = line_at(
+            maker,
+            &self.learning,
+            self.first,
+            self.lines,
+            at.read,
+            number,
+        ) else {
+            frames.clear();
+            return LineVerdict::of(number, Kind::Damaged, Reason::NoMessage, None);
+        };
+        self.is_open = self.by_forms.is_open();
+        let verdict = self.by_forms.tell(line, heard, frames);
+        self.look_on(verdict, maker);
+        verdict
+    }
+
+    /// Returns the next verdict.
+    pub(crate) fn tell_next(&mut self, maker: &LineMaker, at: At, frames: &mut Told) -> LineVerdict
+        requires { WaitingAgrees self.old.waiting (length frames.old.frames) }
+        ensures agrees { Agrees result (length frames.new.frames) }
+        ensures waiting { self.new.waiting ≡ None }
+        ensures known { KnowsAsBefore self.old self.new }
+    {
+        let (verdict, waits) = match (self.waiting, self.heard) {
+            (Some(verdict), _) => (verdict, true),
+            (None, Some(heard)) => {
+                let waits = self.by_forms.waits(heard);
+                (self.tell_heard(maker, at, heard, frames), waits)
+            }
+            (None, None) => {
+                frames.clear();
+                (
+                    LineVerdict::of(0, Kind::Damaged, Reason::NoMessage, None),
+                    false,
+                )
+            }
+        };
+        self.forget();
+        if waits {
+            self.tell_waiting(maker, at, verdict, frames)
+        } else {
+            verdict
+        }
+    }
+
+    /// Forgets what is said of the line whose verdict is next.
+    pub(crate) fn forget(&mut self)
+        ensures waiting { self.new.waiting ≡ None }
+        ensures known { KnowsAsBefore self.old self.new }
+    {
+        self.waiting = None;
+        self.heard = None;
+    }
+
+    /// Returns a verdict that waits for the line below, or the end of the log.
+    fn tell_waiting(
+        &mut self,
+        maker: &LineMaker,
+        at: At,
+        verdict: LineVerdict,
+        frames: &mut Told,
+    ) -> LineVerdict
+        requires { Agrees verdict (length frames.old.frames) }
+        ensures agrees { Agrees result (length frames.new.frames) }
+        ensures waiting { self.new.waiting ≡ self.old.waiting }
+        ensures known { KnowsAsBefore self.old self.new }
+    {
+        let number = at.told.saturating_add(2);
+        let Some(line) = line_at(
+            maker,
+            &self.learning,
+            self.first,
+            self.lines,
+            at.read,
+            number,
+        ) else {
+            return if at.is_ended {
+                self.by_forms.tell_end(verdict, frames)
+            } else {
+                verdict
+            };
+        };
+        if !self.is_open {
+            return verdict;
+        }
+        let heard = self.by_forms.hear(line);
+        self.heard = Some(heard);
+        if heard.said.is_ended {
+            self.by_forms.tell_ended(verdict, false, frames)
+        } else {
+            verdict
+        }
+    }
+}
+
+/// Returns a line of this number, if it is among the lines of the window, or is the last one that is read.
+fn line_at<'a>(
+    maker: &'a LineMaker,
+    learning: &'a Learning,
+    first: u64,
+    lines: u64,
+    read: u64,
+    number: u64,
+) -> Option<NumberedLine<'a>> {
+    if first > 0 && number >= first && number - first < lines {
+        return Some(NumberedLine {
+            number,
+            text: learning.window.line((number - first) as usize),
+            is_long: false,
+        });
+    }
+    if number == read && maker.is_whole() {
+        Some(last_line(maker, number))
+    } else {
+        None
+    }
+}
+
+/// Returns the line that is made, with its number.
+pub(crate) fn last_line(maker: &LineMaker, number: u64) -> NumberedLine<'_>
+    ensures text { result.text.now ≡ maker.now.text.octets }
+    ensures long { result.is_long ≡ maker.now.text.is_long }
+{
+    NumberedLine {
+        number,
+        text: maker.octets(),
+        is_long: maker.is_long(),
+    }
+}

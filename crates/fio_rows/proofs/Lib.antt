@@ -1,0 +1,9 @@
+pub mod Beginnings
+pub mod Divisions
+pub mod Empty
+pub mod Lines
+pub mod Wholes
+pub mod LineLaws
+pub mod OtherLines
+pub mod RowLemmas
+pub mod RowsRead

@@ -1,0 +1,57 @@
+//! Laws of the definitions that the contracts cite: each function states one in its contract and does nothing.
+ghost use Rattle.std.specs.Prelude.{◌≡◌, ◌∷◌, ◌++◌, ◌≤◌, ◌⊎◌, ℕ, List, true, false, length};
+ghost use Rattle.std.specs.List.{AllByRecursion};
+ghost use Rattle.fio_form.specs.declared.form.LineForm.{LineForm};
+ghost use Rattle.fio_rows.specs.Laws.{IsAdded, SaysMessages, IsSame, Left, is_other, row_by, spare};
+ghost use Rattle.fio_rows.specs.Lines.{line_goes_on, has, is_message_broken, is_ended, is_message_open, open_form, read_in, says_message};
+ghost use Rattle.fio_rows.specs.RowLaws.{IsInRows, IsReadInRows, IsWrittenInRows, Row, read_rows};
+ghost use Rattle.fio_rows.specs.Rows.{Rows};
+
+/// What a line is said to say is a message, and so is what may end with it.
+#[tactic(auto, using(crate::proofs::LineLaws::read_right))]
+pub fn what_is_said_is_a_message()
+    ensures { (forms : List LineForm) (line tail : List ℕ) (state : Rows) → SaysMessages (read_in forms line tail state) }
+{}
+
+/// A line is said to be another one only if no form has it; and then it is, if no message is open.
+#[tactic(auto, using(crate::proofs::OtherLines::other_none, crate::proofs::OtherLines::none_other))]
+pub fn other_lines_have_no_form()
+    ensures other { (forms : List LineForm) (line tail : List ℕ) (state : Rows)
+        → is_other (read_in forms line tail state).said ≡ true → AllByRecursion (λ form. has form line ≡ false) forms }
+    ensures read { (forms : List LineForm) (line tail : List ℕ) (state : Rows) → is_message_open state.pending ≡ false
+        → AllByRecursion (λ form. has form line ≡ false) forms → is_other (read_in forms line tail state).said ≡ true }
+{}
+
+/// Nothing that is open is dropped in silence: the octets of a line that goes on are behind it, or the line is damaged; and if
+/// no line goes on with it, its message has ended, or is said to be broken, or there is nothing of it.
+#[tactic(auto, using(crate::proofs::OtherLines::row_kept, crate::proofs::OtherLines::open_said))]
+pub fn what_is_open_is_kept_or_said()
+    ensures row { (forms : List LineForm) (line tail : List ℕ) (state : Rows) → line_goes_on forms line state ≡ true
+        → IsAdded state.octets (row_by (open_form forms state) line) (read_in forms line tail state) }
+    ensures rest { (forms : List LineForm) (line : List ℕ) (state : Rows) → is_message_open state.pending ≡ true → line_goes_on forms line state ≡ false
+        → Left (is_ended forms line state) (is_message_broken forms line state) (length state.octets) (spare (open_form forms state)) }
+{}
+
+/// A line below no open message is read as if the log began there: what is known from above does not count.
+#[tactic(auto, using(crate::proofs::OtherLines::read_same))]
+pub fn a_line_below_nothing_open_is_read_by_itself()
+    ensures { (forms : List LineForm) (line tail : List ℕ) (a b : Rows) → is_message_open a.pending ≡ false → is_message_open b.pending ≡ false
+        → IsSame (read_in forms line tail a) (read_in forms line tail b) }
+{}
+
+/// What a logger writes of a message in rows is read, if no message is open above it: rows of a form at offsets that go on, of
+/// a width, or of nothing but octets, each of which but the last lacks some of the message.
+#[tactic(auto, using(crate::proofs::RowLemmas::rows_read))]
+pub fn what_is_written_in_rows_is_read()
+    ensures { (others below : List LineForm) (form : LineForm) (message : List ℕ) (row : Row) (rows : List Row) (state : Rows)
+        → is_message_open state.pending ≡ false → IsWrittenInRows others form message row rows
+        → IsReadInRows message (read_rows (others ++ form ∷ below) (row ∷ rows) state) }
+{}
+
+/// Nothing else is read: the message that a line says is in the octets that a form has in it, or in these and those that were
+/// open above it, in their order.
+#[tactic(auto, using(crate::proofs::RowsRead::read_in_rows))]
+pub fn what_is_read_is_in_the_rows()
+    ensures { (forms : List LineForm) (line tail : List ℕ) (state : Rows) → says_message (read_in forms line tail state).said ≡ true
+        → IsInRows line state.octets (read_in forms line tail state) }
+{}

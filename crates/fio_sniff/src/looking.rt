@@ -1,0 +1,65 @@
+//! Looks at the lines of a log while they come.
+use crate::sniffing::{Forms, Sniffer};
+use arrayvec::ArrayVec;
+use fio_form::LineForm;
+use fio_guess::table::{FORMS, LINES};
+use fio_guess::{Window, hash_of};
+
+/// The number of lines at the first look.
+const FIRST: usize = 2;
+
+/// What two looks have to agree in, of a form.
+type Seen = ArrayVec<u64, FORMS>;
+
+/// Looks at a window after 2, 4, 8, .. lines. Forms are shown once two looks in a row find the same ones.
+#[derive(Drop)]
+pub struct Looking {
+    /// The forms of the last look.
+    above: Seen,
+    /// The number of lines at the next look.
+    next: usize,
+}
+
+/// Returns a hash of all that tells a form from others.
+fn seen_of(form: &LineForm) -> u64 {
+    let mut hash = hash_of(form) ^ u64::from(form.is_echo);
+    for value in &form.values {
+        hash = (hash ^ u64::from(*value)).wrapping_mul(0x0000_0100_0000_01b3);
+    }
+    hash
+}
+
+impl Looking {
+    /// Returns one that has not looked yet.
+    pub fn new() -> Looking {
+        Looking {
+            above: ArrayVec::new(),
+            next: FIRST,
+        }
+    }
+
+    /// Begins anew, with an empty window.
+    pub fn clear(&mut self) {
+        self.above.clear();
+        self.next = FIRST;
+    }
+
+    /// Looks at a window to which a line was added, if it is time. Returns the forms if the last look found the same ones; `None`
+    /// if it is too early to say. A window that is full, and one of a log that has ended, is for `Sniffer::sniff`.
+    pub fn look(&mut self, sniffer: &mut Sniffer, lines: &Window) -> Option<Forms> {
+        if lines.len() < self.next || self.next >= LINES {
+            return None;
+        }
+        self.next = lines.len().saturating_mul(2);
+        let forms = sniffer.sniff(lines, false);
+        let mut seen: Seen = ArrayVec::new();
+        for form in &forms {
+            let _ = seen.try_push(seen_of(form));
+        }
+        if !forms.is_empty() && seen.as_slice() == self.above.as_slice() {
+            return Some(forms);
+        }
+        self.above = seen;
+        None
+    }
+}
