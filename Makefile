@@ -169,7 +169,7 @@ headers = $(wildcard $(interface)/*.h $(interface)/*.hpp)
 tools = lossy-script transcript conformance waveform wireshark $(if $(shared),fiolog)
 filters = transcript lossy-script waveform/vcd wireshark/hex2pcap
 tool_pages = README.md page/README.md portable/README.md $(patsubst tools/%,%,$(wildcard tools/page/*.png))
-pages = README.md LICENSE CHANGELOG.md SECURITY.md CONTRIBUTING.md
+pages = README.md LICENSE LICENSES-OF-OTHERS CHANGELOG.md SECURITY.md CONTRIBUTING.md
 pkgconfig = $(root)/$(LIB)/pkgconfig
 cmake = $(root)/$(LIB)/cmake/fio2070
 share = $(root)/$(TOOLS)
@@ -218,11 +218,12 @@ endif
 
 install-tools:
 	install -d '$(bin)' '$(man)' '$(share)/tools/page' '$(share)/tools/portable' '$(share)/rust/fio2070/src' \
-	    '$(share)/rust/fio2070/c'
+	    '$(share)/rust/fio2070/c' '$(share)/rust/fio2070/examples'
 	cp -R $(addprefix tools/,$(tools)) '$(share)/tools' && chmod -R u=rwX,go=rX '$(share)/tools'
 	for file in $(tool_pages); do install -m 644 "tools/$$file" '$(share)/tools'/"$$file" || exit 1; done
-	install -m 644 bindings/rust/fio2070/Cargo.* bindings/rust/fio2070/build.rs LICENSE '$(share)/rust/fio2070'
+	install -m 644 bindings/rust/fio2070/Cargo.* bindings/rust/fio2070/build.rs bindings/rust/fio2070/README.md LICENSE LICENSES-OF-OTHERS '$(share)/rust/fio2070'
 	install -m 644 bindings/rust/fio2070/src/*.rs '$(share)/rust/fio2070/src'
+	install -m 644 bindings/rust/fio2070/examples/*.rs '$(share)/rust/fio2070/examples'
 	install -m 644 dist/fio2070.c dist/fio2070.h '$(share)/rust/fio2070/c'
 	install -m 644 dist/fio2070.html '$(share)'
 	for file in $(filters); do ln -sf "../$(TOOLS)/tools/$$file" '$(bin)'/fio2070-"$${file##*/}" || exit 1; done

@@ -8,7 +8,7 @@
  * access outside the arguments of a call, which the proof excludes, ends in FIO2070_TRAP(). FIO2070_UNCHECKED leaves
  * the tests of accesses out. FIO2070_FAST makes the code longer and faster.
  *
- * Sources: cd2d07d5139ee69deeddd98be588bcd4d346e4eff694052046a85cd116595090 (SHA-256; packaging/release-files --sources)
+ * Sources: dece6ac3a6dcb9b826b5160d819defc0a70b14a07d74b7df07b88a773cf38672 (SHA-256; packaging/release-files --sources)
  * Kit: rattle-kit-13f logic dac8208d650f15bf
  * Proof: logic=proved functions=219 target=wasm64-unknown-unknown sum=dac8208d650f15bf native=nat,char,string
  * Made by `make release-files`: do not edit.

@@ -3,7 +3,7 @@
  *
  * The field I/O transition link of the Model 2070: the header of fio2070.c.
  *
- * Sources: cd2d07d5139ee69deeddd98be588bcd4d346e4eff694052046a85cd116595090 (SHA-256; packaging/release-files --sources)
+ * Sources: dece6ac3a6dcb9b826b5160d819defc0a70b14a07d74b7df07b88a773cf38672 (SHA-256; packaging/release-files --sources)
  * Kit: rattle-kit-13f logic dac8208d650f15bf
  * Proof: logic=proved functions=219 target=wasm64-unknown-unknown sum=dac8208d650f15bf native=nat,char,string
  * Made by `make release-files`: do not edit.

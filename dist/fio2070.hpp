@@ -3,7 +3,7 @@
  *
  * The field I/O transition link of the Model 2070: the header for C++17, above fio2070.h.
  *
- * Sources: cd2d07d5139ee69deeddd98be588bcd4d346e4eff694052046a85cd116595090 (SHA-256; packaging/release-files --sources)
+ * Sources: dece6ac3a6dcb9b826b5160d819defc0a70b14a07d74b7df07b88a773cf38672 (SHA-256; packaging/release-files --sources)
  * Kit: rattle-kit-13f logic dac8208d650f15bf
  * Proof: logic=proved functions=219 target=wasm64-unknown-unknown sum=dac8208d650f15bf native=nat,char,string
  * Made by `make release-files`: do not edit.
@@ -17,8 +17,8 @@
  */
 // The calls of fio2070.h for C++17: values that are always started, views of octets, optional results.
 // Header only; link libfio2070.a, or compile the portable fio2070.c, beside which `make portable` puts this header. Ranges,
-// errors and sources are those of fio2070.h. Nothing here throws but Read::value() and what a std::vector throws where
-// memory runs out.
+// errors and sources are those of fio2070.h. Nothing here throws but Read::value(), a Module whose blocks have no entry, and what a
+// std::vector or a std::string throws where memory runs out: the record of a Poller, what is said of a whole batch, and texts.
 #ifndef FIO2070_HPP
 #define FIO2070_HPP
 
@@ -79,6 +79,66 @@ private:
 };
 
 using Octets = View<const std::uint8_t>;
+
+/// A list of at most `Most` items, in memory of its own: it allocates nothing. Each use of it here has room for the longest list that
+/// there is.
+template <typename T, std::size_t Most>
+class List {
+public:
+    constexpr T *data() { return items_.data(); }
+    constexpr const T *data() const { return items_.data(); }
+    constexpr std::size_t size() const { return size_; }
+    constexpr bool empty() const { return size_ == 0; }
+    static constexpr std::size_t capacity() { return Most; }
+    constexpr T *begin() { return data(); }
+    constexpr const T *begin() const { return data(); }
+    constexpr T *end() { return data() + size_; }
+    constexpr const T *end() const { return data() + size_; }
+    constexpr T &operator[](std::size_t place) { return items_[place]; }
+    constexpr const T &operator[](std::size_t place) const { return items_[place]; }
+    /// Changes the size, and no item. Returns whether the list has this room; if not, nothing changes.
+    constexpr bool resize(std::size_t size) {
+        if (size > Most) return false;
+        size_ = size;
+        return true;
+    }
+    /// Adds an item at the end. Returns whether there was room for it.
+    constexpr bool push_back(const T &item) {
+        if (size_ == Most) return false;
+        items_[size_++] = item;
+        return true;
+    }
+    friend bool operator==(const List &one, const List &other) {
+        return std::equal(one.begin(), one.end(), other.begin(), other.end());
+    }
+    friend bool operator!=(const List &one, const List &other) { return !(one == other); }
+
+    /// What `write(out, room)` writes, which returns how many items that is; none where it returns more than the room.
+    template <typename Write>
+    static std::optional<List> of(Write write) {
+        std::optional<List> list(std::in_place);
+        if (!list->resize(write(list->data(), Most))) list.reset();
+        return list;
+    }
+    /// The same, and none too where there is nothing to write.
+    template <typename Write>
+    static std::optional<List> of_some(Write write) {
+        std::optional<List> list = of(write);
+        if (list && list->empty()) list.reset();
+        return list;
+    }
+
+private:
+    std::array<T, Most> items_{};
+    std::size_t size_ = 0;
+};
+
+/// A frame, the entries of a block, the items of a configuration, what one block adds to a record, a frame as it goes over a line.
+using Frame = List<std::uint8_t, FIO2070_LONGEST_FRAME>;
+using Entries = List<Entry, FIO2070_MOST_ENTRIES>;
+using ConfigurationItems = List<ConfigurationItem, FIO2070_MOST_ENTRIES>;
+using RecordItems = List<RecordItem, FIO2070_MOST_RECORD_ITEMS>;
+using WireFrame = List<std::uint8_t, FIO2070_WIRE_LONGEST>;
 
 /// The text that `write(text, room)` writes, of those that FIO2070_LONGEST_TEXT octets are enough for.
 template <typename Write>
@@ -171,19 +231,17 @@ inline Read<std::uint8_t> read_identification(Octets octets) {
 }
 
 /// The entries of a block answer; none where the octets are no block answer.
-inline std::vector<Entry> block_entries(Octets octets) {
-    std::vector<Entry> entries(FIO2070_MOST_ENTRIES);
-    std::size_t count = ::fio2070_block_entries(octets.data(), octets.size(), entries.data(), entries.size());
-    entries.resize(count <= entries.size() ? count : 0);
-    return entries;
+inline Entries block_entries(Octets octets) {
+    return Entries::of([=](Entry *out, std::size_t room) {
+        return ::fio2070_block_entries(octets.data(), octets.size(), out, room);
+    }).value_or(Entries());
 }
 
 /// The items of a configuration; none where the octets are no configuration.
-inline std::vector<ConfigurationItem> command_items(Octets octets) {
-    std::vector<ConfigurationItem> items(FIO2070_MOST_ENTRIES);
-    std::size_t count = ::fio2070_command_items(octets.data(), octets.size(), items.data(), items.size());
-    items.resize(count <= items.size() ? count : 0);
-    return items;
+inline ConfigurationItems command_items(Octets octets) {
+    return ConfigurationItems::of([=](ConfigurationItem *out, std::size_t room) {
+        return ::fio2070_command_items(octets.data(), octets.size(), out, room);
+    }).value_or(ConfigurationItems());
 }
 
 /// What `fio2070 show` writes of a frame, or the words of its fault and a line feed.
@@ -214,41 +272,6 @@ inline std::optional<::fio2070_pace> plan(const ::fio2070_line &line) {
 inline std::uint32_t widen(std::uint32_t answer_stamp, std::uint16_t stamp) {
     return ::fio2070_widen(answer_stamp, stamp);
 }
-
-/// A frame of at most 773 octets, in memory of its own.
-class Frame {
-public:
-    const std::uint8_t *data() const { return octets_.data(); }
-    std::size_t size() const { return size_; }
-    bool empty() const { return size_ == 0; }
-    const std::uint8_t *begin() const { return data(); }
-    const std::uint8_t *end() const { return data() + size_; }
-    std::uint8_t operator[](std::size_t place) const { return octets_[place]; }
-    friend bool operator==(const Frame &one, const Frame &other) {
-        return std::equal(one.begin(), one.end(), other.begin(), other.end());
-    }
-    friend bool operator!=(const Frame &one, const Frame &other) { return !(one == other); }
-
-    /// What `write(out, room)` writes; none where there is nothing such.
-    template <typename Write>
-    static std::optional<Frame> of(Write write) {
-        std::optional<Frame> frame(std::in_place);
-        frame->size_ = write(frame->octets_.data(), frame->octets_.size());
-        if (frame->size_ > frame->octets_.size()) frame.reset();
-        return frame;
-    }
-    /// The same, and none too where there is nothing to write.
-    template <typename Write>
-    static std::optional<Frame> of_some(Write write) {
-        std::optional<Frame> frame = of(write);
-        if (frame && frame->empty()) frame.reset();
-        return frame;
-    }
-
-private:
-    std::array<std::uint8_t, FIO2070_LONGEST_FRAME> octets_{};
-    std::size_t size_ = 0;
-};
 
 /// Writes a command from what decode_command and command_items give of it, and the body of types 56, 57 and 59; none where no
 /// command has all of this (see the group encode of fio2070.h).
@@ -301,12 +324,16 @@ public:
     }
     /// Where memory runs out it throws std::bad_alloc, and nothing has changed.
     Heard hear(Octets octets) {
-        std::array<RecordItem, FIO2070_MOST_RECORD_ITEMS> items{};
-        record_.reserve(room_for(items.size()));
-        Heard heard(::fio2070_poller_hear(&poller_, octets.data(), octets.size(), items.data(), items.size()));
-        if (heard.is_taken()) {
-            record_.insert(record_.end(), items.begin(), items.begin() + heard.items());
-        }
+        RecordItems items;
+        record_.reserve(room_for(items.capacity()));
+        Heard heard = hear(octets, items);
+        record_.insert(record_.end(), items.begin(), items.end());
+        return heard;
+    }
+    /// The same without a record: the items that would join it are those in `items`, in place of what was there. It allocates nothing.
+    Heard hear(Octets octets, RecordItems &items) {
+        Heard heard(::fio2070_poller_hear(&poller_, octets.data(), octets.size(), items.data(), items.capacity()));
+        items.resize(heard.is_taken() ? heard.items() : 0);
         return heard;
     }
     const std::vector<RecordItem> &record() const { return record_; }
@@ -534,11 +561,11 @@ private:
 #endif
 
 /// A frame as it goes over a line of octets, with both flags; none if the message does not have 1 to 773 octets.
-inline std::optional<std::vector<std::uint8_t>> wire_frame(Octets message, std::uint8_t address = FIO2070_WIRE_ADDRESS,
-                                                           std::uint8_t control = FIO2070_WIRE_CONTROL) {
-    std::vector<std::uint8_t> frame(FIO2070_WIRE_LONGEST);
-    frame.resize(::fio2070_wire_write(address, control, message.data(), message.size(), frame.data(), frame.size()));
-    return frame.empty() ? std::nullopt : std::optional(std::move(frame));
+inline std::optional<WireFrame> wire_frame(Octets message, std::uint8_t address = FIO2070_WIRE_ADDRESS,
+                                           std::uint8_t control = FIO2070_WIRE_CONTROL) {
+    return WireFrame::of_some([=](std::uint8_t *out, std::size_t room) {
+        return ::fio2070_wire_write(address, control, message.data(), message.size(), out, room);
+    });
 }
 
 /// The frame check of octets, whose low octet a frame has first.

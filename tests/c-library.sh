@@ -74,9 +74,9 @@ end
 # stacks: docs/C-LIBRARY.md lists how much stack each call takes, and the others take no more than it says.
 stacks() {
     "$top/tools/stack-use" "$archive" >used || return 1
-    most=$(sed -n 's/^| at most \([0-9]*\) .*/\1/p' "$top/docs/C-LIBRARY.md")
+    most=$(sed -n 's/^Each other call takes at most \([0-9]*\)[.].*/\1/p' "$top/docs/C-LIBRARY.md")
     awk -v most="$most" '$1 > most { print $1, $2 }' used | sort >expected
-    sed -n 's/^| \([0-9][0-9,]*\) | \(.*\) |$/\1 \2/p' "$top/docs/C-LIBRARY.md" | tr -d '\140,' |
+    sed -n '/^```text$/,/^```$/s/^[0-9]/&/p' "$top/docs/C-LIBRARY.md" | tr -d , |
         awk '{ for (n = 2; n <= NF; n++) print $1, "fio2070_" $n }' | sort | diff - expected
 }
 
@@ -357,7 +357,7 @@ else
     skip 'Python' 'python3 is not installed'
 fi
 if [ -n "$(command -v gcc)" ] && [ -n "$(command -v g++)" ] && [ -n "$(command -v python3)" ]; then
-    for document in README.md docs/C-LIBRARY.md tools/conformance/README.md tools/portable/README.md; do
+    for document in README.md docs/C-LIBRARY.md bindings/python/README.md tools/conformance/README.md tools/portable/README.md; do
         holds "the blocks of $document" reads "$top/$document"
     done
     holds 'the examples of the header' illustrated

@@ -17,6 +17,7 @@ from pathlib import Path
 from support import roots
 from support.browsers import browsers, running
 from support.check import Check
+from support.console import commands as commands_of, row
 from support.opened import CELLS, example, started, words_in
 from support.tables import TOP, can_simulate, program_of
 from support.waits import used
@@ -100,7 +101,23 @@ def as_repository():
         subprocess.run(git + words, cwd=clone, check=True)
 
 
-# What a user does first, and what has to be in the text.
+# The commands of the first page, each with the lines that it prints; the second finds a fault. All take half a minute at most.
+FIRST_PAGE = [(command, lines) for _, command, lines in commands_of(enumerate(
+    re.search(r'^```console\n(.*?)^```', Path(TOP, 'README.md').read_text(encoding='utf-8'), re.M | re.S)[1].splitlines()))]
+FIRST_SECONDS = 30
+
+
+def first_page(where, run_there):
+    """The first page in a fresh clone: `run_there` runs a command, and returns what it writes on both streams."""
+    check.equal('the first page has three commands, and its second finds a fault ' + where, (3, True),
+                (len(FIRST_PAGE), any(' breaks ' in line for line in FIRST_PAGE[1][1])))
+    before = used()
+    for command, lines in FIRST_PAGE:
+        row(check, 'the first page %s: %s' % (where, command), lines, run_there(command))
+    check.holds('the first page takes half a minute at most ' + where, used() - before < FIRST_SECONDS, '%.1f s of a processor' % (used() - before))
+
+
+# What a user does next, and what has to be in the text.
 ANSWERS = [
     ('echo 3605 | ./fio2070 show', 'poll block 5\n'),
     ('./fio2070 simulate <examples/overflow.script', '22 block entries 255 status 0c\n'),
@@ -116,6 +133,7 @@ def with_few_commands():
         return
     few = {'PATH': few_commands(), 'folder': room / 'cloned'}
     check.equal('git clone', None, fault('git', 'clone', '-q', clone, few['folder'], PATH=few['PATH'], folder=room))
+    first_page('with few commands', lambda command: run('/bin/sh', '-c', command + ' 2>&1', **few).stdout)
     for command, wanted in ANSWERS:
         before = used()
         done = run('/bin/sh', '-c', command, **few)
@@ -397,6 +415,7 @@ def in_new_system():
         return
     shutil.move(clone, os.path.join(root, 'sources'))
     session(root, '/', [('git clone -q /sources clone', '')])
+    first_page('in a new system', lambda command: roots.run(root, command, MOST_SECONDS, '/clone')[1])
     session(root, '/clone', [(command + ' || [ $? -eq 1 ]', wanted) for command, wanted in ANSWERS])
     if not os.environ.get('FIO2070_ROOT') and not roots.install(root, *roots.USUAL):
         check.skip('gcc, make and python3 in a new Debian system', 'apt-get could not install them, as without a network')

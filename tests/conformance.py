@@ -31,7 +31,7 @@ RULED = ['Counter', 'Filters', 'Configuration', 'Waiting entries', 'Polls', 'Oth
 FOR_REPLAY = re.compile('(frame|answer) ')
 
 # What a tester says while it shrinks a script.
-GOES_ON = re.compile('(?m)^# Shrinking goes on: .*\n')
+GOES_ON = re.compile('(?m)^# Shrinking (?:goes on|has taken).*\n')
 
 # The line of a report that names the rule.
 BREAKS = '# the first rule that this breaks: '
@@ -324,7 +324,8 @@ def failing(tester, faulty, fault, asked, said):
         return text
     if not text.endswith(' in %d events\n' % EVENTS):
         return text
-    return None if OF_BOUND not in text else 'shrinking it took too long'
+    # On a busy machine the bound of time may come first.
+    return None if OF_BOUND not in text or os.getloadavg()[0] > os.cpu_count() else 'shrinking it took too long'
 
 
 def ends_for_good(tester, faulty):
@@ -398,7 +399,7 @@ def wires(check, room):
                                  ('says something else', "sed -u 's/.*/what/'", 'not `done`: what'),
                                  ('says what is no text', r"LC_ALL=C sed -u 's/.*/\x1b[2J\xff/'", 'not `done`: ?[2J?')]:
         over(check, 'wire: a module that ' + name, [tester, '--deadline', '300', '--command', command, '1000'], (3, fault))
-    over(check, 'wire: a module that writes for ever', [tester, '--deadline', '300', '--command', 'yes done', '1000', '--first'], differs)
+    over(check, 'wire: a module that writes for ever', [tester, '--deadline', '300', '--command', 'yes done', '1000'], differs)
     over(check, 'wire: a socket', [tester, '--socket', '127.0.0.1:%d' % served(adapter), '5000'], same)
     cpus_end(check, tester, python, faulty)
     if check.has_terminal('wire: a pseudo-terminal'):
@@ -434,6 +435,20 @@ def wires(check, room):
     over(check, 'wire: no device', [tester, '--serial', '/none', '5000'], (2, "can't open /none"))
 
 
+def bounds(check, room):
+    """How long a script is shrunk after the time that those before it took, and that it is said once if it is less."""
+    if not check.wants('bounds of shrinking'):
+        return
+    program = os.path.join(room, 'shrinking')
+    check.equal('build of the bounds of shrinking', (0, ''), run(
+        ['cc', '-Wall', '-Wextra', '-Werror', '-I', os.path.join(TOP, 'include'), '-I', os.path.join(TOP, 'tools/conformance'),
+         os.path.join(TOP, 'tests/support/c/shrinking.c'), os.path.join(TOP, 'out/tester/tester.a'), os.path.join(TOP, 'libfio2070.a'), '-o', program]))
+    done = subprocess.run([program], capture_output=True, text=True, check=False)
+    line = '# Shrinking has taken %s in this run: from here on at most %s.\n'
+    wanted = line % ('300 s', '5000 ms for each script') + line % ('20 s', '500 ms for each script at which the end fails')
+    check.holds('bounds of shrinking', (done.returncode, done.stderr) == (0, wanted), done.stdout + done.stderr)
+
+
 def sanitized(check, room):
     """Built with sanitizers, the tester runs as well."""
     if not check.whole('with sanitizers'):
@@ -463,6 +478,7 @@ def main():
             tables(check, program, room)
             page(check, program)
         wires(check, room)
+        bounds(check, room)
         sanitized(check, room)
     check.end()
 

@@ -81,6 +81,19 @@ def check_few(check):
         check.equal('a row of many says it', (1, True), (done.status, 'fewer than half judged' in done.out))
 
 
+def check_messages(check):
+    """A breach names its line, and in a line with several messages which of them it is, and its first octet of theirs."""
+    for name, text, words, place in (
+            ('a message a line', '> 3605\n< b6050000000003e8\n> 3609\n', 'line 3', {'line': 3}),
+            ('all messages in one line', '3605b6050000000003e83609\n', 'line 1, message 3, octet 11', {'line': 1, 'message': 3, 'octet': 11}),
+            ('in the second line', '3605b6050000000003e8\n3609b6090000000003e9360a\n', 'line 2, message 1, octet 1', {'line': 2, 'message': 1, 'octet': 1})):
+        done = fiolog('check', text=text)
+        check.equal('the place of a breach: ' + name, (words + ': advance', 'fiolog: advance: once, in ' + words + '\n'),
+                    (done.out.partition(': block')[0], done.err))
+        first = fiolog('check', '--json', text=text).objects()[0]
+        check.equal('the place in JSON: ' + name, place, {key: first[key] for key in ('line', 'message', 'octet') if key in first})
+
+
 def check_except(check):
     """A rule that is left out is not said to be broken; what it would have said is counted."""
     jump, lost = '> 3605\n< b6050000000003e8\n> 3609\n< b6090000000003e9\n', '> 3605\n< b605010c03ea04000003eb\n'
@@ -200,7 +213,8 @@ def check_hints(check):
 def main():
     check = Check()
     use_library(check, 'what fiolog judges')
-    for part in (check_beginning, check_except, check_explained, check_places, check_unseen, check_said, check_hints, check_cures, check_few):
+    for part in (check_beginning, check_except, check_explained, check_places, check_messages, check_unseen, check_said, check_hints, check_cures,
+                 check_few):
         part(check)
     check.end()
 

@@ -500,20 +500,35 @@ def power_loses(*changes):
     return next(filter(None, (cut_once(program, seed) for seed in range(1, CUTS + 1))), None)
 
 
-def second_goes_on(says, keep, is_same_line):
-    """Of two controllers the second ends and says why. Returns what they do otherwise."""
+# The files of a controller: their options and endings.
+FILES = {'--keep': '.number', '--events': '.events', '--transcript': '.transcript', '': '.csv'}
+
+
+def words_of(files, *left_out):
+    """The command line of a controller with these files and this line, without some options."""
+    options = [word for option in FILES if option and option not in left_out for word in (option, files[option])]
+    return [os.path.join(built(), 'controller'), *options, '--on', '0', files['line'], files['']]
+
+
+def second_goes_on(says, shared, *left_out):
+    """Of two controllers that share a file or the line the second ends, says why, and leaves the table. Returns what they do otherwise."""
     with contextlib.ExitStack() as stack:
         (master, line), other = pty.openpty(), pty.openpty()
         for file in (master, line, *other):
             stack.callback(os.close, file)
         tty.setraw(line)
-        words = [os.path.join(built(), 'controller'), '--keep', os.path.join(room, 'one.number'), os.ttyname(line), os.path.join(room, 'one.csv')]
-        with subprocess.Popen(words, stderr=subprocess.DEVNULL) as first:
+        folder = stack.enter_context(tempfile.TemporaryDirectory())
+        one, two = ({'line': os.ttyname(device), **{option: os.path.join(folder, who + end) for option, end in FILES.items()}}
+                    for who, device in (('one', line), ('two', other[1])))
+        two[shared], row = one[shared], 'time,input,state,wide\n'
+        with open(one[''], 'w', encoding='ascii') as table:
+            table.write(row)
+        with subprocess.Popen(words_of(one), stderr=subprocess.DEVNULL) as first:
             os.read(master, 1)
-            second = run(*words[:2], os.path.join(room, keep), os.ttyname(line if is_same_line else other[1]), os.path.join(room, 'two.csv'), timeout=20)
-            goes_on = first.poll() is None
+            second = run(*words_of(two, *left_out), timeout=20)
+            goes_on = first.poll() is None and os.path.getsize(one['']) >= len(row)
             first.kill()
-        said = 'controller: %s: %s\n' % (os.ttyname(line) if is_same_line else os.path.join(room, keep), says)
+        said = 'controller: %s: %s\n' % (one[shared], says)
     return None if (second.returncode, second.stderr, goes_on) == (1, said, True) else (second, goes_on)
 
 
@@ -735,8 +750,10 @@ def main():
         check.fault('found: a loss that is not reported', finds_nothing, ring_is_wrong, NOT_REPORTED)
         check.fault('found: a place that is freed first', finds_nothing, frees_early, FREED_FIRST)
     held_rows()
-    check.fault('two controllers with one number', second_goes_on, 'another controller has it', 'one.number', False)
-    check.fault('two controllers on one serial device', second_goes_on, os.strerror(errno.EBUSY), 'two.number', True)
+    for option, end in FILES.items():
+        check.fault('two controllers with one ' + end, second_goes_on, 'another controller has it', option)
+    check.fault('two controllers with one .csv, without a number', second_goes_on, 'another controller has it', '', '--keep')
+    check.fault('two controllers on one serial device', second_goes_on, os.strerror(errno.EBUSY), 'line')
     late_rows()
     if check.wants('the recipe for a module that is only polled') or check.wants('found: a state that is always 1'):
         recipe_rows()

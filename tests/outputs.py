@@ -18,11 +18,12 @@ from pathlib import Path
 
 import support.fiolog
 from support.check import Check
-from support.fiolog import ENVIRONMENT, PIPE, TOOL, copied, on_terminal, started, use_library, written
+from support.fiolog import ENVIRONMENT, PACKAGES, PIPE, TOOL, copied, on_terminal, started, use_library, written
 from support.tables import TOP
 from support.waits import LONGEST, sleeps, until, used
 
 GOOD = b'> 3605\n< b605018c03e700000003e8\n> 3606\n< b606010c07d000000007d1\n'
+LAUNCHER, LAUNCHER_OF_PIP = os.path.join(TOP, 'tools', 'fiolog'), 'import sys; from fiolog import main; sys.exit(main())'
 # A line that may have held a frame, with what a terminal would obey, octets that are no UTF-8, other letters, and line ends of
 # Unicode; and how it is shown.
 DAMAGED = b'RX b6 05 00 00 00 00 00 01\nRX b6 06 00 00 00 00 00 02\nRX b6 07 00 '
@@ -357,6 +358,29 @@ def check_killed(check, folder):
     check.equal('signals while processes begin', [], wrong)
 
 
+def check_start(check, folder):
+    """While Python and the modules of the command come, what ends it does so at once, without a word; then the status says so."""
+    for name in ('sitecustomize', 'argparse'):
+        hold = os.path.join(folder, name)
+        os.mkdir(hold)
+        written(hold, name + '.py', 'import sys, time\nprint("here", file=sys.stderr, flush=True)\ntime.sleep(600)\n')
+        for launcher in ([LAUNCHER], [sys.executable, '-c', LAUNCHER_OF_PIP])[:1 if name == 'sitecustomize' else 2]:
+            command = subprocess.Popen([*launcher, 'check', '-'], stdin=subprocess.DEVNULL, stderr=subprocess.PIPE,
+                                       env={**ENVIRONMENT, 'PYTHONPATH': os.pathsep.join((hold, PACKAGES))})
+            begun = command.stderr.readline()
+            command.send_signal(signal.SIGINT)
+            err = command.communicate(timeout=LONGEST)[1]
+            check.equal('Ctrl-C while %s comes' % name, (b'here\n', -signal.SIGINT, b''), (begun, command.returncode, err))
+    for number in (signal.SIGINT, signal.SIGTERM, signal.SIGHUP):
+        command = started('decode', '-q')
+        command.stdin.write(GOOD)
+        command.stdin.flush()
+        command.stdout.readline()
+        command.send_signal(number)
+        err = command.communicate(timeout=LONGEST)[1]
+        check.equal('%s while it reads' % number.name, (130, b''), (command.returncode, err))
+
+
 def check_odd(check, folder):
     """Other files: empty ones, folders, files that may not be read, NUL octets, no line end, broken pipes."""
     open_end = written(folder, 'open-end', GOOD[:-1])
@@ -383,7 +407,8 @@ def main():
     # A shell that runs this in the background has it ignore Ctrl-C, and what it starts would too.
     signal.signal(signal.SIGINT, signal.default_int_handler)
     use_library(check, 'outputs of fiolog')
-    for part in (check_locales, check_shown, check_evidence, check_recordings, check_full, check_tools, check_many, check_killed, check_odd):
+    for part in (check_locales, check_shown, check_evidence, check_recordings, check_full, check_tools, check_many, check_killed, check_start,
+                 check_odd):
         with tempfile.TemporaryDirectory() as folder:
             part(check, folder)
     check_long(check)

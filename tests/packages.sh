@@ -231,7 +231,7 @@ if has_command pkg-config && has_command cc; then
 else
     skip 'a program with the library of the archive' 'no pkg-config or no cc here'
 fi
-holds 'the documents of the archive' has "$documents" README.md CHANGELOG.md LICENSE docs/FORMATS.md
+holds 'the documents of the archive' has "$documents" README.md CHANGELOG.md LICENSE LICENSES-OF-OTHERS docs/FORMATS.md
 
 if python3 -m venv env >log 2>&1; then
     holds 'the wheel, without a network' wheel

@@ -68,8 +68,10 @@ done
 given 'a file as an argument' '3605' 2 "error: unexpected argument*Usage: fio2070 check < FILE*" check examples/good.transcript
 given 'the version' '3605' 0 'fio2070 [0-9]*' --version
 
-# If standard error is a terminal, a line there says below `good` what `check` does not judge.
+# If standard error is a terminal, a line there says below `good` what `check` does not judge, and what reads a file or a log.
 note='fio2070: check judges the order of messages; fio2070 record judges what their entries say'
+of_show='fio2070: show reads frames, a line of hexadecimal digits each; fiolog reads logs of other tools'
+of_file='fio2070: give a file as standard input, as in: fio2070 show < FILE; fiolog reads logs of other tools'
 said() {
     python3 -B -c 'import os, pty, subprocess, sys
 ours, theirs = pty.openpty()
@@ -80,6 +82,16 @@ print(os.read(ours, 999).decode().strip())' "$@"
 equal 'the note of check on a terminal' "$note" "$(said "$top/examples/doubled-entry.transcript" "$top/fio2070" check)"
 equal 'no note below a breach' '' "$(said "$top/examples/given-up-block.transcript" "$top/fio2070" check)"
 equal 'no note of another tool' '' "$(said "$top/examples/doubled-entry.transcript" "$top/fio2070" record)"
+equal 'the note of show on a terminal' "$of_show" "$(said "$top/examples/captures/serial-log.txt" "$top/fio2070" show)"
+equal 'no note of show below frames' '' "$(said "$top/examples/lost-answer.frames" "$top/fio2070" show)"
+for words in log.txt 'show log.txt' 'show one.txt two.txt'; do
+    # shellcheck disable=SC2086
+    equal "the note of a file on a terminal: $words" "$of_file" "$(said "$input" "$top/fio2070" $words)"
+done
+for words in --no-such-option 'show --no-such-option' 'show --help' ''; do
+    # shellcheck disable=SC2086
+    equal "no note without a file: $words" '' "$(said "$input" "$top/fio2070" $words)"
+done
 equal 'no note in a pipe' 'good 8 frames' "$("$top/fio2070" check <"$top/examples/doubled-entry.transcript" 2>&1)"
 
 # A folder can be opened and not read.

@@ -20,11 +20,14 @@ is_licensed() {
     grep -q '\(^\|[^ ] \)SPDX-License-Identifier: MIT$' "$room/first" && grep -Fq "$(grep '^Copyright' "$top/LICENSE")" "$room/first"
 }
 
-# has_text ARCHIVE: a package for Python has the text of the licence, in its one file LICENSE.
+# has_one NAME: what is unpacked has one file of this name, which is that of the repository.
+has_one() { find unpacked -name "$1" -exec cmp '{}' "$top/$1" ';' -print | grep -c . | grep -qx 1; }
+
+# has_text ARCHIVE: a package for Python has the texts of the licences, each in its one file.
 has_text() {
     mkdir -p unpacked && python3 -c 'import shutil, sys
 shutil.unpack_archive(sys.argv[1], "unpacked", "zip" if sys.argv[1].endswith(".whl") else "gztar")' "$1" &&
-        find unpacked -name LICENSE -exec cmp '{}' "$top/LICENSE" ';' -print | grep -c . | grep -qx 1
+        has_one LICENSE && has_one LICENSES-OF-OTHERS
     status=$?
     rm -rf unpacked
     return "$status"
@@ -44,7 +47,7 @@ first 'the source distribution' packs sdist
 holds 'the licence in the source distribution' has_text "$(echo "$room"/fio2070-*.tar.gz)"
 if has_command cargo; then
     "$top/packaging/crate" "$room/target" --list >"$room/crate" 2>&1
-    holds 'the licence in the crate' grep -qx LICENSE "$room/crate"
+    for name in LICENSE LICENSES-OF-OTHERS; do holds "$name in the crate" grep -qx "$name" "$room/crate"; done
 fi
 for file in fio2070.c fio2070.h fio2070.hpp fio2070.html; do
     for part in Sources Kit Proof 'To report a fault'; do

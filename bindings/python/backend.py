@@ -21,6 +21,8 @@ import zipfile
 HERE = os.path.dirname(os.path.abspath(__file__))
 TOP = os.path.join(HERE, '..', '..')
 
+LICENCES = ('LICENSE', 'LICENSES-OF-OTHERS')
+
 
 def content(path):
     with open(path, 'rb') as file:
@@ -38,7 +40,7 @@ def setting(name):
 def metadata():
     """The lines about the package, and its page."""
     fields = [('Metadata-Version', '2.1'), ('Name', setting('name')), ('Version', setting('version')),
-              ('Summary', setting('description')), ('License', setting('license')), ('License-File', 'LICENSE'),
+              ('Summary', setting('description')), ('License', setting('license')), *(('License-File', name) for name in LICENCES),
               ('Requires-Python', setting('requires-python')), ('Description-Content-Type', 'text/markdown'),
               *(('Requires-Dist', name + '; extra == "tools"') for name in setting('tools')), ('Provides-Extra', 'tools')]
     return ''.join('%s: %s\n' % field for field in fields).encode() + b'\n' + content(os.path.join(HERE, setting('readme')))
@@ -68,9 +70,10 @@ def found(folder, forms):
     return {os.path.relpath(path, folder).replace(os.sep, '/'): path for path in paths}
 
 
-def licence():
-    """The text of the licence: that of the repository, or of a source distribution."""
-    return content(next(path for path in (os.path.join(HERE, 'LICENSE'), os.path.join(TOP, 'LICENSE')) if os.path.exists(path)))
+def licences(folder=''):
+    """The texts of the licences, by their names in a folder: those of the repository, or of a source distribution."""
+    paths = {name: os.path.join(HERE if os.path.exists(os.path.join(HERE, name)) else TOP, name) for name in LICENCES}
+    return {folder + name: content(path) for name, path in paths.items()}
 
 
 def sources():
@@ -117,7 +120,7 @@ def wheel_contents(tag):
         with tempfile.TemporaryDirectory() as room:
             contents['fio2070/' + LIBRARY] = content(compiled(room))
     contents[NAME + '.dist-info/METADATA'] = metadata()
-    contents[NAME + '.dist-info/LICENSE'] = licence()
+    contents.update(licences(NAME + '.dist-info/'))
     contents[NAME + '.dist-info/WHEEL'] = (WHEEL % tag).encode()
     contents[NAME + '.dist-info/entry_points.txt'] = COMMANDS.encode()
     return contents
@@ -146,7 +149,7 @@ def build_sdist(sdist_directory, config_settings=None):
     contents = {name: content(path) for name, path in found(HERE, ['pyproject.toml', 'README.md', 'backend.py'] + PACKAGES).items()}
     contents.update(('c/' + name, content(path)) for name, path in sources().items())
     contents['PKG-INFO'] = metadata()
-    contents['LICENSE'] = licence()
+    contents.update(licences())
     name = NAME + '.tar.gz'
     with open(os.path.join(sdist_directory, name), 'wb') as file, \
             gzip.GzipFile(filename='', mode='wb', fileobj=file, mtime=0) as packed, \

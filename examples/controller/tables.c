@@ -9,6 +9,7 @@
 #include <stdlib.h>
 #include <string.h>
 #include <sys/file.h>
+#include <sys/stat.h>
 #include <time.h>
 #include <unistd.h>
 
@@ -42,19 +43,23 @@ static void cut(FILE *file, long long length) {
     if (ftruncate(fileno(file), length) != 0 || fseeko(file, 0, SEEK_END) != 0) fail("its tables");
 }
 
+/* Ends the program if another controller writes this file. */
+static void lock(int file, const char *name) {
+    if (flock(file, LOCK_EX | LOCK_NB) == 0 || errno != EWOULDBLOCK) return;
+    fprintf(stderr, "controller: %s: another controller has it\n", name);
+    exit(1);
+}
+
 /* ---- The number that is kept ---- */
 
-/* Opens the file of the number, for one controller at a time, and reads it. A line that is not whole is none. */
+/* Opens the file of the number, and reads it. A line that is not whole is none. */
 static int open_kept(struct tables *tables, const char *name) {
     char line[KEPT_LINE + 1] = "";
     unsigned number = 0;
     int is_new = access(name, F_OK) != 0;
     tables->keep = open(name, O_RDWR | O_CREAT | O_CLOEXEC | (tables->is_fast ? 0 : O_DSYNC), 0666);
     if (tables->keep < 0) return -1;
-    if (flock(tables->keep, LOCK_EX | LOCK_NB) != 0) {
-        fprintf(stderr, "controller: %s: another controller has it\n", name);
-        exit(1);
-    }
+    lock(tables->keep, name);
     tables->was_kept = read(tables->keep, line, KEPT_LINE) == KEPT_LINE && line[KEPT_LINE - 1] == '\n' &&
                        sscanf(line, "%u %lld %lld", &number, &tables->csv_kept, &tables->events_kept) == 3 && number <= 255;
     if (tables->was_kept) tables->number = (uint8_t)number;
@@ -109,12 +114,16 @@ static int has_lost_rows(FILE *file, long long kept) {
     return whole < kept || whole_rows(file, kept) != kept;
 }
 
-/* Opens a file to go on with it, or to begin it. */
+/* Opens a file to go on with it, or to begin it: a pipe or a device as it is, any other for one controller at a time. */
 static FILE *opened(const char *name, int goes_on) {
-    FILE *file = fopen(name, goes_on ? "r+" : "w");
-    if (file == NULL && goes_on) file = fopen(name, "w+");
-    if (file != NULL) fseeko(file, 0, SEEK_END);
-    return file;
+    struct stat state;
+    FILE *stream = NULL;
+    int file = open(name, (goes_on ? O_RDWR : O_WRONLY) | O_CREAT | O_CLOEXEC, 0666);
+    int is_regular = file >= 0 && fstat(file, &state) == 0 && S_ISREG(state.st_mode);
+    if (is_regular) lock(file, name);
+    if (file >= 0 && (goes_on || !is_regular || ftruncate(file, 0) == 0)) stream = fdopen(file, goes_on ? "r+" : "w");
+    if (stream != NULL) fseeko(stream, 0, SEEK_END);
+    return stream;
 }
 
 static void add_mark(struct tables *tables, const char *word) {

@@ -33,8 +33,8 @@ struct tables {
     uint32_t stamp;
 };
 
-/* Opens the table of transitions, and the other files if they have a name. With `keep` it goes on with them, and no other
- * controller can have the same number; without, it begins them. Returns 0, or -1 with errno. */
+/* Opens the table of transitions, and the other files if they have a name. With `keep` it goes on with them, without it begins
+ * them. If another controller has one of them, it says so and ends the program. Returns 0, or -1 with errno. */
 int tables_open(struct tables *tables, const char *csv, const char *events, const char *transcript, const char *keep);
 /* Writes a frame that was sent (`>`) or heard (`<`). */
 void tables_add_frame(struct tables *tables, char direction, const uint8_t *octets, size_t length);

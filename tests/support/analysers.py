@@ -1,6 +1,6 @@
 """What analysers say of the portable library: a kind of warning fails a row unless `argued`, beside this file, has a reason for
-it. `python3 -B tests/support/analysers.py FOLDER [--misra]` prints what each finds, without what is argued away; with `--misra`
-how often the addon of cppcheck finds a rule of MISRA C:2012 broken."""
+it. `python3 -B tests/support/analysers.py FOLDER [--misra]` prints what each finds, without what is argued away, and
+then fails if there is something; with `--misra` how often the addon of cppcheck finds a rule of MISRA C:2012 broken."""
 
 import collections
 import os
@@ -72,7 +72,11 @@ def misra(folder):
 
 
 if __name__ == '__main__':
-    for tool in TOOLS if '--misra' not in sys.argv else ():
-        print(tool, new_kinds(tool, sys.argv[1]) if shutil.which(tool) else 'is not here')
-    for rule, count in sorted(misra(sys.argv[1]).items(), key=lambda it: [int(n) for n in it[0].split('.')]) if '--misra' in sys.argv else ():
-        print(rule, count)
+    if '--misra' in sys.argv:
+        for rule, count in sorted(misra(sys.argv[1]).items(), key=lambda it: [int(n) for n in it[0].split('.')]):
+            print(rule, count)
+        sys.exit()
+    found = {tool: new_kinds(tool, sys.argv[1]) if shutil.which(tool) else None for tool in TOOLS}
+    for tool, new in found.items():
+        print('%s: %s' % (tool, 'is not here' if new is None else new or 'no new warning'))
+    sys.exit(any(found.values()))

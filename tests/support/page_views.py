@@ -110,9 +110,10 @@ LABELS = """return [...document.querySelectorAll("main label, main th, main summ
 
 
 def check_labels(check, browser, _):
-    """Labels begin as sentences do."""
-    example(browser, 'near-entries.transcript')
-    low = [words for words in browser.run(LABELS) if words[0].islower()]
+    """Labels begin as sentences do, but for the name of a log, which is the heading while it is read, if that takes long."""
+    log = 'near-entries.transcript'
+    example(browser, log)
+    low = [words for words in browser.run(LABELS) if words[0].islower() and words != log]
     check.equal('labels that begin small', [], low)
 
 

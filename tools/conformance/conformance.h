@@ -230,12 +230,17 @@ void conformance_cpu_random(struct script *script, const struct cpu_mix *mix, si
  * at which it is not. */
 size_t conformance_compare(const struct ends *ends, const struct script *script, struct difference *difference);
 
+/* Milliseconds that shrinking took in a run: of scripts that show a difference, and of those at which the end fails. */
+struct spent {
+    int64_t ms[2];
+};
+
 /* Leaves out of a script what its difference does not need; if `fresh` is not NULL, what it does not need in a new
  * process. The difference is then that of the last trial that showed one. Says on standard error that it goes on, if it takes
- * long. Returns 0 if it stopped at a bound of events or of time. */
+ * long. Returns 0 if it stopped at a bound of events or of time, which is lower once `spent` is much. */
 struct fresh;
-int conformance_shrink(const struct ends *ends, struct fresh *fresh, struct script *script,
-                       struct difference *difference);
+int conformance_shrink(const struct ends *ends, struct fresh *fresh, struct script *script, struct difference *difference,
+                       struct spent *spent);
 
 /* The rule that the difference at the end of a script is about. */
 enum rule conformance_judge(const struct ends *ends, const struct script *script, const struct difference *difference);

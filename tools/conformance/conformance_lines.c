@@ -19,6 +19,10 @@
 /* In a hurry a line is late after HURRIED_TIMES the slowest one so far, but not before HURRIED_MS milliseconds. */
 enum { HURRIED_TIMES = 20, HURRIED_MS = 100 };
 
+/* A process that closed its streams ends within this time, as if it crashed. */
+enum { ENDING_MS = 300 };
+static const char ENDED[] = "it ended", TAKES_NONE[] = "it takes no line any more";
+
 /* ---- Opening ---- */
 
 /* What the process that is the module's side has for standard input, output and error. */
@@ -174,7 +178,7 @@ static int write_line(struct wire *wire, const char *line) {
     size_t length = strlen(line);
     while (length > 0) {
         ssize_t count = write(wire->file, line, length);
-        if (count <= 0) return conformance_wire_fail(wire, "it takes no line any more", "");
+        if (count <= 0) return conformance_wire_fail(wire, TAKES_NONE, "");
         line += count;
         length -= (size_t)count;
     }
@@ -224,7 +228,7 @@ static int read_line(struct wire *wire, char line[WIRE_LONGEST_LINE]) {
             return conformance_wire_fail(wire, "it wrote no line in time", "");
         }
         count = read(wire->file, wire->octets + wire->kept, sizeof wire->octets - wire->kept);
-        if (count <= 0) return conformance_wire_fail(wire, "it ended", "");
+        if (count <= 0) return conformance_wire_fail(wire, ENDED, "");
         wire->kept += (size_t)count;
     }
     taken = conformance_now_ms() - begun;
@@ -258,12 +262,12 @@ static void write_tail(const struct wire *wire, char *text, size_t room) {
     }
 }
 
-/* How a process ended that wrote no more lines, if it ended by itself. */
+/* How a process ended that takes or writes no more lines, if it ended by itself; any other is killed. */
 static void see_end(struct wire *wire, char *text, size_t room) {
-    int status;
+    int status, is_ending = strcmp(wire->fault, ENDED) == 0 || strcmp(wire->fault, TAKES_NONE) == 0;
     *text = '\0';
     if (wire->process <= 0) return;
-    status = end_process(wire, strcmp(wire->fault, "it wrote no line in time") == 0 ? 0 : 300);
+    status = end_process(wire, is_ending ? ENDING_MS : 0);
     if (status == -1) {
         snprintf(text, room, ", and was killed");
     } else if (WIFSIGNALED(status)) {

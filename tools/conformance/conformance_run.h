@@ -23,6 +23,7 @@ struct run {
     struct origin this_origin, last_origin; /* of this script, and of the one before; a state of 0 is none */
     int is_anew;                            /* each script runs in a new process */
     int is_cut;                             /* shrinking the script stopped at a bound */
+    struct spent spent;
     struct rule_set again;                  /* rules that were reported once more after they were passed over */
     uint32_t untold_fields;                 /* of differences that could not be told from those before */
     FILE *out;

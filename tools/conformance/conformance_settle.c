@@ -46,7 +46,7 @@ static int begin_anew(struct run *run) {
 }
 
 static void make_short(struct run *run) {
-    run->is_cut = !conformance_shrink(&run->ends, fresh_of(run), &run->script, &run->difference);
+    run->is_cut = !conformance_shrink(&run->ends, fresh_of(run), &run->script, &run->difference, &run->spent);
     conformance_simulate(&run->ends, fresh_of(run), &run->script);
 }
 

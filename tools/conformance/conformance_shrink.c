@@ -287,10 +287,10 @@ static void shrink(struct shrinking *shrinking) {
     calm_scans(shrinking);
 }
 
-int conformance_shrink(const struct ends *ends, struct fresh *fresh, struct script *script,
-                       struct difference *difference) {
+int conformance_shrink(const struct ends *ends, struct fresh *fresh, struct script *script, struct difference *difference,
+                       struct spent *spent) {
     struct shrinking shrinking;
-    conformance_begin_trials(&shrinking, ends, fresh, script, difference);
+    conformance_begin_trials(&shrinking, ends, fresh, script, difference, spent);
     shrink(&shrinking);
     conformance_end_trials(&shrinking);
     return !conformance_is_over(&shrinking);

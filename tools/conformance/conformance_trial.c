@@ -9,6 +9,10 @@ enum {
     MOST_TRIED = 20000000, /* after this many events of trials a script is short enough */
     MOST_MS = 120000,      /* and after this time */
     FAILING_MS = 15000,    /* or this one, if each trial that fails takes time */
+    ALL_MS = 300000,       /* after this time for all scripts of a run */
+    LATE_MS = 5000,        /* each of the others has this time */
+    ALL_FAILING_MS = 20000,
+    LATE_FAILING_MS = 500,
     SAYING_MS = 5000,      /* how often it is said that trials go on */
     HURRIED_MS = 100,      /* a trial that goes on for so long without a return is one that hangs */
     MOST_MISSED = 20       /* after this many trials that show nothing the script is tried again */
@@ -16,9 +20,18 @@ enum {
 
 struct script conformance_trial;
 
+/* How long a script may be shrunk, after as much time for those before. */
+static int64_t most_ms(int fails, int64_t spent_ms) {
+    int64_t each = fails ? FAILING_MS : MOST_MS, left = (fails ? ALL_FAILING_MS : ALL_MS) - spent_ms;
+    int64_t late = fails ? LATE_FAILING_MS : LATE_MS;
+    if (left > each) return each;
+    return left > late ? left : late;
+}
+
 void conformance_begin_trials(struct shrinking *shrinking, const struct ends *ends, struct fresh *fresh,
-                              struct script *script, struct difference *difference) {
+                              struct script *script, struct difference *difference, struct spent *spent) {
     memset(shrinking, 0, sizeof *shrinking);
+    shrinking->spent = spent;
     shrinking->ends = *ends;
     shrinking->fresh = fresh;
     shrinking->script = script;
@@ -26,14 +39,25 @@ void conformance_begin_trials(struct shrinking *shrinking, const struct ends *en
     shrinking->most = ends->most_tried > 0 ? ends->most_tried : (unsigned long)MOST_TRIED;
     shrinking->fails = difference->failure[0] != '\0';
     shrinking->began_ms = shrinking->said_ms = conformance_now_ms();
-    shrinking->until_ms = shrinking->began_ms + (shrinking->fails ? FAILING_MS : MOST_MS);
+    shrinking->until_ms = shrinking->began_ms + most_ms(shrinking->fails, spent->ms[shrinking->fails]);
     if (!shrinking->fails) return;
     if (ends->guard_ms > HURRIED_MS) shrinking->ends.guard_ms = HURRIED_MS;
     if (ends->outside != NULL) ends->outside->hurry(ends->outside->context, HURRIED_TRIAL);
 }
 
+/* Adds the time of this script to that of those before, and says once if the others have less. */
+static void count_time(struct shrinking *shrinking) {
+    int fails = shrinking->fails;
+    int64_t *spent = &shrinking->spent->ms[fails], all = fails ? ALL_FAILING_MS : ALL_MS, before = *spent;
+    *spent += conformance_now_ms() - shrinking->began_ms;
+    if (before >= all || *spent < all) return;
+    fprintf(stderr, "# Shrinking has taken %ld s in this run: from here on at most %ld ms for each script%s.\n",
+            (long)(*spent / 1000), (long)(fails ? LATE_FAILING_MS : LATE_MS), fails ? " at which the end fails" : "");
+}
+
 void conformance_end_trials(struct shrinking *shrinking) {
     const struct outside *outside = shrinking->ends.outside;
+    count_time(shrinking);
     if (shrinking->fails && outside != NULL) outside->hurry(outside->context, TRIAL);
 }
 

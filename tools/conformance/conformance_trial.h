@@ -14,6 +14,7 @@ struct shrinking {
     int fails;                     /* at its last event the end under test crashes or hangs */
     unsigned long tried, most;     /* events of trials */
     unsigned missed;               /* successive trials that showed nothing */
+    struct spent *spent;           /* in this run */
     int64_t began_ms, said_ms, until_ms; /* of the clock: also when it was last said that trials go on */
 };
 
@@ -21,7 +22,7 @@ struct shrinking {
 extern struct script conformance_trial;
 
 void conformance_begin_trials(struct shrinking *shrinking, const struct ends *ends, struct fresh *fresh,
-                              struct script *script, struct difference *difference);
+                              struct script *script, struct difference *difference, struct spent *spent);
 void conformance_end_trials(struct shrinking *shrinking);
 
 /* Whether the script is short enough, since trials took too long: there are no more of them. */

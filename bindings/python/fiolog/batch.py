@@ -67,9 +67,11 @@ class Line(NamedTuple):
     """A line of a log, `raw` as it is in the log. `kind` is FRAME for octets that spell a message; BAD for those that are a frame by
     order or by their carrier, and spell none; OTHER for a frame with an address that is not judged; POSSIBLE for a line that no form
     has and that may be a message; DAMAGED for a line that a form has and that gives no frame, or frames that were lost on their way
-    here; DROPPED for octets that are in no frame, beside what their line gives, and BELOW for the place below its frames; WAITING for a message that may go on in a line that
-    has not come yet; PART for a line of a frame that ends below; BLANK; PASSED for any other. `time` is in seconds, `direction` is `>` or `<`, `note` is the reason; `said` is
-    what the log says of the direction, if it does; `file` is the name of its file, if it is one of several that are read as one log."""
+    here; DROPPED for octets that are in no frame, beside what their line gives, and BELOW for the place below its frames; WAITING for
+    a message that may go on in a line that has not come yet; PART for a line of a frame that ends below; BLANK; PASSED for any other.
+    `time` is in seconds, `direction` is `>` or `<`, `note` is the reason; `said` is what the log says of the direction, if it does;
+    `file` is the name of its file, if it is one of several that are read as one log. Of a line with several messages `message` is
+    which one it is, and `octet` which of all their octets is its first, both from 1."""
     number: int
     kind: str
     raw: bytes = b''
@@ -79,6 +81,14 @@ class Line(NamedTuple):
     note: str = ''
     said: str = ''
     file: str = ''
+    message: int = 0
+    octet: int = 0
+
+    @property
+    def where(self):
+        """Which line it is, and of a line with several messages which message, and where it begins."""
+        parts = ('line', self.number), ('message', self.message), ('octet', self.octet)
+        return ', '.join('%s %d' % part for part in parts if part[1])
 
     @property
     def head(self):
@@ -225,8 +235,13 @@ class Batch:
         dropped = [event._replace(kind=DROPPED, note=note)] * is_dropped
         if verdict.kind not in (FRAME, PART):
             return dropped or [event._replace(note=note)]
+        if not frames:
+            return dropped + [event]
         said = [event._replace(octets=self.octets[frame], direction=_WAYS[self.senders[frame]]) for frame in frames]
-        return dropped + (said + [event._replace(kind=BELOW)] * is_dropped if said else [event])
+        if len(said) > 1:
+            begins = accumulate((len(one.octets) for one in said), initial=1)
+            said = [one._replace(message=place, octet=octet) for place, (one, octet) in enumerate(zip(said, begins), 1)]
+        return dropped + said + [event._replace(kind=BELOW)] * is_dropped
 
     def numbered(self, first=0):
         """The events of the lines from this one on, each with the index of its line."""

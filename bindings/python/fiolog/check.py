@@ -28,7 +28,7 @@ def add_arguments(parser):
 
 def _place(event):
     """The line of a frame, and its time where it has one; a time of the day as the log writes it."""
-    place = 'in %sline %d' % (event.head, event.number)
+    place = 'in %s%s' % (event.head, event.where)
     return place if event.time is None else '%s at %s' % (place, event.clock)
 
 
@@ -73,9 +73,10 @@ class Findings:
         self.spans[found.rule] = first, event, count + 1
         if self.option.json:
             kind = {'outcome': found.rule} if found.is_restart else {'rule': found.rule, **found.due, 'source': found.source}
-            terminal.print_object({'file': shown(event.file or self.read.name), 'line': event.number, **kind, 'says': found.says})
+            place = {'line': event.number, **({'message': event.message, 'octet': event.octet} if event.message else {})}
+            terminal.print_object({'file': shown(event.file or self.read.name), **place, **kind, 'says': found.says})
         else:
-            print('%sline %d: %s: %s' % (event.head, event.number, self.paint('fault', found.rule), found.meaning))
+            print('%s%s: %s: %s' % (event.head, event.where, self.paint('fault', found.rule), found.meaning))
 
     def words(self):
         """A line for each rule that is broken, and for restarts: how often, from when to when."""

@@ -99,7 +99,7 @@ class Station:
         """Says what frames break, and where the module restarted."""
         for event, found in broken:
             self.broken['restarted' if found.is_restart else 'breaches in content' if found.is_content else 'breaches'] += 1
-            self._write('line %d: %s: %s\n' % (event.number, self.paint('fault', found.rule), found.meaning))
+            self._write('%s: %s: %s\n' % (event.where, self.paint('fault', found.rule), found.meaning))
 
     def flush(self):
         """Writes out what is held, and the status line on a terminal; and what lines would be that wait, if the log ended now."""
@@ -144,7 +144,6 @@ class Station:
 
 def run(option):
     """Hears the line until it ends; status 1 also if it ends with a fault."""
-    output.end_at_signals()
     for name in ('exec', 'serial', 'fifo'):
         given = getattr(option, name)
         if given is not None and not given.strip():

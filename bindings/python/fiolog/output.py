@@ -5,16 +5,14 @@ import contextlib
 import errno
 import io
 import os
-import signal
 import stat
 import sys
 
+from . import signals
 from .terminal import fault_words, say, status as status_line
 
 STANDARD = 'standard output'
 STREAMS = {1: STANDARD, 2: 'standard error'}
-# The signals that end a command as Ctrl-C does, as far as a system has them.
-ENDING = 'SIGTERM', 'SIGHUP'
 # Where Linux shows the open files of a process.
 _OPEN_FILES = '/proc/self/fd'
 # The octets of an output's name in that of the file that takes its place; a name has 255 at most.
@@ -126,7 +124,6 @@ def recorded(name, is_forced, is_binary=False):
 def made(name, is_binary=False):
     """A file that is made in one go: at its end it takes the place of one with this name, with its mode; on a fault that stays
     as it was, and nothing is left."""
-    end_at_signals()
     state = _state(name)
     if state is not None and (not _is_file(state) or _is_stream(name, state)):
         with _file_of(os.open(name, _BEGIN | os.O_TRUNC, 0o666), name, is_binary) as file:
@@ -196,20 +193,30 @@ def _set_mode(descriptor, beside, mode):
         os.chmod(beside, mode)
 
 
-def end_at_signals():
-    """Lets what ends a process from outside be as Ctrl-C, so that all is put in order."""
-    def interrupt(number, frame):
-        raise KeyboardInterrupt
-    for name in ENDING:
-        number = getattr(signal, name, None)
-        if number and signal.getsignal(number) == signal.SIG_DFL:
-            signal.signal(number, interrupt)
-
-
 def guarded(name, run):
     """Runs a command of this name, and returns its status. What ends it is said in one line: status 2 if an output is refused, 3
-    if a file cannot be read or written, 130 at Ctrl-C, 1 without a word if nobody reads its output."""
+    if a file cannot be read or written, 130 at Ctrl-C, SIGTERM or SIGHUP, 1 without a word if nobody reads its output."""
     sys.stdout = standard(sys.stdout)
+    try:
+        signals.end_in_order()
+        try:
+            status = _status(name, run)
+        finally:
+            signals.end_at_once()
+    except KeyboardInterrupt:
+        signals.end_at_once()
+        status = 130
+    status_line.clear()
+    try:
+        sys.stdout.flush()
+    except OSError:
+        # What is still held goes nowhere.
+        os.dup2(os.open(os.devnull, os.O_WRONLY), sys.stdout.fileno())
+    return status
+
+
+def _status(name, run):
+    """The status of a command that nothing from outside ends; what ends it is said."""
     try:
         try:
             status = run()
@@ -219,19 +226,10 @@ def guarded(name, run):
         sys.stdout.flush()
         return status
     except BrokenPipeError:
-        status = 1      # the reader, such as `head`, has enough
+        return 1        # the reader, such as `head`, has enough
     except Refused as refusal:
         say(str(refusal), name)
-        status = 2
-    except KeyboardInterrupt:
-        status = 130
+        return 2
     except OSError as fault:
         say(fault_words(fault), name)
-        status = 3
-    status_line.clear()
-    try:
-        sys.stdout.flush()
-    except OSError:
-        # What is still held goes nowhere.
-        os.dup2(os.open(os.devnull, os.O_WRONLY), sys.stdout.fileno())
-    return status
+        return 3

@@ -9,7 +9,7 @@ import sys
 import threading
 from concurrent.futures import BrokenExecutor, ProcessPoolExecutor, as_completed
 
-from . import output, terminal
+from . import signals, terminal
 
 # How many processes are begun at most; Windows waits for no more than 61.
 MOST_JOBS = 61 if sys.platform == 'win32' else 256
@@ -29,7 +29,6 @@ def jobs_of(wanted, count):
 def results(work, names, jobs, seen):
     """Returns what the work made of each name, by its index, which `seen` is called with as it comes. Work that died is words. Of work that
     Ctrl-C ended there is none."""
-    output.end_at_signals()
     done = {}
 
     def add(index, found):
@@ -52,7 +51,7 @@ def results(work, names, jobs, seen):
 def _mask(how):
     """Holds back, or lets come, the signals that end a command, where a system can."""
     if hasattr(signal, 'pthread_sigmask'):
-        signal.pthread_sigmask(how, {getattr(signal, name) for name in ('SIGINT', *output.ENDING)})
+        signal.pthread_sigmask(how, signals.ending())
 
 
 @contextlib.contextmanager
@@ -67,11 +66,8 @@ def _held():
 
 def _begin():
     """Ctrl-C at a terminal is for all processes of a command; the first of them ends the others, and they end with it."""
+    signals.end_at_once()
     signal.signal(signal.SIGINT, signal.SIG_IGN)
-    for name in output.ENDING:
-        number = getattr(signal, name, None)
-        if number and signal.getsignal(number) != signal.SIG_IGN:
-            signal.signal(number, signal.SIG_DFL)
     _mask(signal.SIG_UNBLOCK)
     threading.Thread(target=_end_with_first, daemon=True).start()
 

@@ -13,7 +13,7 @@ use Rattle.fio_wire.specs.Detection.{low_bits}
 use Rattle.fio_wire.specs.Bits.{Reading, Packing, BitPhase, Hunting, Within, Lost, Whole, fresh, none_packed, packed, flushed, ending, says_flag, after_flag, aborted, after_zero, begun, says, next, said_of, said_in, destuffed, bit_stuffed, line_bits, flag_bits, HasNoSix, is_none}
 
 -- in a frame
-abbrev at : Packing → ℕ → Bool → Reading
+abbrev pub at : Packing → ℕ → Bool → Reading
 at packing ones is_pending = record { packing = packing; ones = ones; is_pending = is_pending; phase = Within }
 
 after_whole : (packing : Packing) (bits : List Bool) → said_of (record { packing = packing; ones = 0; is_pending = false; phase = Whole }) bits ≡ said_of fresh bits
@@ -30,7 +30,7 @@ flagged (Damage ∷ more) packing rest = refl
 below_six : (n : ℕ) → n ≤ 5 → nat_lt n 6 ≡ true
 below_six n h = grind (arith, nat_tests)
 
-not_six : (n : ℕ) → n ≤ 5 → (n == 6) ≡ false
+pub not_six : (n : ℕ) → n ≤ 5 → (n == 6) ≡ false
 not_six n h = grind (arith, nat_tests)
 
 -- what a 0 leaves, by the tests of the ones before it
@@ -39,7 +39,7 @@ zeroed low six packing n b =
     if low then at (flushed (at packing n b)) 0 (nat_lt n 5)
     else (if six then after_flag (ending packing) packing else at packing 0 false)
 
-zero_step : (packing : Packing) (n : ℕ) (b : Bool) (rest : List Bool) → n ≤ 5
+pub zero_step : (packing : Packing) (n : ℕ) (b : Bool) (rest : List Bool) → n ≤ 5
     → said_of (at packing n b) (false ∷ rest) ≡ said_of (at (flushed (at packing n b)) 0 (nat_lt n 5)) rest
 zero_step packing n b rest h =
     ap₂ (λ low six. (if six then ending packing else []) ++ said_of (zeroed low six packing n b) rest)
@@ -53,7 +53,7 @@ one_is : (low : Bool) (packing : Packing) (n : ℕ) (b : Bool) → low ≡ true
 one_is true packing n b h = let more : n + 1 ≡ suc n = omega arith in ap (λ m. at packing m b) more
 one_is false packing n b h = absurd (false≢true h)
 
-one_step : (packing : Packing) (n : ℕ) (b : Bool) (rest : List Bool) → n ≤ 5
+pub one_step : (packing : Packing) (n : ℕ) (b : Bool) (rest : List Bool) → n ≤ 5
     → said_of (at packing n b) (true ∷ rest) ≡ said_of (at packing (suc n) b) rest
 one_step packing n b rest h = ap (λ r. said_of r rest) (one_is (nat_lt n 6) packing n b (below_six n h))
 
@@ -82,7 +82,7 @@ pending_is : (n : ℕ) (packing : Packing) → n ≤ 5 → (if nat_lt n 5 then p
 pending_is n packing h = by_tests (nat_lt n 5) (n == 5) packing (low_not_five n) (high_is_five n h)
 
 -- a part without flag and abort, and the flag behind it
-run : (packing : Packing) (n : ℕ) (b : Bool) (part rest : List Bool) → n ≤ 5 → HasNoSix n part
+pub run : (packing : Packing) (n : ℕ) (b : Bool) (part rest : List Bool) → n ≤ 5 → HasNoSix n part
     → said_of (at packing n b) (part ++ (flag_bits ++ rest)) ≡ ending (made packing n b part) ++ said_of fresh rest
 run packing n b [] rest h free =
     zero_step packing n b (true ∷ true ∷ true ∷ true ∷ true ∷ true ∷ false ∷ rest) h

@@ -6,6 +6,7 @@ pub mod LowestBits
 pub mod Lines
 pub mod Sent
 pub mod Losses
+pub mod Aborts
 pub mod BitLines
 pub mod SentBits
 pub mod OneFlip

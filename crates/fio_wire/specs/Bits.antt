@@ -1,5 +1,5 @@
 -- Lines of bits: 01111110 is a flag, and bit stuffing keeps six ones in a row out of frames. Seven ones are an abort.
-use Rattle.std.specs.Prelude.{ℕ, ◌+◌, ◌-◌, ◌/◌, ◌%◌, ◌^◌, ◌==◌, ◌&&◌, ◌||◌, not, nat_lt, ◌≡◌, ◌<◌, ◌≤◌, Bool, true, false, if◌then◌else◌, List, [], ◌∷◌, ◌++◌, length, take, fold, flat_map, map, replicate}
+use Rattle.std.specs.Prelude.{ℕ, ◌+◌, ◌-◌, ◌/◌, ◌%◌, ◌^◌, ◌==◌, ◌&&◌, ◌||◌, not, nat_lt, ◌≡◌, ◌≢◌, ◌<◌, ◌≤◌, Bool, true, false, if◌then◌else◌, List, [], ◌∷◌, ◌++◌, length, take, fold, flat_map, map, replicate}
 use Prim.Native.Nat.{zero, suc}
 use Rattle.fio_wire.specs.Checks.{with_octet}
 use Rattle.fio_wire.specs.Detection.{low_bits}
@@ -37,6 +37,24 @@ HasNoSix ones [] = Unit {0}
 HasNoSix ones (true ∷ bits) = (ones < 5) × HasNoSix (suc ones) bits
 HasNoSix ones (false ∷ bits) = HasNoSix 0 bits
 
+-- no flag is among bits that come after `ones` ones and before a 0; an abort may be
+abbrev pub HasNoBitFlag : ℕ → List Bool → Type 0
+HasNoBitFlag ones [] = ones ≢ 6
+HasNoBitFlag ones (true ∷ bits) = HasNoBitFlag (suc ones) bits
+HasNoBitFlag ones (false ∷ bits) = (ones ≢ 6) × HasNoBitFlag 0 bits
+
+-- whether there is an abort: seven ones in a row
+abbrev pub has_abort : ℕ → List Bool → Bool
+has_abort ones [] = false
+has_abort ones (true ∷ bits) = if ones == 6 then true else has_abort (suc ones) bits
+has_abort ones (false ∷ bits) = has_abort 0 bits
+
+-- whether seven ones come first: directly after a flag the line is idle
+abbrev pub begins_idle : ℕ → List Bool → Bool
+begins_idle ones [] = false
+begins_idle ones (true ∷ bits) = if ones == 6 then true else begins_idle (suc ones) bits
+begins_idle ones (false ∷ bits) = false
+
 -- Octets of bits, at most 777 of them: those that are whole, and the bits of the next one.
 pub record Packing : Type 0 where
   pub octets : List ℕ
@@ -71,6 +89,10 @@ ending packing = judged (is_broken packing) packing.octets
 -- what a part says
 abbrev pub said_in : List Bool → List Said
 said_in part = ending (fold packed none_packed (destuffed 0 part))
+
+-- what bits between two flags say: nothing if the line is idle, damage if an abort breaks a part off
+abbrev pub said_between : List Bool → List Said
+said_between bits = if has_abort 0 bits then (if begins_idle 0 bits then [] else Damage ∷ []) else said_in bits
 
 -- ---- The decoder, bit by bit
 

@@ -77,12 +77,13 @@ pub fn frames_arrive_whole_or_not_at_all()
         → said_of start (FLAG ∷ with_flags (map part_between fates)) ≡ map arrives fates }
 {}
 
-/// A decoder says of a line of bits, after any noise that ends with a flag, exactly what its parts say.
-#[tactic(auto, using(crate::proofs::BitLines::exact))]
+/// A decoder says of a line of bits, after any noise that ends with a flag, exactly what its parts say, aborts and idle lines
+/// among them.
+#[tactic(auto, using(crate::proofs::Aborts::exact_with_aborts))]
 pub fn bit_lines_are_read_by_parts()
-    ensures { (reading : bits.Reading) (noise : List Bool) (parts : List (List Bool)) → AllByRecursion (bits.HasNoSix 0) parts
+    ensures { (reading : bits.Reading) (noise : List Bool) (parts : List (List Bool)) → AllByRecursion (bits.HasNoBitFlag 0) parts
         → bits.said_of reading (noise ++ (bits.flag_bits ++ flat_map (λ part. part ++ bits.flag_bits) parts))
-        ≡ bits.said_of reading (noise ++ bits.flag_bits) ++ flat_map bits.said_in parts }
+        ≡ bits.said_of reading (noise ++ bits.flag_bits) ++ flat_map bits.said_between parts }
 {}
 
 /// After a flag a decoder of bits says what one says that begins there, whatever bits came before.

@@ -14,6 +14,7 @@
 #include <stdio.h>
 #include <stdlib.h>
 #include <string.h>
+#include <sys/file.h>
 #include <sys/stat.h>
 #include <unistd.h>
 
@@ -160,6 +161,7 @@ int main(int count, char **words) {
     unfounded = tables.gaps;
     slots(20 + rand() % 200, 1, 1);
     fail_power();
+    flock(fileno(tables.csv), LOCK_UN); /* what it has not written yet is lost */
     close(tables.keep);
     slots(rand() % 5, 1, 0);
     start();

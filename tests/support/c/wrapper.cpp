@@ -4,7 +4,8 @@
 
 #include "checks.h"
 
-static std::vector<std::uint8_t> octets(const fio2070::Frame &frame) { return {frame.begin(), frame.end()}; }
+template <typename T, std::size_t Most>
+static std::vector<T> octets(const fio2070::List<T, Most> &list) { return {list.begin(), list.end()}; }
 using List = std::vector<std::uint8_t>;
 
 static std::string hex(const fio2070::Frame &frame) {
@@ -59,7 +60,7 @@ static void has_values() {
     CHECK(fio2070::encode_command(configuration_of(2), {{12, 0, 5, 3}, {3, 1, 0, 0}})->size() == 8);
     CHECK(octets(*fio2070::encode_answer(*fio2070::decode_answer(BLOCK), {{12, 1, 999}})) == BLOCK);
     CHECK(fio2070::decode_command({0x36, 5}).value().block == 5);
-    CHECK(fio2070::block_entries(BLOCK) == std::vector<fio2070::Entry>({{12, 1, 999}}));
+    CHECK(octets(fio2070::block_entries(BLOCK)) == std::vector<fio2070::Entry>({{12, 1, 999}}));
     CHECK(*fio2070::read_block(BLOCK) == fio2070::BlockHeader({5, 0, 1, 0, 1000}));
     std::string text;
     try {
@@ -119,6 +120,24 @@ static void hears() {
     CHECK(poller.hear(List({0xb6, 6, 0, 12, 0, 0, 0, 1})).is_taken() && poller.record().size() == 3);
     CHECK(poller.record() == std::vector<fio2070::RecordItem>({{1, 0, 0, {}, 0, 0}, {0, 12, 1, {}, 999, 999}, {1, 0, 0, {}, 0, 0}}));
     CHECK(poller.drain().size() == 3 && poller.record().empty() && poller.number() == 7);
+    fio2070::RecordItems items;
+    const auto entry = List({0xb6, 7, 1, 0x8c, 3, 0xe7, 0, 0, 0, 3, 0xe8});
+    CHECK(poller.hear(entry, items).is_taken() && poller.record().empty() && poller.number() == 8);
+    CHECK(octets(items) == std::vector<fio2070::RecordItem>({{0, 12, 1, {}, 999, 999}}));
+    CHECK(poller.hear(entry, items).kind() == FIO2070_HEARD_STALE && items.empty());
+}
+
+// A list has room for so many items, and says if it has no more.
+static void has_lists() {
+    fio2070::List<int, 2> list, other;
+    CHECK(list.empty() && list.push_back(7) && list != other && list.push_back(8) && !list.push_back(9));
+    CHECK(octets(list) == std::vector<int>({7, 8}) && list[1] == 8 && list.capacity() == 2);
+    CHECK(!list.resize(3) && list.size() == 2 && list.resize(1) && octets(list) == std::vector<int>({7}));
+    CHECK(other.push_back(7) && list == other && other.push_back(7) && list != other);
+    other[1] = 6;
+    CHECK(octets(other) == std::vector<int>({7, 6}));
+    const auto write = [](std::size_t count) { return [count](int *out, std::size_t room) { return std::fill_n(out, room, 5), count; }; };
+    CHECK(octets(*list.of(write(2))) == std::vector<int>({5, 5}) && !list.of(write(3)) && list.of(write(0)) && !list.of_some(write(0)));
 }
 
 /* A copy of a module has its waiting entries. */
@@ -288,7 +307,7 @@ static void judges_frames() {
 
 static void reads_a_line() {
     const List shared = {0x7e, 0x14, 0x83, 0x36, 1, 0xe0, 0x5d, 0x7e, 0x14, 0x83, 0x36, 2, 0x7b, 0x6f, 0x7e};
-    const List longest = *fio2070::wire_frame(List(773, 0x7d), 0x7d, 0x7e);
+    const auto longest = *fio2070::wire_frame(List(773, 0x7d), 0x7d, 0x7e);
     fio2070::Wire wire(FIO2070_WIRE_ADDRESS, FIO2070_WIRE_CONTROL), any(FIO2070_WIRE_ANY, 0x7e);
     fio2070::Octets rest = shared, all = longest;
     auto first = wire.read(rest), second = wire.read(rest);
@@ -303,11 +322,12 @@ static void reads_a_line() {
     CHECK(octets(decoder.read(rest)->message()) == List({0x36, 5}) && rest.empty());
     rest = fio2070::Octets(shared.data(), 4), any.read(rest), any.lose(), rest = fio2070::Octets(shared.data() + 4, 4);
     CHECK(any.read(rest)->kind() == FIO2070_WIRE_DAMAGED);
-    CHECK(*fio2070::wire_frame({0x36, 1}) == List(shared.begin(), shared.begin() + 8) && !fio2070::wire_frame({}));
+    CHECK(longest.size() >= 1552 && octets(*fio2070::wire_frame({0x36, 1})) == List(shared.begin(), shared.begin() + 8) && !fio2070::wire_frame({}));
 }
 
 int main() {
-    for (const auto test : {reads_and_writes, has_values, tells_values, has_the_longest_text, hears, moves, constructs_a_module, has_parts,
-                            has_texts, is_a_module, has_a_maker, has_checkers, judges, judges_a_log, is_like_a_sample, judges_frames, reads_a_line}) test();
+    for (const auto test : {reads_and_writes, has_values, tells_values, has_the_longest_text, hears, has_lists, moves, constructs_a_module,
+                            has_parts, has_texts, is_a_module, has_a_maker, has_checkers, judges, judges_a_log, is_like_a_sample,
+                            judges_frames, reads_a_line}) test();
     return end_of_checks();
 }

@@ -21,6 +21,11 @@
 #[cfg(feature = "std")]
 extern crate std;
 
+/// The example of the crate's page, as a test.
+#[cfg(doctest)]
+#[doc = include_str!("../README.md")]
+struct Readme;
+
 pub mod constants;
 mod counts;
 mod encode;

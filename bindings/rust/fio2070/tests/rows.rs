@@ -35,7 +35,8 @@ fn messages_are_read_and_written() {
     assert_eq!((answer.block, answer.count, answer.stamp), (5, 1, 1000));
     let mut room = [Entry::default(); 2];
     let entries = block_entries(&BLOCK, &mut room).unwrap();
-    let [entry] = entries else { panic!() };
+    assert_eq!(entries.len(), 1);
+    let entry = &entries[0];
     assert_eq!((entry.input, entry.state, entry.stamp), (12, 1, 999));
     let written = encode_answer(&answer, entries, &[], &mut out);
     assert_eq!(written, Ok(&BLOCK[..]));
