@@ -7,7 +7,7 @@ use crate::counts::{Counts, ReadAs};
 use crate::heading::Heading;
 use crate::lines::NumberedLine;
 use crate::quiet::is_plain_quiet;
-use crate::rows::{Rows, StreamRows};
+use crate::rows::{MessageRows, StreamRows};
 use crate::shapes::Shapes;
 use crate::told::Told;
 use crate::verdict::{Kind, LineVerdict, Reason};
@@ -19,7 +19,7 @@ use fio_sniff::Forms;
 
 /// What a line says by the forms, before its verdict is made.
 #[derive(Clone, Copy)]
-pub(crate) struct Heard {
+pub(crate) struct LineHeard {
     /// What it says.
     pub said: LineSaid,
     /// Whether its octets go on with those of the lines above.
@@ -37,7 +37,7 @@ pub(crate) struct FormReader {
     counts: Counts,
     reading: Reading,
     /// The rows of the message that is open.
-    rows: Rows,
+    rows: MessageRows,
     stream: Stream,
     /// The rows of the octets of the stream that are in no message yet.
     stream_rows: StreamRows,
@@ -94,7 +94,7 @@ impl FormReader {
             forms: ArrayVec::new(),
             counts: Counts::new(),
             reading: Reading::new(),
-            rows: Rows::new(),
+            rows: MessageRows::new(),
             stream: Stream::new(),
             stream_rows: StreamRows::new(),
             heading: Heading::new(),
@@ -197,7 +197,7 @@ impl FormReader {
     }
 
     /// Hears what a line says, after the line above it.
-    pub(crate) fn hear(&mut self, line: NumberedLine) -> Heard {
+    pub(crate) fn hear(&mut self, line: NumberedLine) -> LineHeard {
         let was_open = self.reading.is_open();
         let said = if line.is_long {
             self.reading.skip()
@@ -209,7 +209,7 @@ impl FormReader {
             && !said.is_ended
             && matches!(said.said, Said::Frame | Said::Part | Said::Damaged)
             && !line.is_long;
-        Heard {
+        LineHeard {
             said,
             goes_on,
             is_long: line.is_long,
@@ -218,7 +218,7 @@ impl FormReader {
 
     /// Returns whether the verdict of a line that was heard last waits for the next line, or the end of the log, which may end a
     /// message.
-    pub(crate) fn waits(&self, heard: Heard) -> bool {
+    pub(crate) fn waits(&self, heard: LineHeard) -> bool {
         heard.said.said == Said::Stream
             || self.reading.may_have_ended()
             || !self.stream.octets.is_empty()
@@ -302,7 +302,7 @@ fn reason_of_frames(verdict: LineVerdict) -> Reason
 }
 
 /// Takes a message, with the places of its rows, as the only frame; returns whether there was room.
-fn take_message(message: &[u8], rows: &Rows, last: &mut Octets, told: &mut Told) -> bool
+fn take_message(message: &[u8], rows: &MessageRows, last: &mut Octets, told: &mut Told) -> bool
     ensures taken { result ≡ true → length told.new.frames ≡ 1 }
     ensures none { result ≡ false → told.new.frames ≡ [] }
 {

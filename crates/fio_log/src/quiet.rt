@@ -7,7 +7,7 @@ use fio_guess::may_begin;
 
 /// What a text has in the notations of some forms.
 #[derive(Clone, Copy, Debug, PartialEq, Eq)]
-pub(crate) enum Held {
+pub(crate) enum Hidden {
     /// Nothing that may be a frame.
     Nothing,
     /// Two octets or more that begin a message, or are one whose length nothing tells.
@@ -16,29 +16,29 @@ pub(crate) enum Held {
     Message,
 }
 
-impl Held {
+impl Hidden {
     /// Returns the greater of two.
-    fn or(self, other: Held) -> Held {
+    fn or(self, other: Hidden) -> Hidden {
         match (self, other) {
-            (Held::Message, _) | (_, Held::Message) => Held::Message,
-            (Held::Beginning, _) | (_, Held::Beginning) => Held::Beginning,
-            _ => Held::Nothing,
+            (Hidden::Message, _) | (_, Hidden::Message) => Hidden::Message,
+            (Hidden::Beginning, _) | (_, Hidden::Beginning) => Hidden::Beginning,
+            _ => Hidden::Nothing,
         }
     }
 }
 
 /// Returns what octets are: those of a run may have more behind a message.
-fn held_by(octets: &[u8]) -> Held {
+fn held_by(octets: &[u8]) -> Hidden {
     if octets.len() < 2 {
-        return Held::Nothing;
+        return Hidden::Nothing;
     }
     match size_of(octets) {
         Size::Known(size) if size > 1 && size <= octets.len() && is_message(&octets[..size]) =>
-            Held::Message,
-        Size::Known(size) if size > octets.len() => Held::Beginning,
-        Size::Unknown => Held::Beginning,
-        Size::Any if is_message(octets) => Held::Beginning,
-        _ => Held::Nothing,
+            Hidden::Message,
+        Size::Known(size) if size > octets.len() => Hidden::Beginning,
+        Size::Unknown => Hidden::Beginning,
+        Size::Any if is_message(octets) => Hidden::Beginning,
+        _ => Hidden::Nothing,
     }
 }
 
@@ -60,9 +60,9 @@ fn is_run(digits: Digits, text: &[u8], end: usize) -> bool {
 }
 
 /// Returns what a text has in the notation of a form.
-fn held_in(form: &LineForm, text: &[u8], octets: &mut Octets) -> Held {
+fn held_in(form: &LineForm, text: &[u8], octets: &mut Octets) -> Hidden {
     let before = usize::from(form.before);
-    let mut held = Held::Nothing;
+    let mut held = Hidden::Nothing;
     let mut next = 0;
     'places: for place in 0..text.len() {
         if place >= next
@@ -87,8 +87,8 @@ fn held_in(form: &LineForm, text: &[u8], octets: &mut Octets) -> Held {
 }
 
 /// Returns what a text has in the notations of some forms. If that is nothing, it is *quiet*.
-pub(crate) fn held_by_text(forms: &[LineForm], text: &[u8], octets: &mut Octets) -> Held {
-    let mut held = Held::Nothing;
+pub(crate) fn held_by_text(forms: &[LineForm], text: &[u8], octets: &mut Octets) -> Hidden {
+    let mut held = Hidden::Nothing;
     for form in forms {
         held = held.or(held_in(form, text, octets));
     }
@@ -124,7 +124,7 @@ pub(crate) fn is_plain_quiet(text: &[u8], octets: &mut Octets) -> bool {
         'places: for place in 0..text.len() {
             if may_begin(text, place)
                 && let Some(count) = run_in(Digits::Pairs, cycle, &text[place..], octets)
-                && held_by(octets) != Held::Nothing
+                && held_by(octets) != Hidden::Nothing
                 && is_run(Digits::Pairs, &text[place..], count)
             {
                 return false;

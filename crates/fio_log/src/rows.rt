@@ -15,14 +15,14 @@ const STREAM_ROWS: usize = 1_024;
 
 /// The rows of a message, the topmost first.
 #[derive(Drop)]
-pub(crate) struct Rows {
+pub(crate) struct MessageRows {
     places: ArrayVec<Place, ROWS>,
 }
 
-impl Rows {
+impl MessageRows {
     /// Returns no rows.
-    pub(crate) fn new() -> Rows {
-        Rows {
+    pub(crate) fn new() -> MessageRows {
+        MessageRows {
             places: ArrayVec::new(),
         }
     }

@@ -1,5 +1,5 @@
 //! Further messages of a line, behind its first one.
-use crate::quiet::{Held, held_by_text};
+use crate::quiet::{Hidden, held_by_text};
 use fio_form::{
     Found, LineForm, LineRows, Octets, Piece, Whole, find, front_in, is_answer, whole_of,
 };
@@ -61,7 +61,7 @@ pub(crate) fn is_quiet_between(
 ) -> bool {
     start >= end
         || end > line.len()
-        || held_by_text(forms, &line[start..end], octets) == Held::Nothing
+        || held_by_text(forms, &line[start..end], octets) == Hidden::Nothing
 }
 
 /// Returns whether a message may follow another one that its line has above it: an answer follows its command, and a command

@@ -3,7 +3,7 @@ ghost use Rattle.std.specs.Prelude.{◌≡◌, ◌+◌, ◌≤◌, length, false
 ghost use Rattle.fio_log.specs.Verdicts.{Agrees, WaitingAgrees};
 ghost use Rattle.fio_log.specs.Waiting.{Fills, KnowsAsBefore, WaitsForOne};
 
-use crate::by_forms::{FormReader, Heard};
+use crate::by_forms::{FormReader, LineHeard};
 use crate::counts::ReadAs;
 use crate::learning::Learning;
 use crate::lines::{LineMaker, NumberedLine};
@@ -36,7 +36,7 @@ pub(crate) struct Teller {
     /// Whether the forms of the log are known, or the first window had none.
     is_known: bool,
     /// What the line says whose verdict is next, if it was heard.
-    heard: Option<Heard>,
+    heard: Option<LineHeard>,
     /// The verdict that is next and waits for the next line; whether that may show that its message has ended.
     waiting: Option<LineVerdict>,
     is_open: bool,
@@ -271,7 +271,7 @@ impl Teller {
         &mut self,
         maker: &LineMaker,
         at: At,
-        heard: Heard,
+        heard: LineHeard,
         frames: &mut Told,
     ) -> LineVerdict
         ensures agrees { Agrees result (length frames.new.frames) }

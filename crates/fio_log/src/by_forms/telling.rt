@@ -4,12 +4,12 @@ ghost use Rattle.fio_log.specs.Blanks.{is_blank_line};
 ghost use Rattle.fio_log.specs.Verdicts.{Agrees, has_frames, has_reason};
 ghost use Rattle.fio_log.specs.Wordings.{SaysWords};
 
-use crate::by_forms::{FormReader, Heard, take_message};
+use crate::by_forms::{FormReader, LineHeard, take_message};
 use crate::cut::{ends_in_gap, has_ends, is_cut_line};
 use crate::heading::Heading;
 use crate::lines::NumberedLine;
 use crate::places::Place;
-use crate::quiet::{Held, has_fronts, held_by_text};
+use crate::quiet::{Hidden, has_fronts, held_by_text};
 use crate::rows::StreamRow;
 use crate::second::{is_quiet_between, may_follow, second_in};
 use crate::told::Told;
@@ -20,7 +20,7 @@ use fio_rows::{KEPT, Next, Said};
 
 impl FormReader {
     /// Returns the verdict on the line that was heard last, and takes its frames.
-    pub(crate) fn tell(&mut self, line: NumberedLine, heard: Heard, told: &mut Told) -> LineVerdict
+    pub(crate) fn tell(&mut self, line: NumberedLine, heard: LineHeard, told: &mut Told) -> LineVerdict
         ensures agrees { Agrees result (length told.new.frames) }
         ensures words { SaysWords line.entry.text.now result.reason }
         ensures blank { result.kind ≡ Kind.Blank → is_blank_line (record { octets = line.entry.text.now; is_long = line.entry.is_long }) ≡ true }
@@ -68,7 +68,7 @@ impl FormReader {
     fn tell_kind(
         &mut self,
         line: NumberedLine,
-        heard: Heard,
+        heard: LineHeard,
         said: Heading,
         told: &mut Told,
     ) -> (Kind, Reason)
@@ -100,7 +100,7 @@ impl FormReader {
     }
 
     /// Counts the line for its form.
-    fn count(&mut self, line: NumberedLine, heard: Heard, kind: Kind) {
+    fn count(&mut self, line: NumberedLine, heard: LineHeard, kind: Kind) {
         if heard.said.said != Said::Other && !heard.is_long {
             self.counts.count(
                 heard.said.form,
@@ -113,7 +113,7 @@ impl FormReader {
     }
 
     /// Takes the row of a message that a line has; returns whether there was room.
-    fn take_row(&mut self, number: u64, heard: Heard, said: Heading) -> bool {
+    fn take_row(&mut self, number: u64, heard: LineHeard, said: Heading) -> bool {
         if !heard.goes_on {
             self.rows.clear();
             self.begun = said;
@@ -130,7 +130,7 @@ impl FormReader {
     fn tell_frame(
         &mut self,
         line: NumberedLine,
-        heard: Heard,
+        heard: LineHeard,
         said: Heading,
         told: &mut Told,
     ) -> (Kind, Reason)
@@ -229,7 +229,7 @@ impl FormReader {
             return (Kind::Damaged, Reason::NoMessage);
         }
         let held = held_by_text(&self.forms, line.text, &mut self.octets);
-        self.is_loud = held != Held::Nothing || has_ends(&self.forms, line.text, &mut self.octets);
+        self.is_loud = held != Hidden::Nothing || has_ends(&self.forms, line.text, &mut self.octets);
         if !self.is_loud {
             self.heading = Heading::of(line.text, line.text.len());
             return (Kind::PassedOver, reason_without_octets(line.text));
@@ -238,7 +238,7 @@ impl FormReader {
         if reason != Reason::None {
             return (Kind::PassedOver, reason);
         }
-        let is_usual = self.shapes.are_usual(line.text, held == Held::Message);
+        let is_usual = self.shapes.are_usual(line.text, held == Hidden::Message);
         if is_usual && !has_fronts(&self.forms, line.text, &mut self.octets) {
             (Kind::PassedOver, Reason::NoMessage)
         } else {
@@ -323,7 +323,7 @@ impl FormReader {
 }
 
 /// Returns the reason of a line, if the message of the lines above may be broken.
-fn with_break(kind: Kind, reason: Reason, heard: Heard) -> Reason
+fn with_break(kind: Kind, reason: Reason, heard: LineHeard) -> Reason
     requires { has_reason kind reason ≡ true }
     ensures reason { has_reason kind result ≡ true }
     ensures words { (text : List ℕ) → SaysWords text reason → SaysWords text result }
