@@ -1,4 +1,5 @@
 pub mod Digits
+pub mod Clock
 pub mod Lines
 pub mod Blanks
 pub mod Wordings

@@ -1,5 +1,6 @@
-//! Times in lines of logs, which verdicts report.
-ghost use Rattle.std.specs.Prelude.{◌≡◌, ◌≤◌, ◌<◌, IfSome, length, slice_index};
+//! Times in lines of logs, which verdicts report: each function reads what its definition says, character by character.
+ghost use Rattle.std.specs.Prelude.{◌≡◌, ◌≤◌, ◌+◌, IfSome, drop, length, map, slice_index, true};
+ghost use Rattle.fio_log.specs.Clock.{begins_fraction, blanks_from, can_be, first_form, first_time_of, fitting, form_from, fraction_of, gap_from, goes_on_behind, half_of, is_gap, is_numeric, is_right, is_unit, may_be_before, may_begin, may_begin_digits, may_begin_name, microseconds_of, month_by, month_of, most_digits, no_number, none_read, number_of, part_of, part_of_gap, part_of_name, part_of_number, possible, small, time_at, with_fraction, with_half, with_hour};
 
 use crate::digits::{digit, is_decimal, is_letter};
 use crate::parts::TimeParts;
@@ -15,9 +16,23 @@ pub struct Time {
     pub microseconds: u64,
 }
 
+/// The digits of a number: what they are worth, and how many there are.
+#[derive(Clone, Copy)]
+struct Number {
+    value: u64,
+    count: usize,
+}
+
+/// Parts of a time that are read, and how many characters they have.
+#[derive(Clone, Copy)]
+struct TimeRead {
+    parts: TimeParts,
+    count: usize,
+}
+
 /// The forms of times: `Y` has four digits, `m` and `s` two, `M`, `D` and `h` one or two, `N` is the name of a month, `_` a
 /// gap, `E` the seconds or milliseconds since 1970, `F` seconds with a fraction.
-static FORMS: [&[u8]; 9] = [
+const FORMS: [&[u8]; 9] = [
     b"Y-M-D_h:m:s",
     b"Y/M/D_h:m:s",
     b"Y.M.D_h:m:s",
@@ -34,284 +49,371 @@ const TIME_OCTETS: usize = 200;
 
 /// Returns the first time in a line.
 pub fn time_in(line: &[u8]) -> Option<Time>
-    ensures order { IfSome result (λ time. time.start ≤ time.end) }
+    ensures time { result ≡ first_time_of line.now }
     ensures within { IfSome result (λ time. time.end ≤ length line.now) }
 {
     let mut is_free = true;
-    for start in 0..line.len().min(TIME_OCTETS) {
-        if is_free && may_be_time(line, start) {
-            let is_name = line[start].is_ascii_alphabetic();
-            for form in &FORMS {
-                if is_name == matches!(*form, [b'N', ..])
-                    && let Some(time) = time_at(line, start, *form)
-                {
-                    return Some(time);
-                }
-            }
+    let mut start = 0;
+    'places: while start < line.len() {
+        if start >= TIME_OCTETS {
+            return None;
+        }
+        if let Some(read) = time_at(is_free, &line[start..]) {
+            return Some(Time {
+                start,
+                end: start + read.count,
+                microseconds: read.parts.total(),
+            });
         }
         is_free = may_be_before(line[start]);
+        start += 1;
     }
     None
 }
 
 /// Returns whether a time may begin after a character: not after a digit or letter, nor after `.`, `:`, `-` or `/`.
-fn may_be_before(character: u8) -> bool {
+fn may_be_before(character: u8) -> bool
+    ensures { result ≡ may_be_before character }
+{
     !is_letter(character) && !matches!(character, b'.' | b':' | b'-' | b'/')
 }
 
-/// Returns whether a time can be at `place`: the first letter of a month, ten or thirteen digits, or digits and a sign of a
-/// form.
-fn may_be_time(line: &[u8], place: usize) -> bool
-    requires { place < length line.now }
+/// Returns the time that a text begins with, if one may begin there.
+#[tactic(auto, unfolding(crate::specs::Clock::time_at))]
+fn time_at(is_free: bool, text: &[u8]) -> Option<TimeRead>
+    ensures time { result ≡ time_at is_free text.now }
+    ensures within { IfSome result (λ read. read.count ≤ length text.now) }
+    ensures right { IfSome result (λ read. can_be read.parts ≡ true) }
 {
-    if !is_decimal(line[place]) {
-        return matches!(
-            line[place].to_ascii_lowercase(),
-            b'a' | b'd' | b'f' | b'j' | b'm' | b'n' | b'o' | b's'
-        );
-    }
-    let (_number, end) = number_at(line, place, 14);
-    matches!(end - place, 10 | 13) || matches!(character(line, end), b'-' | b'/' | b'.' | b':')
-}
-
-/// Returns the time of the form `form` that begins at `start`.
-fn time_at(line: &[u8], start: usize, form: &[u8]) -> Option<Time>
-    requires { start ≤ length line.now }
-    ensures order { IfSome result (λ time. time.start ≤ time.end) }
-    ensures within { IfSome result (λ time. time.end ≤ length line.now) }
-{
-    let mut parts = TimeParts {
-        year: 1970,
-        month: 0,
-        day: 0,
-        hour: 0,
-        minute: 0,
-        second: 0,
-        microseconds: 0,
-    };
-    let usual = if matches!(form, [b'Y', b'-', ..]) {
-        usual_end(line, start, &mut parts)
-    } else {
-        None
-    };
-    let end = match usual {
-        Some(end) => end,
-        None => form_end(line, start, form, &mut parts)?,
-    };
-    let end = fraction_end(line, end, &mut parts);
-    if goes_on(line, end) {
-        return None;
-    }
-    let end = half_end(line, end, &mut parts);
-    (parts.hour < 24 && parts.minute < 60 && parts.month < 13).then_some(Time {
-        start,
-        end,
-        microseconds: parts.total(),
-    })
-}
-
-/// Sets the parts of a date and time like `2026-11-22 07:15:02` at `start`, and returns where they end. It is a faster way for
-/// the first form.
-fn usual_end(line: &[u8], start: usize, parts: &mut TimeParts) -> Option<usize>
-    requires { start ≤ length line.now }
-    ensures order { IfSome result (λ end. start ≤ end) }
-    ensures within { IfSome result (λ end. end ≤ length line.now) }
-{
-    let [
-        a,
-        b,
-        c,
-        d,
-        b'-',
-        e,
-        f,
-        b'-',
-        g,
-        h,
-        gap,
-        i,
-        j,
-        b':',
-        k,
-        l,
-        b':',
-        m,
-        n,
-        ..
-    ] = *(&line[start..])
-    else {
-        return None;
-    };
-    let (century, year) = (two(a, b)?, two(c, d)?);
-    let (month, day) = (two(e, f)?, two(g, h)?);
-    let (hour, minute, second) = (two(i, j)?, two(k, l)?, two(m, n)?);
-    if !is_gap(gap) {
-        return None;
-    }
-    *parts = TimeParts {
-        year: 100 * century + year,
-        month,
-        day,
-        hour,
-        minute,
-        second,
-        microseconds: 0,
-    };
-    Some(start + 19)
-}
-
-/// Returns the number of two decimal digits.
-fn two(high: u8, low: u8) -> Option<u64>
-    ensures { IfSome result (λ number. number < 100) }
-{
-    if is_decimal(high) && is_decimal(low) {
-        Some(u64::from(high - b'0') * 10 + u64::from(low - b'0'))
+    if is_free && may_begin(text) {
+        first_form(text, &FORMS)
     } else {
         None
     }
 }
 
-/// Sets the parts of a time of the form `form` that begins at `start`, and returns where they end.
-fn form_end(line: &[u8], start: usize, form: &[u8], parts: &mut TimeParts) -> Option<usize>
-    requires { start ≤ length line.now }
-    ensures order { IfSome result (λ end. start ≤ end) }
-    ensures within { IfSome result (λ end. end ≤ length line.now) }
+/// Returns whether a text may begin with a time: with the first letter of a month, ten or thirteen digits, or digits and a
+/// sign of a form.
+fn may_begin(text: &[u8]) -> bool
+    ensures { result ≡ may_begin text.now }
 {
-    let mut end = start;
-    'signs: for sign in form {
-        end = part_end(line, end, *sign, parts)?;
+    let first = character(text, 0);
+    if !is_decimal(first) {
+        return may_begin_name(small(first));
     }
-    Some(end)
+    let number = number_in(text, 14);
+    may_begin_digits(number.count, character(text, number.count))
 }
 
-/// Sets the part of a time that begins at `place`, and returns where it ends.
-fn part_end(line: &[u8], place: usize, sign: u8, parts: &mut TimeParts) -> Option<usize>
-    requires { place ≤ length line.now }
-    ensures order { IfSome result (λ end. place ≤ end) }
-    ensures within { IfSome result (λ end. end ≤ length line.now) }
+/// Returns whether a time may begin with so many digits and the character after them.
+fn may_begin_digits(count: usize, next: u8) -> bool
+    ensures { result ≡ may_begin_digits count next }
 {
-    let digits = match sign {
-        b'_' => return gap_end(line, place),
-        b'N' => return month_end(line, place, parts),
+    matches!(count, 10 | 13) || matches!(next, b'-' | b'/' | b'.' | b':')
+}
+
+/// Returns whether a small letter is the first one of a month.
+fn may_begin_name(letter: u8) -> bool
+    ensures { result ≡ may_begin_name letter }
+{
+    matches!(
+        letter,
+        b'a' | b'd' | b'f' | b'j' | b'm' | b'n' | b'o' | b's'
+    )
+}
+
+/// Returns what a text begins with in the first of some forms that fits.
+fn first_form(text: &[u8], forms: &[&[u8]]) -> Option<TimeRead>
+    ensures read { result ≡ first_form (map (λ form. form.now) forms.now) text.now }
+    ensures within { IfSome result (λ read. read.count ≤ length text.now) }
+    ensures right { IfSome result (λ read. can_be read.parts ≡ true) }
+{
+    let mut place = 0;
+    'forms: while place < forms.len() {
+        if let Some(read) = fitting(form_in(text, forms[place]), text) {
+            return Some(read);
+        }
+        place += 1;
+    }
+    None
+}
+
+/// Reads the parts of a form that a text begins with.
+fn form_in(text: &[u8], form: &[u8]) -> Option<TimeRead>
+    ensures read { result ≡ form_from none_read form.now text.now }
+    ensures within { IfSome result (λ read. read.count ≤ length text.now) }
+{
+    let mut read = TimeRead {
+        parts: TimeParts::new(),
+        count: 0,
+    };
+    let mut place = 0;
+    'signs: while place < form.len() {
+        let part = part_in(read.parts, form[place], &text[read.count..])?;
+        read = TimeRead {
+            parts: part.parts,
+            count: read.count + part.count,
+        };
+        place += 1;
+    }
+    Some(read)
+}
+
+/// Reads the part that a text begins with, by a sign of a form.
+fn part_in(parts: TimeParts, sign: u8, text: &[u8]) -> Option<TimeRead>
+    ensures part { result ≡ part_of parts sign text.now }
+    ensures within { IfSome result (λ read. read.count ≤ length text.now) }
+{
+    if sign == b'_' {
+        part_of_gap(parts, text)
+    } else if sign == b'N' {
+        part_of_name(parts, text)
+    } else if is_numeric(sign) {
+        part_of_number(parts, sign, number_in(text, most_digits(sign)), text)
+    } else if text.is_empty() || character(text, 0) != sign {
+        None
+    } else {
+        Some(TimeRead { parts, count: 1 })
+    }
+}
+
+/// Reads the gap that a text begins with.
+fn part_of_gap(parts: TimeParts, text: &[u8]) -> Option<TimeRead>
+    ensures part { result ≡ part_of_gap parts (gap_from 0 text.now) }
+    ensures within { IfSome result (λ read. read.count ≤ length text.now) }
+{
+    let count = gap_in(text);
+    if count == 0 {
+        None
+    } else {
+        Some(TimeRead { parts, count })
+    }
+}
+
+/// Reads the name of a month that a text begins with.
+fn part_of_name(parts: TimeParts, text: &[u8]) -> Option<TimeRead>
+    ensures part { result ≡ part_of_name parts (month_of text.now) }
+    ensures within { IfSome result (λ read. read.count ≤ length text.now) }
+{
+    let month = month_by(
+        small(character(text, 0)),
+        small(character(text, 1)),
+        small(character(text, 2)),
+    );
+    if month == 0 || text.len() < 3 {
+        None
+    } else {
+        Some(TimeRead {
+            parts: TimeParts { month, ..parts },
+            count: 3,
+        })
+    }
+}
+
+/// Returns whether a sign of a form is one of a number.
+fn is_numeric(sign: u8) -> bool
+    ensures { result ≡ is_numeric sign }
+{
+    matches!(
+        sign,
+        b'E' | b'F' | b'Y' | b'M' | b'D' | b'h' | b'm' | b's'
+    )
+}
+
+/// Returns how many digits a sign allows.
+fn most_digits(sign: u8) -> usize
+    ensures { result ≡ most_digits sign }
+{
+    match sign {
         b'E' => 14,
         b'F' => 9,
         b'Y' => 4,
-        b'M' | b'D' | b'h' | b'm' | b's' => 2,
-        _ => return (character(line, place) == sign).then_some((place + 1).min(line.len())),
-    };
-    let (value, end) = number_at(line, place, digits);
-    let count = end - place;
-    let is_right = match sign {
-        b'E' => (count == 10 || count == 13) && character(line, place) == b'1',
-        b'F' => count > 0
-            && character(line, end) == b'.'
-            && end + 1 < line.len()
-            && is_decimal(line[end + 1]),
+        _ => 2,
+    }
+}
+
+/// Returns whether a number of so many digits is right for a sign, by its first digit and by what follows.
+fn is_right(sign: u8, count: usize, first: u8, below: &[u8]) -> bool
+    ensures { result ≡ is_right sign count first below.now }
+{
+    match sign {
+        b'E' => (count == 10 || count == 13) && first == b'1',
+        b'F' => count > 0 && begins_fraction(below),
         b'Y' => count == 4,
         b'm' | b's' => count == 2,
         _ => count > 0,
+    }
+}
+
+/// Returns whether a text begins with a point and a digit.
+fn begins_fraction(text: &[u8]) -> bool
+    ensures { result ≡ begins_fraction text.now }
+{
+    character(text, 0) == b'.' && is_decimal(character(text, 1))
+}
+
+/// Returns the part of a number with which a text begins.
+fn part_of_number(parts: TimeParts, sign: u8, number: Number, text: &[u8]) -> Option<TimeRead>
+    requires { number.count ≤ length text.now }
+    ensures part { result ≡ part_of_number parts sign number text.now }
+    ensures within { IfSome result (λ read. read.count ≤ length text.now) }
+{
+    let Number { value, count } = number;
+    if !is_right(sign, count, character(text, 0), &text[count..]) {
+        return None;
+    }
+    let parts = if count == 13 {
+        TimeParts {
+            microseconds: value % 1000 * 1000,
+            ..parts
+        }
+        .with(sign, value / 1000)
+    } else {
+        parts.with(sign, value)
     };
-    if count == 13 {
-        parts.microseconds = value % 1000 * 1000;
-    }
-    parts.set(sign, if count == 13 { value / 1000 } else { value });
-    is_right.then_some(end)
+    Some(TimeRead { parts, count })
 }
 
-/// Returns the value of the digits that begin at `place`, at most `most` of them, and where they end.
-fn number_at(line: &[u8], place: usize, most: usize) -> (u64, usize)
-    requires { place ≤ length line.now }
-    ensures order { place ≤ result.1 }
-    ensures within { result.1 ≤ length line.now }
+/// Reads the digits that a text begins with, at most `most` of them.
+fn number_in(text: &[u8], most: usize) -> Number
+    ensures value { result ≡ number_of most no_number text.now }
+    ensures within { result.count ≤ length text.now }
 {
-    let mut end = place;
-    let mut number = 0_u64;
-    'digits: while end < line.len() && end - place < most && is_decimal(line[end]) {
-        let digit = u64::from(line[end].wrapping_sub(b'0'));
-        number = number.wrapping_mul(10).wrapping_add(digit);
-        end += 1;
+    let mut number = Number { value: 0, count: 0 };
+    'digits: while number.count < text.len() {
+        let character = text[number.count];
+        if number.count >= most
+            || !is_decimal(character)
+            || number.value > 1_000_000_000_000_000
+        {
+            break;
+        }
+        number = Number {
+            value: 10 * number.value + u64::from(character - b'0'),
+            count: number.count + 1,
+        };
     }
-    (number, end)
+    number
 }
 
-/// Returns where a gap between date and time ends.
-fn gap_end(line: &[u8], place: usize) -> Option<usize>
-    requires { place ≤ length line.now }
-    ensures order { IfSome result (λ end. place ≤ end) }
-    ensures within { IfSome result (λ end. end ≤ length line.now) }
+/// Returns how many characters of a gap a text begins with.
+fn gap_in(text: &[u8]) -> usize
+    ensures count { result ≡ gap_from 0 text.now }
+    ensures within { result ≤ length text.now }
 {
-    let mut end = place;
-    'signs: while end < line.len() && is_gap(line[end]) {
-        end += 1;
+    let mut count = 0;
+    'gap: while count < text.len() && is_gap(text[count]) {
+        count += 1;
     }
-    (end > place).then_some(end)
+    count
 }
 
 /// Returns whether a character may be between date and time.
-fn is_gap(character: u8) -> bool {
+fn is_gap(character: u8) -> bool
+    ensures { result ≡ is_gap character }
+{
     matches!(character, b' ' | b'\t' | b'T' | b'_' | b',' | b';' | b'-')
 }
 
-/// Sets the month whose name is at `place`, and returns where the name ends.
-fn month_end(line: &[u8], place: usize, parts: &mut TimeParts) -> Option<usize>
-    requires { place ≤ length line.now }
-    ensures order { IfSome result (λ end. place ≤ end) }
-    ensures within { IfSome result (λ end. end ≤ length line.now) }
+/// Returns a letter of ASCII as a small one; other characters as they are.
+fn small(character: u8) -> u8
+    ensures { result ≡ small character }
 {
-    let [a, b, c, ..] = &line[place..] else {
+    match character {
+        b'A'..=b'Z' => character + 32,
+        _ => character,
+    }
+}
+
+/// Returns the month that three small letters name; 0 for others.
+fn month_by(a: u8, b: u8, c: u8) -> u64
+    ensures { result ≡ month_by a b c }
+{
+    match (a, b, c) {
+        (b'j', b'a', b'n') => 1,
+        (b'f', b'e', b'b') => 2,
+        (b'm', b'a', b'r') => 3,
+        (b'a', b'p', b'r') => 4,
+        (b'm', b'a', b'y') => 5,
+        (b'j', b'u', b'n') => 6,
+        (b'j', b'u', b'l') => 7,
+        (b'a', b'u', b'g') => 8,
+        (b's', b'e', b'p') => 9,
+        (b'o', b'c', b't') => 10,
+        (b'n', b'o', b'v') => 11,
+        (b'd', b'e', b'c') => 12,
+        _ => 0,
+    }
+}
+
+/// Returns what is read of a text with what comes after it, if nothing goes on there and its parts can be those of a time.
+fn fitting(read: Option<TimeRead>, text: &[u8]) -> Option<TimeRead>
+    requires { IfSome read (λ read. read.count ≤ length text.now) }
+    ensures read { result ≡ fitting read text.now }
+    ensures within { IfSome result (λ read. read.count ≤ length text.now) }
+    ensures right { IfSome result (λ read. can_be read.parts ≡ true) }
+{
+    let read = fraction_in(read?, text);
+    if goes_on_behind(&text[read.count..]) {
         return None;
-    };
-    let name = [
-        a.to_ascii_lowercase(),
-        b.to_ascii_lowercase(),
-        c.to_ascii_lowercase(),
-    ];
-    parts.month = match name {
-        [b'j', b'a', b'n'] => 1,
-        [b'f', b'e', b'b'] => 2,
-        [b'm', b'a', b'r'] => 3,
-        [b'a', b'p', b'r'] => 4,
-        [b'm', b'a', b'y'] => 5,
-        [b'j', b'u', b'n'] => 6,
-        [b'j', b'u', b'l'] => 7,
-        [b'a', b'u', b'g'] => 8,
-        [b's', b'e', b'p'] => 9,
-        [b'o', b'c', b't'] => 10,
-        [b'n', b'o', b'v'] => 11,
-        [b'd', b'e', b'c'] => 12,
-        _ => return None,
-    };
-    Some(place + 3)
+    }
+    possible(half_in(read, text))
 }
 
-/// Sets the microseconds of the fraction of a second that begins at `place`, and returns where it ends. It has up to eighteen
-/// digits after a point or a comma, or three after a colon.
-fn fraction_end(line: &[u8], place: usize, parts: &mut TimeParts) -> usize
-    requires { place ≤ length line.now }
-    ensures order { place ≤ result }
-    ensures within { result ≤ length line.now }
+/// Returns a time whose parts can be those of one.
+fn possible(read: TimeRead) -> Option<TimeRead>
+    ensures { result ≡ possible read }
 {
-    if place == line.len() || !matches!(line[place], b'.' | b',' | b':') {
-        return place;
+    if read.parts.can_be() {
+        Some(read)
+    } else {
+        None
     }
-    let (number, end) = number_at(line, place + 1, 9);
-    let digits = end - place - 1;
-    if digits == 0 || line[place] == b':' && digits != 3 {
-        return place;
-    }
-    parts.microseconds = microseconds_of(number, digits);
-    let (_more, end) = number_at(line, end, 9);
-    end
 }
 
-/// Returns the microseconds of a fraction of a second with `digits` digits, at most nine. Digits after the sixth do not count.
-fn microseconds_of(fraction: u64, digits: usize) -> u64 {
-    match digits {
-        1 => fraction.wrapping_mul(100_000),
-        2 => fraction.wrapping_mul(10_000),
-        3 => fraction.wrapping_mul(1000),
-        4 => fraction.wrapping_mul(100),
-        5 => fraction.wrapping_mul(10),
+/// Reads the fraction of a second after a time, if there is one.
+fn fraction_in(read: TimeRead, text: &[u8]) -> TimeRead
+    requires { read.count ≤ length text.now }
+    ensures read { result ≡ fraction_of read text.now }
+    ensures within { result.count ≤ length text.now }
+{
+    let sign = character(text, read.count);
+    if read.count == text.len() || !matches!(sign, b'.' | b',' | b':') {
+        return read;
+    }
+    with_fraction(read, sign, number_in(&text[read.count + 1..], 9), text)
+}
+
+/// Returns a time with the fraction of a second that follows a sign, if there is one: three digits if that is a colon.
+fn with_fraction(read: TimeRead, sign: u8, number: Number, text: &[u8]) -> TimeRead
+    requires { read.count + (1 + number.count) ≤ length text.now }
+    ensures read { result ≡ with_fraction read sign number text.now }
+    ensures within { result.count ≤ length text.now }
+{
+    if number.count == 0 || sign == b':' && number.count != 3 {
+        return read;
+    }
+    let end = read.count + (1 + number.count);
+    let more = number_in(&text[end..], 9);
+    TimeRead {
+        parts: TimeParts {
+            microseconds: microseconds_of(number.value, number.count),
+            ..read.parts
+        },
+        count: end + more.count,
+    }
+}
+
+/// Returns the microseconds of a fraction of a second with `count` digits, at most nine. Digits after the sixth do not count.
+fn microseconds_of(fraction: u64, count: usize) -> u64
+    ensures { result ≡ microseconds_of fraction count }
+{
+    match count {
+        1 => 100_000 * (fraction % 10),
+        2 => 10_000 * (fraction % 100),
+        3 => 1000 * (fraction % 1000),
+        4 => 100 * (fraction % 10_000),
+        5 => 10 * (fraction % 100_000),
         7 => fraction / 10,
         8 => fraction / 100,
         9 => fraction / 1000,
@@ -319,64 +421,95 @@ fn microseconds_of(fraction: u64, digits: usize) -> u64 {
     }
 }
 
-/// Returns whether the characters at `place` continue a word or a number with colons or points, or are a unit shorter than a
-/// second.
-fn goes_on(line: &[u8], place: usize) -> bool
-    requires { place ≤ length line.now }
+/// Returns whether a text continues a word or a number with colons or points, or is a unit shorter than a second.
+fn goes_on_behind(text: &[u8]) -> bool
+    ensures { result ≡ goes_on_behind text.now }
 {
-    match &line[place..] {
-        [b'Z', ..] => false,
-        [b':', next, ..] => digit(*next).is_some(),
-        [b'.', next, ..] => is_decimal(*next),
-        [b' ', rest @ ..] => is_unit(rest),
-        [next, ..] => is_letter(*next),
+    match character(text, 0) {
+        b'Z' => false,
+        b':' => digit(character(text, 1)).is_some(),
+        b'.' => is_decimal(character(text, 1)),
+        b' ' => is_unit_behind(text),
+        next => is_letter(next),
+    }
+}
+
+/// Returns whether a unit is behind the first character of a text.
+fn is_unit_behind(text: &[u8]) -> bool
+    ensures { result ≡ is_unit (drop 1 text.now) }
+{
+    match text {
+        [_, rest @ ..] => is_unit(rest),
         [] => false,
     }
 }
 
 /// Returns whether a text begins with a unit of times that are shorter than seconds.
-fn is_unit(text: &[u8]) -> bool {
-    match *text {
-        [b'm' | b'u' | b'n', b's'] | [0xc2, 0xb5, b's'] | [0xce, 0xbc, b's'] => true,
-        [b'm' | b'u' | b'n', b's', next, ..]
-        | [0xc2, 0xb5, b's', next, ..]
-        | [0xce, 0xbc, b's', next, ..] => !is_letter(next),
-        _ => false,
+fn is_unit(text: &[u8]) -> bool
+    ensures { result ≡ is_unit text.now }
+{
+    let (a, b, c) = (character(text, 0), character(text, 1), character(text, 2));
+    matches!(a, b'm' | b'u' | b'n') && b == b's' && !is_letter(c)
+        || (a == 0xc2 && b == 0xb5 || a == 0xce && b == 0xbc)
+            && c == b's'
+            && !is_letter(character(text, 3))
+}
+
+/// Corrects the hour of a time by the `AM` or `PM` after it, if there is one after blanks.
+fn half_in(read: TimeRead, text: &[u8]) -> TimeRead
+    requires { read.count ≤ length text.now }
+    ensures read { result ≡ half_of read text.now }
+    ensures within { result.count ≤ length text.now }
+{
+    let place = read.count + blanks_in(&text[read.count..]);
+    with_half(read, place, &text[place..])
+}
+
+/// Corrects the hour of a time by the `AM` or `PM` that a text at a place begins with.
+fn with_half(read: TimeRead, place: usize, text: &[u8]) -> TimeRead
+    requires above { read.count ≤ place }
+    requires room { place + length text.now ≤ usize.MAX }
+    ensures read { result ≡ with_half read place text.now }
+    ensures within { result.count ≤ place + length text.now }
+{
+    if small(character(text, 1)) != b'm' || is_letter(character(text, 2)) {
+        return read;
+    }
+    let hour = read.parts.hour % 12;
+    match small(character(text, 0)) {
+        b'a' => with_hour(read, hour, place + 2),
+        b'p' => with_hour(read, hour + 12, place + 2),
+        _ => read,
     }
 }
 
-/// Corrects the hour by `AM` or `PM`, if one comes after blanks at `place`, and returns where it ends; otherwise returns
-/// `place`.
-fn half_end(line: &[u8], place: usize, parts: &mut TimeParts) -> usize
-    requires { place ≤ length line.now }
-    ensures order { place ≤ result }
-    ensures within { result ≤ length line.now }
+/// Returns a time with another hour, which ends at a place.
+fn with_hour(read: TimeRead, hour: u64, end: usize) -> TimeRead
+    ensures { result ≡ with_hour read hour end }
 {
-    let mut end = place;
-    'blanks: while end < line.len() && line[end] == b' ' {
-        end += 1;
+    TimeRead {
+        parts: TimeParts { hour, ..read.parts },
+        count: end,
     }
-    let [half, b'M' | b'm', rest @ ..] = &line[end..] else {
-        return place;
-    };
-    if let [next, ..] = rest
-        && is_letter(*next)
-    {
-        return place;
-    }
-    match *half {
-        b'A' | b'a' => parts.hour %= 12,
-        b'P' | b'p' => parts.hour = parts.hour % 12 + 12,
-        _ => return place,
-    }
-    end + 2
 }
 
-/// Returns the character at `place`; 0 after the end of the line.
-fn character(line: &[u8], place: usize) -> u8
-    ensures { result ≡ slice_index line.now place }
+/// Returns how many blanks a text begins with.
+fn blanks_in(text: &[u8]) -> usize
+    ensures count { result ≡ blanks_from 0 text.now }
+    ensures within { result ≤ length text.now }
 {
-    match line.get(place) {
+    let mut count = 0;
+    'blanks: while count < text.len() && text[count] == b' ' {
+        count += 1;
+    }
+    count
+}
+
+/// Returns the character at a place of a text; 0 after its end.
+fn character(text: &[u8], place: usize) -> u8
+    ensures { result ≡ slice_index text.now place }
+{
+    match text.get(place) {
         Some(character) => *character,
         None => 0,
     }

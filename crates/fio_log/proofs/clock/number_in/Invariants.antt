@@ -1,0 +1,12 @@
+use Rattle.std.proofs.Common.{length, ◌-◌, ◌≡◌, ◌≤◌, drop}
+use Rattle.fio_log.specs.Clock.{no_number, number_of}
+use Rattle.fio_log.proofs.clock.number_in.Given as goal
+
+abbrev pub invariant-digits : goal.invariant-digits
+invariant-digits l = record {
+  same : number_of l.most l.number (drop l.number.count l.text) ≡ number_of l.most no_number l.text;
+  within : l.number.count ≤ length l.text;
+}
+
+abbrev pub decreases-digits : goal.decreases-digits
+decreases-digits l = length l.text - l.number.count
