@@ -24,29 +24,29 @@ abbrev pub none_read : TimeRead
 none_read = record { parts = no_parts; count = 0 }
 
 -- whether a character is a decimal digit
-abbrev pub is_decimal : ℕ → Bool
-is_decimal character = is_between 48 57 character
+abbrev pub is_time_digit : ℕ → Bool
+is_time_digit character = is_between 48 57 character
 
 -- no digit
 abbrev pub no_number : Number
 no_number = record { value = 0; count = 0 }
 
 -- the number that goes on with the digits of a text, at most so many, and no more than 17
-abbrev pub number_of : ℕ → Number → List ℕ → Number
-number_of most number [] = number
-number_of most number (character ∷ text) =
-    if nat_le most number.count || not (is_decimal character) || nat_lt 1000000000000000 number.value then number
-    else number_of most (record { value = 10 * number.value + (character - 48); count = number.count + 1 }) text
+abbrev pub time_number : ℕ → Number → List ℕ → Number
+time_number most number [] = number
+time_number most number (character ∷ text) =
+    if nat_le most number.count || not (is_time_digit character) || nat_lt 1000000000000000 number.value then number
+    else time_number most (record { value = 10 * number.value + (character - 48); count = number.count + 1 }) text
 
 -- whether a character may be between date and time: a blank, a tab, or one of `T_,;-`
-abbrev pub is_gap : ℕ → Bool
-is_gap character =
+abbrev pub is_time_gap : ℕ → Bool
+is_time_gap character =
     character == 32 || (character == 9 || (character == 84 || (character == 95 || (character == 44 || (character == 59 || character == 45)))))
 
 -- how many characters of a gap there are
 abbrev pub gap_from : ℕ → List ℕ → ℕ
 gap_from count [] = count
-gap_from count (character ∷ text) = if is_gap character then gap_from (count + 1) text else count
+gap_from count (character ∷ text) = if is_time_gap character then gap_from (count + 1) text else count
 
 -- a letter of ASCII as a small one
 abbrev pub small : ℕ → ℕ
@@ -85,11 +85,11 @@ most_digits sign = if sign == 69 then 14 else if sign == 70 then 9 else if sign 
 
 -- whether a text begins with a point and a digit
 abbrev pub begins_fraction : List ℕ → Bool
-begins_fraction text = slice_index text 0 == 46 && is_decimal (slice_index text 1)
+begins_fraction text = slice_index text 0 == 46 && is_time_digit (slice_index text 1)
 
 -- whether a number of so many digits is right for a sign, by its first digit and by what follows
-abbrev pub is_right : ℕ → ℕ → ℕ → List ℕ → Bool
-is_right sign count first below =
+abbrev pub has_right_digits : ℕ → ℕ → ℕ → List ℕ → Bool
+has_right_digits sign count first below =
     if sign == 69 then (count == 10 || count == 13) && first == 49
     else if sign == 70 then nat_lt 0 count && begins_fraction below
     else if sign == 89 then count == 4
@@ -99,7 +99,7 @@ is_right sign count first below =
 -- the part of a number; thirteen digits are milliseconds
 abbrev pub part_of_number : TimeParts → ℕ → Number → List ℕ → Option TimeRead
 part_of_number parts sign number text =
-    if not (is_right sign number.count (slice_index text 0) (drop number.count text)) then None
+    if not (has_right_digits sign number.count (slice_index text 0) (drop number.count text)) then None
     else if number.count == 13
     then Some (record {
       parts = with_part (record parts { microseconds = number.value % 1000 * 1000 }) sign (number.value / 1000);
@@ -108,8 +108,8 @@ part_of_number parts sign number text =
     else Some (record { parts = with_part parts sign number.value; count = number.count })
 
 -- whether a sign of a form is one of a number
-abbrev pub is_numeric : ℕ → Bool
-is_numeric sign =
+abbrev pub is_of_number : ℕ → Bool
+is_of_number sign =
     sign == 69 || (sign == 70 || (sign == 89 || (sign == 77 || (sign == 68 || (sign == 104 || (sign == 109 || sign == 115))))))
 
 -- the part of a gap of so many characters
@@ -129,7 +129,7 @@ abbrev pub part_of : TimeParts → ℕ → List ℕ → Option TimeRead
 part_of parts sign text =
     if sign == 95 then part_of_gap parts (gap_from 0 text)
     else if sign == 78 then part_of_name parts (month_of text)
-    else if is_numeric sign then part_of_number parts sign (number_of (most_digits sign) no_number text) text
+    else if is_of_number sign then part_of_number parts sign (time_number (most_digits sign) no_number text) text
     else if length text == 0 || not (slice_index text 0 == sign) then None
     else Some (record { parts = parts; count = 1 })
 
@@ -161,14 +161,14 @@ with_fraction read sign number text =
     if number.count == 0 || sign == 58 && not (number.count == 3) then read
     else record {
       parts = record read.parts { microseconds = microseconds_of number.value number.count };
-      count = read.count + (1 + number.count) + (number_of 9 no_number (drop (read.count + (1 + number.count)) text)).count;
+      count = read.count + (1 + number.count) + (time_number 9 no_number (drop (read.count + (1 + number.count)) text)).count;
     }
 
 -- a time with the fraction of a second after it, if there is one: after a point, a comma or a colon
 abbrev pub fraction_of : TimeRead → List ℕ → TimeRead
 fraction_of read text =
     if slice_index text read.count == 46 || (slice_index text read.count == 44 || slice_index text read.count == 58)
-    then with_fraction read (slice_index text read.count) (number_of 9 no_number (drop (read.count + 1) text)) text
+    then with_fraction read (slice_index text read.count) (time_number 9 no_number (drop (read.count + 1) text)) text
     else read
 
 -- whether a text begins with a unit of times shorter than seconds: `ms`, `us`, `ns`, or a micro sign and `s`
@@ -184,7 +184,7 @@ abbrev pub goes_on_behind : List ℕ → Bool
 goes_on_behind text =
     if slice_index text 0 == 90 then false
     else if slice_index text 0 == 58 then is_some (digit_of (slice_index text 1))
-    else if slice_index text 0 == 46 then is_decimal (slice_index text 1)
+    else if slice_index text 0 == 46 then is_time_digit (slice_index text 1)
     else if slice_index text 0 == 32 then is_unit (drop 1 text)
     else is_letter (slice_index text 0)
 
@@ -254,8 +254,8 @@ may_begin_name letter =
 -- whether a text may begin with a time
 abbrev pub may_begin : List ℕ → Bool
 may_begin text =
-    if is_decimal (slice_index text 0)
-    then may_begin_digits (number_of 14 no_number text).count (slice_index text (number_of 14 no_number text).count)
+    if is_time_digit (slice_index text 0)
+    then may_begin_digits (time_number 14 no_number text).count (slice_index text (time_number 14 no_number text).count)
     else may_begin_name (small (slice_index text 0))
 
 -- whether a time may begin after a character: not after a digit or letter, nor after one of `.:-/`

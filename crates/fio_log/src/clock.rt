@@ -1,6 +1,6 @@
 //! Times in lines of logs, which verdicts report: each function reads what its definition says, character by character.
 ghost use Rattle.std.specs.Prelude.{◌≡◌, ◌≤◌, ◌+◌, IfSome, drop, length, map, slice_index, true};
-ghost use Rattle.fio_log.specs.Clock.{begins_fraction, blanks_from, can_be, first_form, first_time_of, fitting, form_from, fraction_of, gap_from, goes_on_behind, half_of, is_gap, is_numeric, is_right, is_unit, may_be_before, may_begin, may_begin_digits, may_begin_name, microseconds_of, month_by, month_of, most_digits, no_number, none_read, number_of, part_of, part_of_gap, part_of_name, part_of_number, possible, small, time_at, with_fraction, with_half, with_hour};
+ghost use Rattle.fio_log.specs.Clock.{begins_fraction, blanks_from, can_be, first_form, first_time_of, fitting, form_from, fraction_of, gap_from, goes_on_behind, half_of, has_right_digits, is_of_number, is_time_gap, is_unit, may_be_before, may_begin, may_begin_digits, may_begin_name, microseconds_of, month_by, month_of, most_digits, no_number, none_read, part_of, part_of_gap, part_of_name, part_of_number, possible, small, time_at, time_number, with_fraction, with_half, with_hour};
 
 use crate::digits::{digit, is_decimal, is_letter};
 use crate::parts::TimeParts;
@@ -212,7 +212,7 @@ fn part_of_name(parts: TimeParts, text: &[u8]) -> Option<TimeRead>
 
 /// Returns whether a sign of a form is one of a number.
 fn is_numeric(sign: u8) -> bool
-    ensures { result ≡ is_numeric sign }
+    ensures { result ≡ is_of_number sign }
 {
     matches!(
         sign,
@@ -234,7 +234,7 @@ fn most_digits(sign: u8) -> usize
 
 /// Returns whether a number of so many digits is right for a sign, by its first digit and by what follows.
 fn is_right(sign: u8, count: usize, first: u8, below: &[u8]) -> bool
-    ensures { result ≡ is_right sign count first below.now }
+    ensures { result ≡ has_right_digits sign count first below.now }
 {
     match sign {
         b'E' => (count == 10 || count == 13) && first == b'1',
@@ -276,7 +276,7 @@ fn part_of_number(parts: TimeParts, sign: u8, number: Number, text: &[u8]) -> Op
 
 /// Reads the digits that a text begins with, at most `most` of them.
 fn number_in(text: &[u8], most: usize) -> Number
-    ensures value { result ≡ number_of most no_number text.now }
+    ensures value { result ≡ time_number most no_number text.now }
     ensures within { result.count ≤ length text.now }
 {
     let mut number = Number { value: 0, count: 0 };
@@ -310,7 +310,7 @@ fn gap_in(text: &[u8]) -> usize
 
 /// Returns whether a character may be between date and time.
 fn is_gap(character: u8) -> bool
-    ensures { result ≡ is_gap character }
+    ensures { result ≡ is_time_gap character }
 {
     matches!(character, b' ' | b'\t' | b'T' | b'_' | b',' | b';' | b'-')
 }

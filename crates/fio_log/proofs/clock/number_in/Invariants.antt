@@ -1,10 +1,10 @@
 use Rattle.std.proofs.Common.{length, ◌-◌, ◌≡◌, ◌≤◌, drop}
-use Rattle.fio_log.specs.Clock.{no_number, number_of}
+use Rattle.fio_log.specs.Clock.{no_number, time_number}
 use Rattle.fio_log.proofs.clock.number_in.Given as goal
 
 abbrev pub invariant-digits : goal.invariant-digits
 invariant-digits l = record {
-  same : number_of l.most l.number (drop l.number.count l.text) ≡ number_of l.most no_number l.text;
+  same : time_number l.most l.number (drop l.number.count l.text) ≡ time_number l.most no_number l.text;
   within : l.number.count ≤ length l.text;
 }
 
