@@ -11,10 +11,10 @@
 //! **What is written is read, and nothing else is**: a line says a message exactly if the first form that has the line writes
 //! it of this message (`what_is_written_is_read`, `what_is_read_is_written`). `IsWrittenLine` in `specs/Writing.antt` is all
 //! that a reader of this promise has to read. For pairs of hexadecimal digits, octal and binary digits, decimal numbers and those
-//! in columns, with marks between them, it says how the octets are spelled (`AreSpelledIn`). For the other kinds, which are short
+//! in columns, with marks between them, its `AreSpelledIn` says how the octets are spelled. For the other kinds, which are short
 //! hexadecimal numbers, literals, cells and base64, for a blank that may be missing, for fronts that may begin anywhere and for
-//! words whose octets are exchanged, the octets of a line are *defined* as what is read character by character (`AreFoundIn`):
-//! there the two laws only say that the first form counts, and what is header, message and check. So it is with the message of
+//! words whose octets are exchanged, `AreFoundIn` *defines* the octets of a line as what is read character by character: there
+//! the two laws only say that the first form counts, and what is header, message and check. So it is with the message of
 //! forms that are frames of the wire or words: it is what `whole_of` says. For all forms, what `whole_of` says of octets is what
 //! a line says that has them (`a_whole_is_what_a_line_says`).
 //!

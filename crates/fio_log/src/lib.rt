@@ -1,5 +1,50 @@
 //! Reads logs that have frames of the field I/O link, whatever logger wrote them: the forms of their lines are learnt from some
 //! of them, and each line is then read by them. Nothing here allocates memory.
+//!
+//! # Examples
+//!
+//! ```rust
+//! use fio_log::{Form, Kind, Reader};
+//!
+//! let mut reader = Reader::new(Form::Auto);
+//! // A line gives its form. Without one, forms are learnt from the first lines of the log.
+//! assert!(rt; reader.like(b"TX 36 05") == 1);
+//! reader.feed(b"TX 36 06\n");
+//! let first = reader.verdict();
+//! assert!(rt; first.is_some_and(|verdict| verdict.line == 1 && verdict.kind == Kind::Frames));
+//! assert!(rt; matches!(reader.frame(0), Some([0x36, 6])));
+//! ```
+//!
+//! | To | Call |
+//! |---|---|
+//! | read a log: a verdict on each line, with its frames and where they are written | `Reader` |
+//! | give forms by sample lines | `Reader::like` |
+//! | learn which forms are known, and how many lines each had | `Reader::forms`, `Reader::read_as` |
+//! | split octets into lines, however they are cut into pieces | `LineMaker` |
+//! | find the first time in a line | `time_in` |
+//! | read a line of the program's own texts | `read_own_line` |
+//!
+//! A line is kept until the forms are known (`learning`), heard by them (`by_forms`), and told as soon as its verdict depends on
+//! no line below it (`teller`). The definitions are in `specs/`: characters (`Digits`), times (`Clock`), lines (`Lines`), which are
+//! blank (`Blanks`), what words say (`Wordings`), the program's own texts (`OwnTexts`), frames and their places (`Frames`), what a
+//! verdict says (`Verdicts`, `OwnVerdicts`), what a reader has read and returned (`Telling`), and how many lines wait (`Waiting`).
+//!
+//! # What is proved
+//!
+//! Each line has one verdict, in order: `verdict` returns that of the next line, and after the end of the log it returns `None`
+//! only once every line has had its verdict (`told`, `all`); while it returns `None`, at most 1,024 lines that are read are
+//! without one (`waiting` of `HasNoMore`). `end` keeps a verdict that is ready (`ready`). The octets that `feed` takes make the
+//! lines that are read (`taken`).
+//!
+//! Each frame of a verdict spells a message (`spelled`). `frame` and `place` return that of their index (`same`), for each index
+//! below their number (`given`); no verdict has more than 2,048 frames, 16,384 octets of frames and 1,024 places (`few` of
+//! `HasTold`). Kind and reason of a verdict agree, and with its number of frames (`agreed` of `HasTold`). A line of the program's
+//! own texts is read as `show` and `check` read it (`read_own_line`, `own`, `last`). `time_in` returns the first time by the table
+//! of `specs/Clock.antt` (`time`).
+//!
+//! Not proved: what is said of a line of any other log. A reader for which each line is damaged meets the clauses. Lines are read
+//! by the calls of `fio_form` and `fio_rows`, which are proved; that a verdict has the frames that these read is tested by
+//! `tests/forms.py`.
 #![tactic(auto)]
 
 mod blanks;

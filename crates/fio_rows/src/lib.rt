@@ -1,4 +1,25 @@
 //! Lines read by forms, with messages over several lines, and streams that are divided into messages.
+//!
+//! - `Reading::read` reads a line by forms, below what is open from the lines above. The `rows` of a form say how its messages go
+//!   on: at offsets, in rows of one width, in lines that are nothing but octets, in pieces, or not at all.
+//! - `Stream` takes the octets of lines that are one stream: `divide` divides off a message by what follows it, `unframe` one
+//!   between flags.
+//!
+//! # What is proved
+//!
+//! What `read` says of a line, and what is open after it, is what `read_in` of `specs/Lines.antt` says (`exact`). It gets the text
+//! behind the octets by the place that `read` returns, which is proved to be within the line (`found`), and no more.
+//!
+//! A message that a logger writes in two rows or more is read, if none is open above it (`what_is_written_in_rows_is_read`). A
+//! message that a line says is one (`what_is_said_is_a_message`), and is in the octets that a form has in the line, or in these
+//! and those that were open above it (`what_is_read_is_in_the_rows`). What is open is not dropped in silence: its octets and those
+//! of a line that goes on are kept, or the line is damaged; if no line goes on with them, they end or break a message, or are no
+//! more than stand before and after one (`what_is_open_is_kept_or_said`). A line is another one only if no form has it, and it is,
+//! if no message is open (`other_lines_have_no_form`). A line below nothing open is read as if the log began there
+//! (`a_line_below_nothing_open_is_read_by_itself`).
+//!
+//! `Stream` divides octets off in their order (`divided`) as `next_in_stream`, `last_in` and `unframed` say (`exact`), and comes
+//! to an end (`less`). That a stream of messages is divided into these is not proved.
 #![tactic(auto)]
 
 mod dividing;
