@@ -149,10 +149,10 @@ def check_course(check):
 
 
 # Logs of two sites: the second begins with the number that the first ends with, and has entries in its first block. Of the third
-# no answer was logged, so the poll that passes over a number is a breach only at its end.
+# no answer to a poll was logged, so the poll that passes over a number is a breach only at its end.
 SITES = {'first': '> 36ff\n< b6ff00000000000a\n> 3600\n< b600010c000c0000000014\n',
          'second': '> 3600\n< b600010d00050000000008\n> 3601\n< b601018d000c0000000010\n',
-         'third': '> 3605\n> 3607\n'}
+         'third': '> 34\n< b4000000000000000000000001\n> 3605\n> 3607\n'}
 PAIRS = [('first', 'second'), ('second', 'first'), ('third', 'first'), ('first', 'third')]
 
 
@@ -201,7 +201,7 @@ import os, sys
 from types import SimpleNamespace as Names
 from fiolog import log, plot, record
 given = Names(files=sys.argv[1:] or ['-'], quiet=True, format='auto', pattern=None, sdlc=False, no_check=False, line='', address=None,
-              merge=False, text=False, verbose=False, at='auto', start_at_poll=False, whole=False, limits=(255, 1024))
+              like=[], merge=False, text=False, verbose=False, at='auto', start_at_poll=False, whole=False, limits=(255, 1024))
 for lanes in plot.lanes_of(record.Record(log.Log(given), given).logs()):
     print(*[os.path.basename(lanes.name)] * bool(lanes.name),
           {number: (list(lanes.times[number]), [str(state) for state in lanes.states[number]]) for number in sorted(lanes.times)})

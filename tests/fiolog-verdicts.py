@@ -85,11 +85,14 @@ def check_messages(check):
     """A breach names its line, and in a line with several messages which of them it is, and its first octet of theirs."""
     for name, text, words, place in (
             ('a message a line', '> 3605\n< b6050000000003e8\n> 3609\n', 'line 3', {'line': 3}),
-            ('all messages in one line', '3605b6050000000003e83609\n', 'line 1, message 3, octet 11', {'line': 1, 'message': 3, 'octet': 11}),
-            ('in the second line', '3605b6050000000003e8\n3609b6090000000003e9360a\n', 'line 2, message 1, octet 1', {'line': 2, 'message': 1, 'octet': 1})):
+            ('the second message of a line', '> 3605\n< b6050000000003e8 > 3609\n', 'line 2, message 2, octet 9', {'line': 2, 'message': 2, 'octet': 9}),
+            ('the third message of a line', '> 3605\n< b6050000000003e8\n> 3606 < b6060000000003e9 > 3609\n', 'line 3, message 3, octet 11',
+             {'line': 3, 'message': 3, 'octet': 11}),
+            ('the first message of a line', '> 3605\n< b6050000000003e8\n> 3609 < b6090000000003e9\n> 360a\n', 'line 3, message 1, octet 1',
+             {'line': 3, 'message': 1, 'octet': 1})):
         done = fiolog('check', text=text)
         check.equal('the place of a breach: ' + name, (words + ': advance', 'fiolog: advance: once, in ' + words + '\n'),
-                    (done.out.partition(': block')[0], done.err))
+                    (done.out.partition(': block')[0], done.remarks))
         first = fiolog('check', '--json', text=text).objects()[0]
         check.equal('the place in JSON: ' + name, place, {key: first[key] for key in ('line', 'message', 'octet') if key in first})
 
