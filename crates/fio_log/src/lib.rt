@@ -44,7 +44,7 @@
 //!
 //! Not proved: what is said of a line of any other log. A reader for which each line is damaged meets the clauses. Lines are read
 //! by the calls of `fio_form` and `fio_rows`, which are proved; that a verdict has the frames that these read is tested by
-//! `tests/forms.py`.
+//! `tests/fiolog-reader.py` and `tests/real-logs.py`.
 #![tactic(auto)]
 
 mod blanks;
