@@ -23,6 +23,7 @@ pub enum Said {
 /// What is said of a line.
 #[derive(Clone, Copy, Debug, PartialEq, Eq)]
 pub struct LineSaid {
+    /// What the line says.
     pub said: Said,
     /// Whether a message above was begun and not ended.
     pub is_broken: bool,
