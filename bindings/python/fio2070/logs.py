@@ -12,8 +12,8 @@ from .encode import Octets, octets_of
 
 _FORMS = {'auto': constants.LOG_AUTO, 'frames': constants.LOG_FRAMES, 'transcript': constants.LOG_TRANSCRIPT}
 _KINDS = ('blank', 'frames', 'part', 'possible', 'damaged', 'passed over')
-# By their numbers, of which some are free.
-_REASONS = ('', 'no octets', 'no message', 'no form', 'more', None, 'too long', 'bad line', None, None, 'loss', 'heading', None, 'copy',
+# By their numbers, of which some are free ('-').
+_REASONS = ('', 'no octets', 'no message', 'no form', 'more', '-', 'too long', 'bad line', '-', '-', 'loss', 'heading', '-', 'copy',
             'broken')
 _SIDES = ('', '>', '<')
 # The most frames of a batch.
