@@ -1174,9 +1174,9 @@ void fio2070_log_start(struct fio2070_log_reader *reader, uint8_t form);
  * whose lines are counted from 1.
  *
  * Proved are: which lines the octets make that it takes; that the verdicts in a batch are those of the next lines, each once
- * and in order, with all their frames and places; that the octets of each frame are a message and are written at its
- * places; that a line with the reason FIO2070_LOG_LOSS or FIO2070_LOG_HEADING has such words; and that a new log begins as
- * said. How many octets it takes, when a verdict is due and what else it says are tested. */
+ * and in order, with all their frames and places; that the octets of each frame are a message; that a line with the reason
+ * FIO2070_LOG_LOSS or FIO2070_LOG_HEADING has such words; and that a new log begins as said. How many octets it takes, when a
+ * verdict is due and what else it says are tested. */
 FIO2070_MUST_USE
 size_t fio2070_log_read(struct fio2070_log_reader *reader, const uint8_t *octets, size_t length,
                         struct fio2070_log_batch *batch);
