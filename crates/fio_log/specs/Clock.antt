@@ -1,9 +1,9 @@
 -- Times in lines of logs: what each character does.
 use Rattle.std.specs.Prelude.{ℕ, ◌+◌, ◌-◌, ◌*◌, ◌/◌, ◌%◌, ◌&&◌, ◌||◌, ◌==◌, Bool, true, false, not, nat_le, nat_lt, if◌then◌else◌, List, [], ◌∷◌, Option, Some, None, codes, length, drop, is_some, option_and_then, slice_index}
 use Rattle.fio_log.specs.Digits.{digit_of, is_between, is_letter}
-use Rattle.fio_log.specs.declared.clock.Number.{Number}
+use Rattle.fio_log.specs.declared.time_forms.Number.{Number}
 use Rattle.fio_log.specs.declared.clock.Time.{Time}
-use Rattle.fio_log.specs.declared.clock.TimeRead.{TimeRead}
+use Rattle.fio_log.specs.declared.time_forms.TimeRead.{TimeRead}
 use Rattle.fio_log.specs.declared.parts.TimeParts.{TimeParts}
 
 -- The forms of times: `Y` has four digits, `m` and `s` two, `M`, `D` and `h` one or two, `N` is the name of a month, `_` a gap,

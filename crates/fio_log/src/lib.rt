@@ -68,6 +68,8 @@ mod second;
 mod shapes;
 mod sides;
 mod teller;
+mod time_ends;
+mod time_forms;
 mod told;
 mod verdict;
 mod wordings;

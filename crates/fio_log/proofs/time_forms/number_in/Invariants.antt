@@ -1,6 +1,6 @@
 use Rattle.std.proofs.Common.{length, ◌-◌, ◌≡◌, ◌≤◌, drop}
 use Rattle.fio_log.specs.Clock.{no_number, time_number}
-use Rattle.fio_log.proofs.clock.number_in.Given as goal
+use Rattle.fio_log.proofs.time_forms.number_in.Given as goal
 
 abbrev pub invariant-digits : goal.invariant-digits
 invariant-digits l = record {

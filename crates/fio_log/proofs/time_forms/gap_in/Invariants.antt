@@ -1,6 +1,6 @@
 use Rattle.std.proofs.Common.{length, ◌-◌, ◌≡◌, ◌≤◌, drop}
 use Rattle.fio_log.specs.Clock.{gap_from}
-use Rattle.fio_log.proofs.clock.gap_in.Given as goal
+use Rattle.fio_log.proofs.time_forms.gap_in.Given as goal
 
 abbrev pub invariant-gap : goal.invariant-gap
 invariant-gap l = record {

@@ -1,6 +1,6 @@
 use Rattle.std.proofs.Common.{length, ◌-◌, ◌≡◌, ◌≤◌, drop}
 use Rattle.fio_log.specs.Clock.{form_from, none_read}
-use Rattle.fio_log.proofs.clock.form_in.Given as goal
+use Rattle.fio_log.proofs.time_forms.form_in.Given as goal
 
 abbrev pub invariant-signs : goal.invariant-signs
 invariant-signs l = record {

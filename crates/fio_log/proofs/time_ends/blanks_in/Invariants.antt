@@ -1,6 +1,6 @@
 use Rattle.std.proofs.Common.{length, ◌-◌, ◌≡◌, ◌≤◌, drop}
 use Rattle.fio_log.specs.Clock.{blanks_from}
-use Rattle.fio_log.proofs.clock.blanks_in.Given as goal
+use Rattle.fio_log.proofs.time_ends.blanks_in.Given as goal
 
 abbrev pub invariant-blanks : goal.invariant-blanks
 invariant-blanks l = record {
