@@ -7,3 +7,4 @@ pub mod LineLaws
 pub mod OtherLines
 pub mod RowLemmas
 pub mod RowsRead
+pub mod LinesByThemselves

@@ -1,7 +1,11 @@
 //! Laws of the definitions that the contracts cite: each function states one in its contract and does nothing.
-ghost use Rattle.std.specs.Prelude.{◌≡◌, ◌∷◌, ◌++◌, ◌≤◌, ◌⊎◌, ℕ, List, true, false, length};
+ghost use Rattle.std.specs.Prelude.{◌≡◌, ◌∷◌, ◌++◌, ◌<◌, ◌≤◌, ◌⊎◌, ℕ, List, true, false, length};
 ghost use Rattle.std.specs.List.{AllByRecursion};
+ghost use Rattle.fio_form.specs.Bare.{is_cut_short};
+ghost use Rattle.fio_form.specs.Reading.{Frame, octets_by, read_line};
 ghost use Rattle.fio_form.specs.declared.form.LineForm.{LineForm};
+ghost use Rattle.fio_form.specs.declared.form.LineRows.TheVariants.{One};
+ghost use Rattle.fio_form.specs.declared.octets.TheConstants.{OCTETS};
 ghost use Rattle.fio_rows.specs.Laws.{IsAdded, SaysMessages, IsSame, Left, is_other, row_by, spare};
 ghost use Rattle.fio_rows.specs.Lines.{line_goes_on, has, is_message_broken, is_ended, is_message_open, open_form, read_in, says_message};
 ghost use Rattle.fio_rows.specs.RowLaws.{IsInRows, IsReadInRows, IsWrittenInRows, Row, read_rows};
@@ -37,6 +41,17 @@ pub fn what_is_open_is_kept_or_said()
 pub fn a_line_below_nothing_open_is_read_by_itself()
     ensures { (forms : List LineForm) (line tail : List ℕ) (a b : Rows) → is_message_open a.pending ≡ false → is_message_open b.pending ≡ false
         → IsSame (read_in forms line tail a) (read_in forms line tail b) }
+{}
+
+/// A line below no open message says what `read_line` of `fio_form` says of it: a message that it says is that one; and a message
+/// that `read_line` says by forms without rows is said, if there is room for its octets and the logger left none out behind them.
+#[tactic(auto, using(crate::proofs::LinesByThemselves::itself_says, crate::proofs::LinesByThemselves::itself_said))]
+pub fn a_line_by_itself_is_read_by_its_form()
+    ensures read { (forms : List LineForm) (line tail : List ℕ) (state : Rows) → is_message_open state.pending ≡ false
+        → says_message (read_in forms line tail state).said ≡ true → read_line forms line ≡ Frame (read_in forms line tail state).message }
+    ensures said { (forms : List LineForm) (line tail message : List ℕ) (state : Rows) → is_message_open state.pending ≡ false
+        → is_cut_short tail ≡ false → AllByRecursion (λ form. (form.rows ≡ One) × (length (octets_by form line) < OCTETS)) forms
+        → read_line forms line ≡ Frame message → IsReadInRows message (read_in forms line tail state) }
 {}
 
 /// What a logger writes of a message in rows is read, if no message is open above it: rows of a form at offsets that go on, of
