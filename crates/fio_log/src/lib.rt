@@ -57,6 +57,7 @@ mod directions;
 mod heading;
 mod learning;
 mod lines;
+mod middle;
 mod own_texts;
 mod own_verdicts;
 mod parts;

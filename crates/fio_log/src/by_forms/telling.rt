@@ -8,6 +8,7 @@ use crate::by_forms::{FormReader, LineHeard, take_message};
 use crate::cut::{ends_in_gap, has_ends, is_cut_line};
 use crate::heading::Heading;
 use crate::lines::NumberedLine;
+use crate::middle::lacks_middle;
 use crate::places::Place;
 use crate::quiet::{Hidden, has_fronts, held_by_text};
 use crate::rows::StreamRow;
@@ -229,7 +230,9 @@ impl FormReader {
             return (Kind::Damaged, Reason::NoMessage);
         }
         let held = held_by_text(&self.forms, line.text, &mut self.octets);
-        self.is_loud = held != Hidden::Nothing || has_ends(&self.forms, line.text, &mut self.octets);
+        self.is_loud = held != Hidden::Nothing
+            || has_ends(&self.forms, line.text, &mut self.octets)
+            || lacks_middle(&self.forms, line.text);
         if !self.is_loud {
             self.heading = Heading::of(line.text, line.text.len());
             return (Kind::PassedOver, reason_without_octets(line.text));
