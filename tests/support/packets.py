@@ -147,7 +147,7 @@ def of_pcapng(order):
     yield ('messages that fiolog wrote, ' + order, start + interface(order, 252)
            + b''.join(enhanced(order, 0, place, upper + octets, flags=flags) for place, (octets, flags) in enumerate(((POLL, 2), (BLOCK, 1), (POLL, None))))
            + enhanced(order, 0, 3, upper.replace(b'fio2070', b'another') + POLL),
-           ['0.000000 > 3600', '0.000001 < ' + BLOCK.hex(), '0.000002 3600', '0.000003 not UDP'])
+           ['0.000000000 > 3600', '0.000001000 < ' + BLOCK.hex(), '0.000002000 3600', '0.000003000 not UDP'])
     yield 'an interface that is missing, ' + order, start + interface(order, 1) + enhanced(order, 1, 0, packet), [BROKEN]
     yield 'a block with a wrong length, ' + order, start + interface(order, 1) + struct.pack(order + 'II', 6, 13) + bytes(40), [BROKEN]
 
