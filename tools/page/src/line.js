@@ -6,7 +6,7 @@ import { LOG_FORMS, LOG_SIDES } from './constants.js';
 import { counted } from './dom.js';
 import { asLatin, fromHex, hexText, inLines } from './hex.js';
 import { LINE } from './log_words.js';
-import { formOf, Found, linesOf, octetsOf, readLog } from './reader.js';
+import { encodingOf, formOf, Found, linesOf, octetsOf, readLog } from './reader.js';
 import { AT_END, digitsOf, REWRITINGS, rewritten } from './rewriting.js';
 import { each, part } from './slices.js';
 import { ANY, OWN, SAYS, wireOf } from './wire.js';
@@ -51,7 +51,7 @@ function isBinary(octets) {
 
 // What a file is by how it begins: one of LINE_WAYS, 'octets' for another file that is no text, or '' for the lines of a log.
 function lineWayOf(library, file) {
-  if (isCapture(file)) return '';
+  if (isCapture(file) || encodingOf(file)) return '';
   const begin = file.subarray(0, WINDOW), all = asLatin(begin), wire = wireOf(library, 'line').start(OWN);
   if (TEXT_OF_BITS.test(all)) return /[01\x01]/.test(all) ? 'bits' : '';
   let at = 0, isStrange = false, frames = 0, damaged = 0;

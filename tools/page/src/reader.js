@@ -27,10 +27,13 @@ export function formOf(name, asked) {
   return LOG_FORMS[asked === 'auto' && ending ? ending[1] : asked === 'any' ? 'auto' : asked];
 }
 
+// The encoding of a file that begins with a byte order mark of UTF-16, else undefined.
+export const encodingOf = (file) => BYTE_ORDER_MARKS[file[0] << 8 | file[1]];
+
 // The octets of a file in UTF-8; those of a capture of packets are its lines.
 export function* octetsOf(file) {
   if (isCapture(file)) return yield* linesOfCapture(file);
-  const encoding = file.length > 1 ? BYTE_ORDER_MARKS[file[0] << 8 | file[1]] : undefined;
+  const encoding = encodingOf(file);
   return encoding ? new TextEncoder().encode(new TextDecoder(encoding).decode(file)) : file;
 }
 
