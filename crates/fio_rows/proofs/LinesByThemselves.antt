@@ -1,6 +1,6 @@
 -- A line below nothing open says what its form reads in it.
-use Rattle.std.proofs.Common.{ℕ, ◌≡◌, ◌+◌, ◌<◌, Bool, true, false, not, ◌&&◌, List, [], ◌∷◌, length, Some, refl, sym, ◌∙◌, ap, subst, inl, inr, arith}
-use Rattle.std.specs.Prelude.{if◌then◌else◌, nat_le, ◌||◌, unwrap_or}
+use Rattle.std.proofs.Common.{ℕ, ◌≡◌, ◌+◌, ◌<◌, Bool, true, false, not, ◌&&◌, List, [], ◌∷◌, length, Option, Some, None, refl, sym, ◌∙◌, ap, subst, inl, inr, arith}
+use Rattle.std.specs.Prelude.{if◌then◌else◌, map, nat_le, ◌||◌, unwrap_or}
 use Rattle.std.specs.List.{AllByRecursion}
 use Rattle.std.proofs.lemmas.Bool.{cases_Bool}
 use Rattle.std.proofs.lemmas.Bool.Decides.{nat_tests}
@@ -9,18 +9,21 @@ use Rattle.fio_form.specs.Bare.{is_cut_short}
 use Rattle.fio_form.specs.Reading.{LineSaid, ends_in_form, octets_by, octets_found, read_from, read_line, said_by_form, said_in_octets, said_whole, swapped}
 use Rattle.fio_form.specs.Reading as reading
 use Rattle.fio_form.specs.Wholes.{whole_of}
+use Rattle.fio_form.specs.Writing.{AreLines, IsLine, IsOther, frame_or_other}
 use Rattle.fio_form.specs.declared.form.LineForm.{LineForm}
 use Rattle.fio_form.specs.declared.form.LineRows.TheVariants.{One}
 use Rattle.fio_form.specs.declared.octets.TheConstants.{OCTETS}
 use Rattle.fio_form.specs.declared.reading.Whole.{Whole}
 use Rattle.fio_form.specs.declared.reading.Whole.TheVariants as wholes
 use Rattle.fio_form.proofs.Finding.{few_taken, swapped_size}
+use Rattle.fio_form.proofs.Logs.{no_octets, read_back}
 use Rattle.fio_form.proofs.Telling.{told}
 use Rattle.fio_rows.specs.GoingOn.{is_full, may_go_on}
 use Rattle.fio_rows.specs.Lines.{are_none, begun_line, begun_with, first_line_in, has, is_message_open, is_stray, is_stream, offset_after, offset_of, read_in, row_of, says_message}
-use Rattle.fio_rows.specs.RowLaws.{IsReadInRows}
+use Rattle.fio_rows.specs.RowLaws.{AreAlone, IsAlone, IsReadInRows, Row, said_alone, said_in_turn}
 use Rattle.fio_rows.specs.Rows.{Rows, octets_with, open_after, say, say_none, say_whole, whole_before}
-use Rattle.fio_rows.specs.declared.said.Said.TheVariants.{Part, Idle, Stray, Damaged}
+use Rattle.fio_rows.specs.declared.said.Said.{Said}
+use Rattle.fio_rows.specs.declared.said.Said.TheVariants.{Part, Idle, Stray, Damaged, Other}
 use Rattle.fio_rows.specs.declared.said.Said.TheVariants as said
 
 -- a test is not both
@@ -230,8 +233,102 @@ first_said at (form ∷ forms) cut line tail message state all are e = elim (cas
 
 -- a message that its form reads in a line below nothing open is what the line says
 pub itself_said : (forms : List LineForm) (line tail message : List ℕ) (state : Rows) → is_message_open state.pending ≡ false →
-    is_cut_short tail ≡ false → AllByRecursion (λ form. (form.rows ≡ One) × (length (octets_by form line) < OCTETS)) forms →
-    read_line forms line ≡ reading.Frame message → IsReadInRows message (read_in forms line tail state)
+    IsAlone forms line tail → read_line forms line ≡ reading.Frame message → IsReadInRows message (read_in forms line tail state)
 unfolding read_in
-itself_said forms line tail message state none all are e =
-    rw none (first_said 0 forms false line tail message (record state { octets = [] }) all are e)
+itself_said forms line tail message state none alone e =
+    rw none (first_said 0 forms false line tail message (record state { octets = [] }) alone.0 alone.1 e)
+
+-- ---- A log of such lines
+
+no_row : (form : LineForm) (row : ℕ) (tail : List ℕ) → form.rows ≡ One → may_go_on form row tail ≡ false
+unfolding may_go_on
+no_row form row tail one = rw one refl
+
+whole_closed : (form : LineForm) (row : ℕ) (tail : List ℕ) (state : Rows) (whole : Whole) → is_full form row tail ≡ false →
+    may_go_on form row tail ≡ false → is_message_open (say_whole form row tail state whole).pending ≡ false
+whole_closed form row tail state (wholes.Message start end) ends goes = refl
+whole_closed form row tail state (wholes.Any start end) ends goes = rw ends refl
+whole_closed form row tail state wholes.Lacking ends goes = rw goes refl
+whole_closed form row tail state wholes.Idle ends goes =
+    rw goes (elim form.is_framed as (λ b. is_message_open (open_after (if not b && false then Part else Idle) wholes.Idle) ≡ false) [ true ↦ refl | false ↦ refl ])
+whole_closed form row tail state wholes.Damaged ends goes = refl
+
+say_closed : (form : LineForm) (row : ℕ) (tail : List ℕ) (state : Rows) → form.rows ≡ One → is_message_open (say form row tail state).pending ≡ false
+unfolding say
+say_closed form row tail state one =
+    whole_closed form row tail state (whole_before form state.octets tail) (one_full form row tail one) (no_row form row tail one)
+
+begun_closed : (at : ℕ) (form : LineForm) (line tail : List ℕ) (state : Rows) → form.rows ≡ One →
+    is_message_open (begun_line at form line tail state).pending ≡ false
+unfolding begun_line
+begun_closed at form line tail state one =
+    let stream : is_stream form.rows ≡ false = rw one refl in
+    let stray : is_stray form.rows (unwrap_or (offset_of form line) 0) ≡ false = rw one refl in
+    rw (stream, stray) (say_closed form (length (row_of form line)) tail (record state {
+      form = at;
+      next = offset_after (Some (unwrap_or (offset_of form line) 0)) (length (row_of form line));
+      octets = row_of form line;
+    }) one)
+
+first_closed : (at : ℕ) (forms : List LineForm) (line tail : List ℕ) (state : Rows) →
+    AllByRecursion (λ form. (form.rows ≡ One) × (length (octets_by form line) < OCTETS)) forms →
+    is_message_open (first_line_in at forms line tail state).pending ≡ false
+unfolding first_line_in
+first_closed at [] line tail state are = refl
+first_closed at (form ∷ forms) line tail state are = elim (cases_Bool (has form line)) [
+  | inl had ↦ rw had (begun_closed at form line tail state are.0.0)
+  | inr none ↦ rw none (first_closed (at + 1) forms line tail state are.1)
+]
+
+-- none is open after such a line
+itself_closed : (forms : List LineForm) (line tail : List ℕ) (state : Rows) → is_message_open state.pending ≡ false → IsAlone forms line tail →
+    is_message_open (read_in forms line tail state).pending ≡ false
+unfolding read_in
+itself_closed forms line tail state none alone = rw none (first_closed 0 forms line tail (record state { octets = [] }) alone.1)
+
+swapped_nothing : (swap : Bool) (octets : List ℕ) → swapped swap octets ≡ [] → not (are_none octets) ≡ false
+unfolding swapped
+swapped_nothing swap [] h = refl
+swapped_nothing true (octet ∷ []) h = let z : ⊥ = cc in absurd z
+swapped_nothing true (lower ∷ (upper ∷ octets)) h = let z : ⊥ = cc in absurd z
+swapped_nothing false (octet ∷ octets) h = let z : ⊥ = cc in absurd z
+
+had_none : (form : LineForm) (line : List ℕ) → octets_by form line ≡ [] → has form line ≡ false
+unfolding has
+had_none form line h = swapped_nothing form.is_swapped (octets_found form line) h
+
+first_other : (at : ℕ) (forms : List LineForm) (line tail : List ℕ) (state : Rows) → IsOther forms line →
+    first_line_in at forms line tail state ≡ say_none Other state
+unfolding first_line_in
+first_other at [] line tail state are = refl
+first_other at (form ∷ forms) line tail state are =
+    let none : has form line ≡ false = had_none form line (no_octets form line are.0.0) in
+    rw none (first_other (at + 1) forms line tail state are.1)
+
+other_alone : (forms : List LineForm) (line tail : List ℕ) (state : Rows) → is_message_open state.pending ≡ false → IsOther forms line →
+    read_in forms line tail state ≡ say_none Other (record state { octets = [] })
+unfolding read_in
+other_alone forms line tail state none are = rw none (first_other 0 forms line tail (record state { octets = [] }) are)
+
+line_alone : (forms : List LineForm) (line tail : List ℕ) (message : Option (List ℕ)) (state : Rows) → is_message_open state.pending ≡ false →
+    IsAlone forms line tail → IsLine forms line message →
+    said_alone (read_in forms line tail state).said (read_in forms line tail state).message ≡ frame_or_other message
+line_alone forms line tail None state none alone is =
+    ap (λ (s : Rows). said_alone s.said s.message) (other_alone forms line tail state none is)
+line_alone forms line tail (Some message) state none alone is =
+    let read : IsReadInRows message (read_in forms line tail state) =
+    itself_said forms line tail message state none alone (read_back forms message line is) in
+    ap (λ (s : Said). said_alone s (read_in forms line tail state).message) read.said ∙ ap reading.Frame read.kept
+
+-- what a log of such lines says
+pub log_alone : (forms : List LineForm) (rows : List Row) (messages : List (Option (List ℕ))) (state : Rows) → is_message_open state.pending ≡ false →
+    AreAlone forms rows → AreLines forms (map (λ (row : Row). row.line) rows) messages → said_in_turn forms rows state ≡ map frame_or_other messages
+log_alone forms [] [] state none alone are = refl
+log_alone forms [] (message ∷ messages) state none alone are = absurd are
+log_alone forms (row ∷ rows) [] state none alone are = absurd are
+log_alone forms (row ∷ rows) (message ∷ messages) state none alone are =
+    let head = line_alone forms row.line row.tail message state none alone.0 are.0 in
+    let rest = log_alone forms rows messages (read_in forms row.line row.tail state)
+    (itself_closed forms row.line row.tail state none alone.0) alone.1 are.1 in
+    ap (λ (first : LineSaid). first ∷ said_in_turn forms rows (read_in forms row.line row.tail state)) head
+    ∙ ap (λ (rows : List LineSaid). frame_or_other message ∷ rows) rest

@@ -1,13 +1,19 @@
 -- What a logger writes of a message in rows, and what is read of it.
-use Rattle.std.specs.Prelude.{ℕ, ◌≡◌, ◌⊎◌, ◌++◌, true, false, List, [], ◌∷◌, length, Option, Some, unwrap_or}
+use Rattle.std.specs.Prelude.{ℕ, ◌≡◌, ◌<◌, ◌⊎◌, ◌++◌, true, false, List, [], ◌∷◌, length, Option, Some, unwrap_or}
 use Rattle.std.specs.List.{AllByRecursion}
-use Rattle.fio_form.specs.Reading.{octets_between}
+use Rattle.fio_form.specs.Bare.{is_cut_short}
+use Rattle.fio_form.specs.Reading.{LineSaid, octets_between, octets_by}
+use Rattle.fio_form.specs.Reading as reading
 use Rattle.fio_form.specs.declared.form.LineForm.{LineForm}
+use Rattle.fio_form.specs.declared.form.LineRows.TheVariants.{One}
+use Rattle.fio_form.specs.declared.octets.TheConstants.{OCTETS}
 use Rattle.fio_form.specs.declared.reading.Whole.TheVariants.{Message, Lacking}
 use Rattle.fio_rows.specs.GoingOn.{may_go_on}
 use Rattle.fio_rows.specs.Lines.{has, is_own_message, is_row, is_stray, is_stream, next_row, offset_after, offset_of, read_in, row_of}
 use Rattle.fio_rows.specs.Rows.{Rows, octets_with, whole_before}
-use Rattle.fio_rows.specs.declared.said.Said.TheVariants.{Frame}
+use Rattle.fio_rows.specs.declared.said.Said.{Said}
+use Rattle.fio_rows.specs.declared.said.Said.TheVariants.{Frame, Part, Idle, Stray, Damaged, Other}
+use Rattle.fio_rows.specs.declared.said.Said.TheVariants as said
 
 -- a row as it is written: a line, the text behind its octets, and these
 pub record Row : Type 0 where
@@ -78,3 +84,32 @@ pub record IsInRows (line above : List ℕ) (state : Rows) : Type 0 where
   pub end : ℕ
   pub said : state.message ≡ octets_between start end (octets_with form state.octets)
   pub there : AreOctetsOf form line above state.octets
+
+-- ---- A log of lines by themselves
+
+-- what a line says by itself: a message, or none, as no form has it; anything else is damaged
+abbrev pub said_alone : Said → List ℕ → LineSaid
+said_alone Frame message = reading.Frame message
+said_alone Part message = reading.Damaged
+said_alone said.Stream message = reading.Damaged
+said_alone Idle message = reading.Damaged
+said_alone Stray message = reading.Damaged
+said_alone Damaged message = reading.Damaged
+said_alone Other message = reading.Other
+
+-- what lines say, one after another
+abbrev pub said_in_turn : List LineForm → List Row → Rows → List LineSaid
+said_in_turn forms [] state = []
+said_in_turn forms (row ∷ rows) state =
+    said_alone (read_in forms row.line row.tail state).said (read_in forms row.line row.tail state).message
+    ∷ said_in_turn forms rows (read_in forms row.line row.tail state)
+
+-- No form has rows, there is room for the octets that each has in a line, and the logger left none out behind them.
+abbrev pub IsAlone : List LineForm → List ℕ → List ℕ → Type 0
+IsAlone forms line tail =
+    (is_cut_short tail ≡ false) × AllByRecursion (λ form. (form.rows ≡ One) × (length (octets_by form line) < OCTETS)) forms
+
+-- each line is such a line
+abbrev pub AreAlone : List LineForm → List Row → Type 0
+AreAlone forms [] = Unit {0}
+AreAlone forms (row ∷ rows) = IsAlone forms row.line row.tail × AreAlone forms rows

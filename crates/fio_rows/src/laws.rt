@@ -1,14 +1,12 @@
 //! Laws of the definitions that the contracts cite: each function states one in its contract and does nothing.
-ghost use Rattle.std.specs.Prelude.{◌≡◌, ◌∷◌, ◌++◌, ◌<◌, ◌≤◌, ◌⊎◌, ℕ, List, true, false, length};
+ghost use Rattle.std.specs.Prelude.{◌≡◌, ◌∷◌, ◌++◌, ◌⊎◌, ℕ, List, Option, true, false, length, map};
 ghost use Rattle.std.specs.List.{AllByRecursion};
-ghost use Rattle.fio_form.specs.Bare.{is_cut_short};
-ghost use Rattle.fio_form.specs.Reading.{Frame, octets_by, read_line};
+ghost use Rattle.fio_form.specs.Reading.{Frame, read_line};
+ghost use Rattle.fio_form.specs.Writing.{AreLines, frame_or_other};
 ghost use Rattle.fio_form.specs.declared.form.LineForm.{LineForm};
-ghost use Rattle.fio_form.specs.declared.form.LineRows.TheVariants.{One};
-ghost use Rattle.fio_form.specs.declared.octets.TheConstants.{OCTETS};
 ghost use Rattle.fio_rows.specs.Laws.{IsAdded, SaysMessages, IsSame, Left, is_other, row_by, spare};
 ghost use Rattle.fio_rows.specs.Lines.{line_goes_on, has, is_message_broken, is_ended, is_message_open, open_form, read_in, says_message};
-ghost use Rattle.fio_rows.specs.RowLaws.{IsInRows, IsReadInRows, IsWrittenInRows, Row, read_rows};
+ghost use Rattle.fio_rows.specs.RowLaws.{AreAlone, IsAlone, IsInRows, IsReadInRows, IsWrittenInRows, Row, read_rows, said_in_turn};
 ghost use Rattle.fio_rows.specs.Rows.{Rows};
 
 /// What a line is said to say is a message, and so is what may end with it.
@@ -50,8 +48,16 @@ pub fn a_line_by_itself_is_read_by_its_form()
     ensures read { (forms : List LineForm) (line tail : List ℕ) (state : Rows) → is_message_open state.pending ≡ false
         → says_message (read_in forms line tail state).said ≡ true → read_line forms line ≡ Frame (read_in forms line tail state).message }
     ensures said { (forms : List LineForm) (line tail message : List ℕ) (state : Rows) → is_message_open state.pending ≡ false
-        → is_cut_short tail ≡ false → AllByRecursion (λ form. (form.rows ≡ One) × (length (octets_by form line) < OCTETS)) forms
-        → read_line forms line ≡ Frame message → IsReadInRows message (read_in forms line tail state) }
+        → IsAlone forms line tail → read_line forms line ≡ Frame message → IsReadInRows message (read_in forms line tail state) }
+{}
+
+/// A log of lines by themselves is read whole: if each line is written of a message by the first form that has it, or is another
+/// one, and no form has rows, then the messages are said, in order, each of its line, and no line is damaged.
+#[tactic(auto, using(crate::proofs::LinesByThemselves::log_alone))]
+pub fn a_log_of_lines_by_themselves_is_read_whole()
+    ensures { (forms : List LineForm) (rows : List Row) (messages : List (Option (List ℕ))) (state : Rows) → is_message_open state.pending ≡ false
+        → AreAlone forms rows → AreLines forms (map (λ (row : Row). row.line) rows) messages
+        → said_in_turn forms rows state ≡ map frame_or_other messages }
 {}
 
 /// What a logger writes of a message in rows is read, if no message is open above it: rows of a form at offsets that go on, of
