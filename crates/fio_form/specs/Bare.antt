@@ -17,7 +17,7 @@ use Rattle.fio_form.specs.declared.form.Step.TheVariants.{Octet, Mark, MaybeBlan
 abbrev pub ends_text : ℕ → Bool
 ends_text character = is_quotation character || (character == 93 || character == 41)
 
--- the text after such a character, if it begins with one
+-- the text after a character that ends a text or a list, if it begins with one
 abbrev pub past_end : List ℕ → List ℕ
 past_end [] = []
 past_end (character ∷ text) = if ends_text character then text else character ∷ text
@@ -146,11 +146,11 @@ abbrev pub quote_of : List ℕ → Digits
 quote_of [] = digits.Text 0
 quote_of (quote ∷ text) = digits.Text quote
 
--- the text of such a line from the first octet on
+-- the text of a line that is nothing but octets, from the first one on
 unfoldable pub bare_begin : LineForm → List ℕ → List ℕ
 bare_begin form line =
     if is_quoted form.digits then past_quote (past_letter (bare_text form.cycle.items line)) else bare_text form.cycle.items line
 
--- how its octets are written
+-- how the octets of such a line are written
 unfoldable pub bare_digits : LineForm → List ℕ → Digits
 bare_digits form line = if is_quoted form.digits then quote_of (past_letter (bare_text form.cycle.items line)) else form.digits

@@ -173,10 +173,10 @@ has_texts digits.Sextets = false
 abbrev pub has_spelling : Digits → List Step → Bool
 has_spelling digits cycle = has_texts digits && are_certain cycle
 
--- whether such a text can be read in one way only
+-- whether a text of such a form can be read in one way only
 abbrev pub is_clear : List Piece → Digits → List Step → Bool
 is_clear front digits cycle = are_shut digits front && are_separate digits cycle
 
--- whether these are a front and a cycle of a form
+-- whether a form may have this front, these digits and this cycle
 abbrev pub is_form : List Piece → Digits → List Step → Bool
 is_form front digits cycle = begins_with_octet cycle && (not (has_spelling digits cycle) || is_clear front digits cycle)

@@ -12,7 +12,7 @@ abbrev pub taken_parts : Piece → List ℕ → List ℕ
 taken_parts piece [] = []
 taken_parts piece (character ∷ text) = if is_part piece character then character ∷ taken_parts piece text else []
 
--- the text after them
+-- the text after the characters of a piece that it begins with
 abbrev pub past : Piece → List ℕ → List ℕ
 past piece [] = []
 past piece (character ∷ text) = if is_part piece character then past piece text else character ∷ text

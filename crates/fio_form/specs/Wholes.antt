@@ -85,7 +85,7 @@ framed_in octets =
     else if begins_flag octets then held_inside (inner octets)
     else held_in octets
 
--- what is kept of it
+-- what is kept of what a frame holds: as much as there is room for
 unfoldable pub kept_of : Option (List ℕ) → List ℕ
 kept_of None = []
 kept_of (Some held) = take OCTETS held

@@ -51,7 +51,7 @@ AreFrontTexts values [] (text ∷ texts) = ⊥
 AreFrontTexts values (piece ∷ front) [] = ⊥
 AreFrontTexts values (piece ∷ front) (text ∷ texts) = IsPiece values piece text × AreFrontTexts values front texts
 
--- these texts, one after the other
+-- some texts, one after the other
 abbrev pub joined : List (List ℕ) → List ℕ
 joined [] = []
 joined (text ∷ texts) = text ++ joined texts
@@ -232,7 +232,7 @@ AreLines forms [] (message ∷ messages) = ⊥
 AreLines forms (line ∷ lines) [] = ⊥
 AreLines forms (line ∷ lines) (message ∷ messages) = IsLine forms line message × AreLines forms lines messages
 
--- what such a line says
+-- what a line says that is written of a message, or of nothing
 abbrev pub frame_or_other : Option (List ℕ) → LineSaid
 frame_or_other None = Other
 frame_or_other (Some message) = Frame message

@@ -224,7 +224,7 @@ possible read = if can_be read.parts then Some read else None
 abbrev pub whole : TimeRead → List ℕ → Option TimeRead
 whole read text = if goes_on_behind (drop read.count text) then None else possible (half_of read text)
 
--- the same, if a form is read
+-- what is read of a form, if it is read, with what comes after it
 abbrev pub fitting : Option TimeRead → List ℕ → Option TimeRead
 fitting None text = None
 fitting (Some read) text = whole (fraction_of read text) text

@@ -20,12 +20,12 @@ abbrev pub begins_command : List ℕ → Bool
 begins_command [] = false
 begins_command (code ∷ rest) = nat_lt code 128
 
--- whether a command is followed by its answer, or by the same command
+-- whether the octets behind a command are its answer, or the same command
 abbrev pub is_repeated_or_answered : List ℕ → List ℕ → Bool
 is_repeated_or_answered command rest =
     begins_command command && nat_le 2 (length rest) && (may_answer command (take 2 rest) || starts_with nat_eq rest command)
 
--- the same of octets that begin with a command up to there
+-- whether a command, which ends there, is followed by its answer or by the same command
 abbrev pub goes_on_from : Option ℕ → List ℕ → Bool
 goes_on_from None octets = false
 goes_on_from (Some end) octets = is_repeated_or_answered (take end octets) (drop end octets)

@@ -42,7 +42,7 @@ IsAdded octets row state = (state.octets ≡ octets ++ row) ⊎ (state.said ≡ 
 abbrev pub Left : Bool → Bool → ℕ → ℕ → Type 0
 Left ended broken count most = (ended ≡ true) ⊎ ((broken ≡ true) ⊎ (count ≤ most))
 
--- the same is said, is open and is there
+-- two lines say the same, and leave the same open, of the same octets
 pub record IsSame (a b : Rows) : Type 0 where
   pub said : a.said ≡ b.said
   pub pending : a.pending ≡ b.pending

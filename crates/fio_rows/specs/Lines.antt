@@ -124,15 +124,15 @@ has_offset rows.Pieces = false
 has_offset rows.Stream = false
 has_offset rows.Flags = false
 
--- the octets of a row that goes on
+-- the octets of a row that goes on, as they are written
 abbrev pub next_octets : LineForm → List ℕ → List ℕ
 next_octets form line = if has_bare_rows form.rows then bare_octets form line else octets_found form line
 
--- whether there are some
+-- whether a line has octets of a row that goes on
 unfoldable pub has_next : LineForm → List ℕ → Bool
 has_next form line = not (are_none (next_octets form line))
 
--- the same octets, in their order
+-- the octets of a row that goes on, in their order; those that there is no room for are left out
 unfoldable pub next_row : LineForm → List ℕ → List ℕ
 next_row form line = swapped form.is_swapped (take OCTETS (next_octets form line))
 
@@ -168,7 +168,7 @@ said_unless own Stray = Stray
 said_unless own Damaged = Damaged
 said_unless own Other = Other
 
--- the same, but damaged if the row says a message by itself
+-- what is known after a row that goes on: it is damaged if it may be a message by itself
 abbrev pub unless_own : Bool → Rows → Rows
 unless_own own state = record state { said = said_unless own state.said }
 
@@ -278,7 +278,7 @@ is_broken_by (Some form) line state =
     then not (is_sure form state.pending || has_bare_rows form.rows)
     else is_message_begun state.pending && nat_lt (form.before + form.after) (length state.octets)
 
--- whether a line goes on with the open message, ends it, or breaks it
+-- whether a line goes on with the open message
 unfoldable pub line_goes_on : List LineForm → List ℕ → Rows → Bool
 line_goes_on forms line state = is_message_open state.pending && goes_on_with (open_form forms state) line state
 

@@ -63,12 +63,12 @@ pub record IsWrittenInRows (others : List LineForm) (form : LineForm) (message :
   pub below : AreRowsBelow form row.octets
       (offset_after (Some (unwrap_or (offset_of form row.line) 0)) (length row.octets)) message rows
 
--- what is known after some rows
+-- what is known after rows, one after another
 abbrev pub read_rows : List LineForm → List Row → Rows → Rows
 read_rows forms [] state = state
 read_rows forms (row ∷ rows) state = read_rows forms rows (read_in forms row.line row.tail state)
 
--- a message is read
+-- a line says this message
 pub record IsReadInRows (message : List ℕ) (state : Rows) : Type 0 where
   pub said : state.said ≡ Frame
   pub kept : state.message ≡ message

@@ -17,7 +17,7 @@ has_one (form ∷ forms) line = has form line || has_one forms line
 abbrev pub whole_in : LineForm → List ℕ → Whole
 whole_in form line = whole_of form (row_of form line)
 
--- the same, if the form has the line and none of those above it has
+-- what the octets are that a form has in a line, if none of the forms above it has the line
 abbrev pub own_whole : List LineForm → LineForm → List ℕ → Option Whole
 own_whole above form line =
     if has_one above line then None else (if has form line then Some (whole_in form line) else None)
