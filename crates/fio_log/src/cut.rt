@@ -107,13 +107,15 @@ fn is_of_run(form: &LineForm, character: u8) -> bool {
 }
 
 /// Returns whether a number by itself may be what is left of octets, and no offset: it is short or long, or the lines of the form
-/// begin with no number.
+/// begin with no number, or have another one too.
 fn is_rest_of_octets(form: &LineForm, line: &[u8]) -> bool {
     match form.front() {
         _ if line.len() <= FEW_DIGITS => !line.is_empty(),
         _ if line.len() > OFFSET_DIGITS => true,
         [] => false,
-        [first, ..] => !first.is_numeric(),
+        [first, rest @ ..] => {
+            !first.is_numeric() || rest.iter().any(|piece| piece.is_numeric())
+        }
     }
 }
 
