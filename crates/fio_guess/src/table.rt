@@ -24,12 +24,18 @@ pub const COPY_FIFTHS: usize = 4;
 pub const LOOSE_SHARE: usize = 4;
 /// Of a notation with or without blanks, messages of so many octets count.
 pub const LOOSE_OCTETS: usize = 3;
+/// Pieces have to show more sure messages than other rows, by one of so many: of a line that was cut and the one below it they make one.
+pub const CUT_SHARE: u32 = 8;
 /// Commands alone are shown by so many polls.
 pub const POLLS: usize = 8;
 /// So many tenths of them have the number of the one above or one more.
 pub const POLL_TENTHS: usize = 9;
 /// Early looks, at fewer lines, are not shown a form by commands alone.
 pub const POLL_LINES: usize = 256;
+/// In a log with nothing else they are shown by so many polls whose numbers go up one by one, or by `POLLS` with one number.
+pub const POLLS_UP: usize = 4;
+/// In a log of at most so many lines, and with nothing else, two forms show each other: one of commands and one of answers.
+pub const PAIR_LINES: usize = 4;
 /// The most forms that are tried.
 pub const TRIED: usize = 60;
 /// The most of one front.

@@ -125,8 +125,7 @@ impl Learning {
             return None;
         }
         self.near = self.near.saturating_sub(1);
-        if !self.window.push(line) {
-            self.end_window();
+        if !self.window.push(line) && !self.push_anew(line) {
             return None;
         }
         if !self.is_new {
@@ -137,6 +136,18 @@ impl Learning {
             self.is_new = false;
         }
         forms
+    }
+
+    /// Ends a window that is full, for a line; returns whether the next one begins with it, as the one after the first window does
+    /// if the line may be of another form.
+    fn push_anew(&mut self, line: &[u8]) -> bool {
+        if !self.is_first || !self.is_new {
+            self.end_window();
+            return false;
+        }
+        self.clear();
+        self.is_new = true;
+        self.window.push(line)
     }
 
     /// Ends a window that is full; after one that gave no forms lines are passed over.

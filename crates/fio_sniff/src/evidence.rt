@@ -1,11 +1,11 @@
 //! What the lines of a window say for a form, and whether that is enough.
 use crate::fronts::differs_in_a_word;
 use fio_form::{Digits, LineForm, LineRows, Piece, Step};
-use fio_guess::hash_of;
 use fio_guess::table::{
-    COPY_FIFTHS, FEW, KIN, KIN_HUNDREDTHS, LOOSE_SHARE, PAIR_TENTHS, PAIRS, SPLIT_TENTHS, SURE,
-    SURE_OF_FEW, SURE_SHARE,
+    COPY_FIFTHS, CUT_SHARE, FEW, KIN, KIN_HUNDREDTHS, LOOSE_SHARE, PAIR_LINES, PAIR_TENTHS, PAIRS, POLL_LINES,
+    SPLIT_TENTHS, SURE, SURE_OF_FEW, SURE_SHARE,
 };
+use fio_guess::{Window, hash_of};
 
 /// What the lines of a window say for a form.
 #[derive(Clone, Copy, Default)]
@@ -34,8 +34,10 @@ pub(crate) struct Evidence {
     pub(crate) echoes: u32,
     /// Commands.
     pub(crate) commands: u32,
-    /// Messages of which an octet has one digit, and those of which one has eight, with a sign.
+    /// Messages of which an octet has two digits, and the first one is 0; others of which an octet has one digit.
+    pub(crate) zeros: u32,
     pub(crate) short: u32,
+    /// Messages of which an octet has eight digits, with a sign.
     pub(crate) signs: u32,
     /// Messages of `LOOSE_OCTETS` or more; those of them that have a blank between octets, and nothing between octets.
     pub(crate) long: u32,
@@ -43,6 +45,8 @@ pub(crate) struct Evidence {
     pub(crate) glued: u32,
     /// Whether its polls are those of a link.
     pub(crate) are_polls: bool,
+    /// Whether they may be those of a log with nothing else.
+    pub(crate) are_polls_alone: bool,
 }
 
 impl Evidence {
@@ -79,20 +83,24 @@ pub(crate) fn is_needed(form: &LineForm, evidence: &Evidence) -> bool {
         && times(LOOSE_SHARE, evidence.blanks) >= u64::from(evidence.long)
         && times(LOOSE_SHARE, evidence.glued) >= u64::from(evidence.long);
     let is_short = evidence.signs > 0
-        || times(LOOSE_SHARE, evidence.short) >= u64::from(evidence.frames);
+        || evidence.short > evidence.zeros
+            && times(LOOSE_SHARE, evidence.short) >= u64::from(evidence.frames);
     (!is_loose || is_mixed) && (form.digits() != Digits::Short || is_short)
 }
 
 /// Returns whether messages show a form by themselves.
-pub(crate) fn is_shown(form: &LineForm, evidence: &Evidence, is_few: bool) -> bool {
+pub(crate) fn is_shown(form: &LineForm, evidence: &Evidence, log: Log) -> bool {
     if is_cut(form) && !form.is_framed && evidence.sure_types < 2 {
         return false;
     }
     if evidence.are_polls && !is_cut(form) && evidence.frames == evidence.there {
         return true;
     }
+    if are_polls_alone(form, evidence, log) {
+        return true;
+    }
     let is_narrow = form.front().contains(&Piece::Value);
-    let least = if is_few && form.after == 0 && !is_narrow {
+    let least = if log.is_few && form.after == 0 && !is_narrow {
         SURE_OF_FEW
     } else {
         SURE
@@ -102,8 +110,8 @@ pub(crate) fn is_shown(form: &LineForm, evidence: &Evidence, is_few: bool) -> bo
 }
 
 /// Returns whether the messages of other forms show a form, which they answer or are answered by.
-pub(crate) fn is_paired(form: &LineForm, evidence: &Evidence, is_few: bool) -> bool {
-    let least = if is_few { 1 } else { PAIRS };
+pub(crate) fn is_paired(form: &LineForm, evidence: &Evidence, log: Log) -> bool {
+    let least = if log.is_few { 1 } else { PAIRS };
     !is_cut(form)
         && evidence.distinct as usize >= least
         && evidence.pairs as usize >= least
@@ -160,8 +168,13 @@ fn rows_rank(rows: LineRows) -> u8 {
 /// Returns the rank of a form.
 pub(crate) fn rank_of(form: &LineForm, evidence: &Evidence) -> Rank {
     let cut = u64::from(form.before) + 2 * u64::from(form.after);
+    // a line that was cut, and the one below it, are the message of two pieces
+    let less = match form.rows {
+        LineRows::Pieces => evidence.sure / CUT_SHARE,
+        _ => 0,
+    };
     Rank {
-        sure: evidence.sure,
+        sure: evidence.sure.saturating_sub(less),
         messages: 8 * u64::from(evidence.frames) + 1024 - cut,
         is_short: 255 - form.after,
         rows: rows_rank(form.rows),
@@ -176,7 +189,72 @@ pub(crate) fn rank_of(form: &LineForm, evidence: &Evidence) -> Rank {
     }
 }
 
-/// Returns whether a log that has ended is so short that less shows a form.
-pub(crate) fn is_few(lines: usize, is_ended: bool) -> bool {
-    is_ended && lines <= FEW
+/// The log of a window, as far as it tells what shows a form.
+#[derive(Clone, Copy)]
+pub(crate) struct Log {
+    /// Whether it has ended, and is so short that less shows a form.
+    pub(crate) is_few: bool,
+    /// The number of lines that are not blank, if it has ended or the window has many; else 0.
+    pub(crate) written: usize,
+}
+
+/// Returns the number of lines that are not blank.
+fn written_in(lines: &Window) -> usize {
+    let mut count: usize = 0;
+    for at in 0..lines.len() {
+        if lines.line(at).iter().any(|character| !matches!(*character, b' ' | b'\t' | b'\r')) {
+            count = count.saturating_add(1);
+        }
+    }
+    count
+}
+
+/// Returns what the lines of a window are of a log; `is_ended`: they are all of it.
+pub(crate) fn log_of(lines: &Window, is_ended: bool) -> Log {
+    Log {
+        is_few: is_ended && lines.len() <= FEW,
+        written: if is_ended || lines.len() >= POLL_LINES {
+            written_in(lines)
+        } else {
+            0
+        },
+    }
+}
+
+/// Returns whether octets have two digits each, with a blank or comma between: they are no number, time or date.
+fn is_plain(form: &LineForm) -> bool {
+    let is_apart = match form.cycle() {
+        [Step::Octet, Step::Mark(mark), ..] => matches!(*mark, b' ' | b','),
+        _ => false,
+    };
+    is_apart && form.digits() == Digits::Pairs && form.rows == LineRows::One && !is_cut(form)
+}
+
+/// Returns whether each line of a log is a message of a form, and a poll.
+fn are_polls_alone(form: &LineForm, evidence: &Evidence, log: Log) -> bool {
+    evidence.are_polls_alone
+        && evidence.frames == evidence.there
+        && evidence.frames as usize == log.written
+        && is_plain(form)
+}
+
+/// Returns whether two forms show each other: one has commands and the other one answers, a word tells them apart, and in a log of a
+/// few lines that has ended there is nothing else.
+pub(crate) fn are_both(one: &LineForm, its: &Evidence, other: &LineForm, own: &Evidence, log: Log) -> bool {
+    let count = its.frames.saturating_add(own.frames);
+    let are_whole = its.frames == its.there && own.frames == own.there;
+    let are_ends = its.commands == its.frames && own.commands == 0;
+    log.is_few
+        && log.written <= PAIR_LINES
+        && its.frames > 0
+        && own.frames > 0
+        && count as usize == log.written
+        && are_whole
+        && are_ends
+        && its.types > 0
+        && own.types > 0
+        && is_plain(one)
+        && is_plain(other)
+        && one.cycle() == other.cycle()
+        && differs_in_a_word(one.front(), other.front())
 }

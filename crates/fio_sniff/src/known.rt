@@ -110,15 +110,25 @@ impl Known {
         })
     }
 
-    /// Returns whether the polls are those of a link.
-    pub(crate) fn are_polls(&self) -> bool {
+    /// Returns the polls.
+    fn polls(&self) -> Polls {
         let mut polls = Polls::default();
         for mark in &self.marks {
             if let Some(mark) = mark {
                 polls.add(mark);
             }
         }
-        polls.are_shown()
+        polls
+    }
+
+    /// Returns whether the polls are those of a link.
+    pub(crate) fn are_polls(&self) -> bool {
+        self.polls().are_shown()
+    }
+
+    /// Returns whether the polls may be those of a log with nothing else.
+    pub(crate) fn are_polls_alone(&self) -> bool {
+        self.polls().are_alone()
     }
 
     /// Returns the nearest message above a line.

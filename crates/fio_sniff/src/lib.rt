@@ -22,6 +22,7 @@ mod evidence;
 mod fitting;
 mod fronts;
 mod known;
+mod leaving;
 mod likening;
 mod looking;
 mod polls;

@@ -11,11 +11,14 @@ const FIRST: usize = 2;
 /// What two looks have to agree in, of a form.
 type Seen = ArrayVec<u64, FORMS>;
 
-/// Looks at a window after 2, 4, 8, .. lines. Forms are shown once two looks in a row find the same ones.
+/// Looks at a window after 2, 4, 8, .. lines. Forms are shown once two looks in a row find the same ones; or three, if they leave
+/// octets that may be messages, the third one after half as many lines more.
 #[derive(Drop)]
 pub struct Looking {
     /// The forms of the last look.
     above: Seen,
+    /// Whether the look above that one found the same ones.
+    is_again: bool,
     /// The number of lines at the next look.
     next: usize,
 }
@@ -34,6 +37,7 @@ impl Looking {
     pub fn new() -> Looking {
         Looking {
             above: ArrayVec::new(),
+            is_again: false,
             next: FIRST,
         }
     }
@@ -41,6 +45,7 @@ impl Looking {
     /// Begins anew, with an empty window.
     pub fn clear(&mut self) {
         self.above.clear();
+        self.is_again = false;
         self.next = FIRST;
     }
 
@@ -56,8 +61,13 @@ impl Looking {
         for form in &forms {
             let _ = seen.try_push(seen_of(form));
         }
-        if !forms.is_empty() && seen.as_slice() == self.above.as_slice() {
+        let is_same = !forms.is_empty() && seen.as_slice() == self.above.as_slice();
+        if is_same && (self.is_again || !sniffer.leaves_octets(&forms, lines)) {
             return Some(forms);
+        }
+        self.is_again = is_same;
+        if is_same {
+            self.next = lines.len() + lines.len() / 2;
         }
         self.above = seen;
         None

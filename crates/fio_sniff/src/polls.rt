@@ -1,7 +1,7 @@
 //! Polls, whose numbers go up one by one: they show a log of commands alone.
 use crate::evidence::times;
 use crate::known::Mark;
-use fio_guess::table::{POLL_TENTHS, POLLS};
+use fio_guess::table::{POLL_TENTHS, POLLS, POLLS_UP};
 
 /// The type of a poll.
 const POLL: u8 = 54;
@@ -38,5 +38,12 @@ impl Polls {
         self.count as usize >= POLLS
             && times(10, self.steps) >= times(POLL_TENTHS, self.count)
             && times(4, self.rises) >= u64::from(self.count)
+    }
+
+    /// Returns whether they may be those of a log with nothing else: their number stays, or goes up one by one, and they are enough.
+    pub(crate) fn are_alone(&self) -> bool {
+        let are_up = self.rises >= self.count.saturating_sub(1);
+        let least = if are_up { POLLS_UP } else { POLLS };
+        self.steps == self.count && self.count as usize >= least
     }
 }

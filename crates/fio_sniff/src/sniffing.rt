@@ -4,17 +4,18 @@ ghost use Rattle.fio_sniff.specs.Windows.{AllFit};
 
 use crate::copies::echoes_last;
 use crate::evidence::{
-    Evidence, fits, is_copy, is_few, is_kin, is_needed, is_paired, is_shown, times,
+    Evidence, Log, are_both, fits, is_copy, is_kin, is_needed, is_paired, is_shown, log_of, times,
 };
 use crate::fitting::Fitting;
 use crate::known::Known;
+use crate::leaving::has_octets;
 use crate::likening::form_like;
 use crate::splitting::split;
 use crate::streams::Streams;
 use crate::trying::Trying;
 use crate::weighing::Weighing;
 use arrayvec::ArrayVec;
-use fio_form::{LineForm, LineRows};
+use fio_form::{LineForm, LineRows, Octets};
 use fio_guess::table::{FORMS, POLL_LINES, TRIED};
 use fio_guess::{Guesses, Window};
 
@@ -57,13 +58,13 @@ impl Sniffer {
     }
 
     /// Returns whether the lines show a form.
-    fn is_form(&self, form: &LineForm, evidence: &Evidence, forms: &[LineForm], few: bool) -> bool {
+    fn is_form(&self, form: &LineForm, evidence: &Evidence, forms: &[LineForm], log: Log) -> bool {
         if evidence.frames == 0 || !fits(form, evidence) || !is_needed(form, evidence) {
             return false;
         }
-        is_shown(form, evidence, few)
+        is_shown(form, evidence, log)
             || self.known.messages() > 0
-                && (is_paired(form, evidence, few)
+                && (is_paired(form, evidence, log)
                     || forms.iter().any(|other| is_kin(form, other, evidence)))
     }
 
@@ -87,7 +88,7 @@ impl Sniffer {
     }
 
     /// Tries the form of a guess. If the lines show it, takes them, and keeps the form.
-    fn try_form(&mut self, at: usize, lines: &Window, forms: &mut Forms, few: bool) -> bool {
+    fn try_form(&mut self, at: usize, lines: &Window, forms: &mut Forms, log: Log) -> bool {
         let Some(tried) = self.trying.get(at) else {
             return false;
         };
@@ -100,7 +101,7 @@ impl Sniffer {
             Some((less, weight)) => (less, weight),
             None => (form, tried.evidence),
         };
-        if !self.is_form(&form, &evidence, forms, few) {
+        if !self.is_form(&form, &evidence, forms, log) {
             return false;
         }
         form.is_echo = is_copy(&evidence);
@@ -110,13 +111,13 @@ impl Sniffer {
     }
 
     /// Finds the best form, and takes its lines; returns whether there was one.
-    fn next_form(&mut self, lines: &Window, forms: &mut Forms, few: bool) -> bool {
+    fn next_form(&mut self, lines: &Window, forms: &mut Forms, log: Log) -> bool {
         self.trying.weigh(&mut self.weighing, lines, &self.known);
         for _ in 0..TRIED {
             let Some(best) = self.trying.best() else {
                 return false;
             };
-            if self.try_form(best, lines, forms, few) {
+            if self.try_form(best, lines, forms, log) {
                 return true;
             }
             self.trying.refuse(best);
@@ -125,13 +126,52 @@ impl Sniffer {
     }
 
     /// Finds forms of the lines that no form has.
-    fn search(&mut self, lines: &Window, forms: &mut Forms, is_anywhere: bool, few: bool) {
+    fn search(&mut self, lines: &Window, forms: &mut Forms, is_anywhere: bool, log: Log) {
         self.choose(lines, is_anywhere);
         for _ in 0..FORMS {
-            if forms.is_full() || !self.next_form(lines, forms, few) {
+            if forms.is_full() || !self.next_form(lines, forms, log) {
                 return;
             }
         }
+    }
+
+    /// Returns the two forms that show each other, with the best rank of the first one; none if there are none.
+    fn pair_of(&mut self, lines: &Window, log: Log) -> Forms {
+        let mut pair: Forms = ArrayVec::new();
+        self.choose(lines, false);
+        self.trying.weigh(&mut self.weighing, lines, &self.known);
+        for _ in 0..TRIED {
+            let Some(best) = self.trying.best() else {
+                break;
+            };
+            if self.add_pair(best, lines, &mut pair, log) {
+                break;
+            }
+            self.trying.refuse(best);
+        }
+        pair
+    }
+
+    /// Adds the form of a guess and another one, if they show each other; returns whether they do.
+    fn add_pair(&self, at: usize, lines: &Window, pair: &mut Forms, log: Log) -> bool {
+        let Some(tried) = self.trying.get(at) else {
+            return false;
+        };
+        let Some(form) = tried.guess.form(lines) else {
+            return false;
+        };
+        for other in 0..TRIED {
+            if let Some(its) = self.trying.get(other) {
+                if let Some(answers) = its.guess.form(lines) {
+                    if are_both(&form, &tried.evidence, &answers, &its.evidence, log)
+                        || are_both(&answers, &its.evidence, &form, &tried.evidence, log)
+                    {
+                        return pair.try_push(form).is_ok() && pair.try_push(answers).is_ok();
+                    }
+                }
+            }
+        }
+        false
     }
 
     /// Returns whether a stream of so many messages says more than forms.
@@ -153,22 +193,26 @@ impl Sniffer {
     /// Returns the forms that show, or those of a stream if it says more; none if they read commands alone.
     fn guessed(&mut self, lines: &Window, is_ended: bool) -> Forms {
         let mut found: Forms = ArrayVec::new();
-        let few = is_few(lines.len(), is_ended);
+        let log = log_of(lines, is_ended);
         self.known.clear();
-        self.search(lines, &mut found, false, few);
+        self.search(lines, &mut found, false, log);
         if self.known.lines().saturating_mul(2) < lines.len() {
-            self.search(lines, &mut found, true, few);
+            self.search(lines, &mut found, true, log);
+        }
+        if found.is_empty() && log.is_few {
+            found = self.pair_of(lines, log);
         }
         let forms = echoes_last(&mut self.weighing, &mut self.known, lines, &found);
         self.take_all(lines, &forms);
         if self.known.messages().saturating_mul(2) < lines.len() {
-            let messages = self.streams.search(lines);
+            let messages = self.streams.search(lines, log.is_few);
             if self.is_stream(messages, &forms) {
                 return self.streams.forms();
             }
         }
         let is_late = is_ended || lines.len() >= POLL_LINES;
-        if self.known.has_answer() || is_late && self.known.are_polls() {
+        let is_alone = self.known.messages() == log.written && self.known.are_polls_alone();
+        if self.known.has_answer() || is_late && self.known.are_polls() || is_alone {
             forms
         } else {
             ArrayVec::new()
@@ -183,12 +227,27 @@ impl Sniffer {
         self.fitting.fitting(&forms, lines)
     }
 
+    /// Returns whether the forms that were found last leave octets that may be messages.
+    pub(crate) fn leaves_octets(&self, forms: &[LineForm], lines: &Window) -> bool {
+        let mut octets: Octets = ArrayVec::new();
+        for at in 0..lines.len() {
+            if !self.known.is_taken(at) && has_octets(forms, lines.line(at), &mut octets) {
+                return true;
+            }
+        }
+        false
+    }
+
     /// Returns the forms of sample lines, which a user gives: those that show by themselves, as rows of a dump, and for each other
     /// line the one by which it is the longest message. Nothing more has to show a form; a line that is no message gives none.
     pub fn like(&mut self, lines: &Window) -> Forms {
         let mut forms: Forms = ArrayVec::new();
         self.known.clear();
-        self.search(lines, &mut forms, false, true);
+        let log = Log {
+            is_few: true,
+            written: 0,
+        };
+        self.search(lines, &mut forms, false, log);
         for at in 0..lines.len() {
             if forms.is_full() {
                 break;

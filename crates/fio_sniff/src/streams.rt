@@ -7,7 +7,7 @@ use crate::set::Set;
 use crate::sniffing::Forms;
 use arrayvec::ArrayVec;
 use fio_form::{LineForm, LineRows, Octets, digits_of, find, is_answer, value_of};
-use fio_guess::table::{FEW_VALUES, SLOTS, STREAM, STREAM_TENTHS, SURE};
+use fio_guess::table::{FEW_VALUES, SLOTS, STREAM, STREAM_TENTHS, SURE, SURE_OF_FEW};
 use fio_guess::{Window, is_sure};
 use fio_rows::{KEPT, Next, Stream};
 use std::slice;
@@ -61,9 +61,16 @@ impl Sum {
         self.count = mark.count;
     }
 
+    /// Returns whether all octets are in messages, of which one answers the one above it.
+    fn is_whole(&self) -> bool {
+        self.every == self.messages && self.octets == self.there && self.answered > 0
+    }
+
     /// Returns how many messages the stream has, less those of its octets that are none, if that shows it, else 0.
-    fn strength(&self, sure: u32, is_flags: bool) -> u32 {
-        let is_shown = if is_flags {
+    fn strength(&self, sure: u32, is_flags: bool, is_few: bool) -> u32 {
+        let is_shown = if is_few && !is_flags && self.is_whole() {
+            sure as usize >= SURE_OF_FEW && self.messages as usize >= SURE
+        } else if is_flags {
             self.messages as usize >= SURE && times(2, self.messages) >= u64::from(self.every)
         } else {
             sure as usize >= SURE
@@ -94,6 +101,14 @@ impl Streams {
         }
     }
 
+    /// Counts the message that was divided off last.
+    fn tell(&mut self, sum: &mut Sum, count: usize) {
+        sum.tell(&self.stream.message, count);
+        if is_sure(&self.stream.message) {
+            self.sure.add(mark_of(&self.stream.message).hash);
+        }
+    }
+
     /// Counts the messages that the octets of the stream have by now.
     fn divide(&mut self, sum: &mut Sum, is_flags: bool) {
         for _ in 0..KEPT + 1 {
@@ -102,12 +117,7 @@ impl Streams {
             } else {
                 self.stream.divide()
             } {
-                Next::Message(count) => {
-                    sum.tell(&self.stream.message, count);
-                    if is_sure(&self.stream.message) {
-                        self.sure.add(mark_of(&self.stream.message).hash);
-                    }
-                }
+                Next::Message(count) => self.tell(sum, count),
                 Next::Broken(_) => sum.every = sum.every.saturating_add(1),
                 Next::Idle(_) => {}
                 Next::Wait => return,
@@ -127,7 +137,7 @@ impl Streams {
     }
 
     /// Returns how many messages the stream of some forms has if that shows it, else 0.
-    fn strength(&mut self, forms: &[LineForm], lines: &Window, is_flags: bool) -> u32 {
+    fn strength(&mut self, forms: &[LineForm], lines: &Window, is_flags: bool, is_few: bool) -> u32 {
         let mut sum = Sum::default();
         self.stream.clear();
         self.sure.clear();
@@ -139,13 +149,18 @@ impl Streams {
                 }
             }
         }
-        sum.strength(self.sure.count(), is_flags)
+        if is_few && !is_flags {
+            if let Next::Message(count) = self.stream.end() {
+                self.tell(&mut sum, count);
+            }
+        }
+        sum.strength(self.sure.count(), is_flags, is_few)
     }
 
     /// Keeps forms if their stream is the best one.
-    fn try_forms(&mut self, own: &[LineForm], lines: &Window) {
+    fn try_forms(&mut self, own: &[LineForm], lines: &Window, is_few: bool) {
         for is_flags in [true, false] {
-            let messages = self.strength(own, lines, is_flags);
+            let messages = self.strength(own, lines, is_flags, is_few);
             if messages > self.messages {
                 self.messages = messages;
                 self.best.clear();
@@ -163,8 +178,8 @@ impl Streams {
     }
 
     /// Tries forms, and the same for each value of a number that takes few.
-    fn try_all(&mut self, own: &[LineForm], lines: &Window) {
-        self.try_forms(own, lines);
+    fn try_all(&mut self, own: &[LineForm], lines: &Window, is_few: bool) {
+        self.try_forms(own, lines, is_few);
         for number in 0..SLOTS {
             let values = values_of(own, number, lines);
             if values.len() > 1 && values.len() <= FEW_VALUES {
@@ -173,19 +188,19 @@ impl Streams {
                     for form in own {
                         let _ = narrow.try_push(with_value(form, number, *value));
                     }
-                    self.try_forms(&narrow, lines);
+                    self.try_forms(&narrow, lines, is_few);
                 }
             }
         }
     }
 
-    /// Searches the best stream; returns its messages.
-    pub(crate) fn search(&mut self, lines: &Window) -> u32 {
+    /// Searches the best stream; returns its messages. `is_few`: the lines are a short log, which has ended.
+    pub(crate) fn search(&mut self, lines: &Window, is_few: bool) -> u32 {
         self.messages = 0;
         self.best.clear();
         let forms = self.counting.candidates(lines);
         for form in &forms {
-            self.try_all(slice::from_ref(form), lines);
+            self.try_all(slice::from_ref(form), lines, is_few);
         }
         for (at, one) in forms.iter().enumerate() {
             for (other, two) in forms.iter().enumerate() {
@@ -194,7 +209,7 @@ impl Streams {
                     && one.cycle() == two.cycle()
                     && differs_in_a_word(one.front(), two.front())
                 {
-                    self.try_all(&[one.copied(), two.copied()], lines);
+                    self.try_all(&[one.copied(), two.copied()], lines, is_few);
                 }
             }
         }

@@ -113,7 +113,9 @@ impl Tally {
         }
         let is_long = message.len() >= LOOSE_OCTETS;
         let evidence = &mut self.evidence;
-        evidence.short = evidence.short.saturating_add(u32::from(written.has_short));
+        let is_short = written.has_short && !written.has_zero;
+        evidence.zeros = evidence.zeros.saturating_add(u32::from(written.has_zero));
+        evidence.short = evidence.short.saturating_add(u32::from(is_short));
         evidence.signs = evidence.signs.saturating_add(u32::from(written.has_sign));
         evidence.long = evidence.long.saturating_add(u32::from(is_long));
         evidence.blanks = evidence
@@ -132,6 +134,7 @@ impl Tally {
             sure_types: count_of(&self.sure_types),
             types: count_of(&self.types),
             are_polls: self.polls.are_shown(),
+            are_polls_alone: self.polls.are_alone(),
             ..self.evidence
         }
     }
