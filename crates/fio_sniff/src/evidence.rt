@@ -2,8 +2,8 @@
 use crate::fronts::differs_in_a_word;
 use fio_form::{Digits, LineForm, LineRows, Piece, Step};
 use fio_guess::table::{
-    COPY_FIFTHS, CUT_SHARE, FEW, KIN, KIN_HUNDREDTHS, LOOSE_SHARE, PAIR_LINES, PAIR_TENTHS, PAIRS, POLL_LINES,
-    SPLIT_TENTHS, SURE, SURE_OF_FEW, SURE_SHARE,
+    COPY_FIFTHS, CUT_SHARE, FEW, KIN, KIN_HUNDREDTHS, LOOSE_SHARE, PAIR_LINES, PAIR_TENTHS, PAIRS,
+    POLL_LINES, SPLIT_TENTHS, SURE, SURE_OF_FEW, SURE_SHARE,
 };
 use fio_guess::{Window, hash_of};
 
@@ -202,7 +202,11 @@ pub(crate) struct Log {
 fn written_in(lines: &Window) -> usize {
     let mut count: usize = 0;
     for at in 0..lines.len() {
-        if lines.line(at).iter().any(|character| !matches!(*character, b' ' | b'\t' | b'\r')) {
+        if lines
+            .line(at)
+            .iter()
+            .any(|character| !matches!(*character, b' ' | b'\t' | b'\r'))
+        {
             count = count.saturating_add(1);
         }
     }
@@ -240,7 +244,13 @@ fn are_polls_alone(form: &LineForm, evidence: &Evidence, log: Log) -> bool {
 
 /// Returns whether two forms show each other: one has commands and the other one answers, a word tells them apart, and in a log of a
 /// few lines that has ended there is nothing else.
-pub(crate) fn are_both(one: &LineForm, its: &Evidence, other: &LineForm, own: &Evidence, log: Log) -> bool {
+pub(crate) fn are_both(
+    one: &LineForm,
+    its: &Evidence,
+    other: &LineForm,
+    own: &Evidence,
+    log: Log,
+) -> bool {
     let count = its.frames.saturating_add(own.frames);
     let are_whole = its.frames == its.there && own.frames == own.there;
     let are_ends = its.commands == its.frames && own.commands == 0;

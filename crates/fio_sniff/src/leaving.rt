@@ -4,7 +4,10 @@ use fio_guess::may_begin;
 
 /// Returns whether a line has octets in the notation of a form, two or more, that may be a message or begin one.
 fn has_octets_as(form: &LineForm, line: &[u8], octets: &mut Octets) -> bool {
-    if matches!(form.digits(), Digits::Text(_) | Digits::Cells | Digits::Sextets) {
+    if matches!(
+        form.digits(),
+        Digits::Text(_) | Digits::Cells | Digits::Sextets
+    ) {
         return false;
     }
     for place in 0..line.len() {

@@ -137,7 +137,13 @@ impl Streams {
     }
 
     /// Returns how many messages the stream of some forms has if that shows it, else 0.
-    fn strength(&mut self, forms: &[LineForm], lines: &Window, is_flags: bool, is_few: bool) -> u32 {
+    fn strength(
+        &mut self,
+        forms: &[LineForm],
+        lines: &Window,
+        is_flags: bool,
+        is_few: bool,
+    ) -> u32 {
         let mut sum = Sum::default();
         self.stream.clear();
         self.sure.clear();
