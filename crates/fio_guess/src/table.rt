@@ -24,8 +24,6 @@ pub const COPY_FIFTHS: usize = 4;
 pub const LOOSE_SHARE: usize = 4;
 /// Of a notation with or without blanks, messages of so many octets count.
 pub const LOOSE_OCTETS: usize = 3;
-/// Pieces have to show more sure messages than other rows, by one of so many: of a line that was cut and the one below it they make one.
-pub const CUT_SHARE: u32 = 8;
 /// Commands alone are shown by so many polls.
 pub const POLLS: usize = 8;
 /// So many tenths of them have the number of the one above or one more.

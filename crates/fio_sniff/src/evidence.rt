@@ -2,8 +2,8 @@
 use crate::fronts::differs_in_a_word;
 use fio_form::{Digits, LineForm, LineRows, Piece, Step};
 use fio_guess::table::{
-    COPY_FIFTHS, CUT_SHARE, FEW, KIN, KIN_HUNDREDTHS, LOOSE_SHARE, PAIR_LINES, PAIR_TENTHS, PAIRS,
-    POLL_LINES, SPLIT_TENTHS, SURE, SURE_OF_FEW, SURE_SHARE,
+    COPY_FIFTHS, FEW, KIN, KIN_HUNDREDTHS, LOOSE_SHARE, PAIR_LINES, PAIR_TENTHS, PAIRS, POLL_LINES,
+    SPLIT_TENTHS, SURE, SURE_OF_FEW, SURE_SHARE,
 };
 use fio_guess::{Window, hash_of};
 
@@ -82,10 +82,11 @@ pub(crate) fn is_needed(form: &LineForm, evidence: &Evidence) -> bool {
     let is_mixed = evidence.long > 0
         && times(LOOSE_SHARE, evidence.blanks) >= u64::from(evidence.long)
         && times(LOOSE_SHARE, evidence.glued) >= u64::from(evidence.long);
+    let has_short_digits = matches!(form.digits(), Digits::Short | Digits::Prefixed);
     let is_short = evidence.signs > 0
         || evidence.short > evidence.zeros
             && times(LOOSE_SHARE, evidence.short) >= u64::from(evidence.frames);
-    (!is_loose || is_mixed) && (form.digits() != Digits::Short || is_short)
+    (!is_loose || is_mixed) && (!has_short_digits || is_short)
 }
 
 /// Returns whether messages show a form by themselves.
@@ -168,13 +169,8 @@ fn rows_rank(rows: LineRows) -> u8 {
 /// Returns the rank of a form.
 pub(crate) fn rank_of(form: &LineForm, evidence: &Evidence) -> Rank {
     let cut = u64::from(form.before) + 2 * u64::from(form.after);
-    // a line that was cut, and the one below it, are the message of two pieces
-    let less = match form.rows {
-        LineRows::Pieces => evidence.sure / CUT_SHARE,
-        _ => 0,
-    };
     Rank {
-        sure: evidence.sure.saturating_sub(less),
+        sure: evidence.sure,
         messages: 8 * u64::from(evidence.frames) + 1024 - cut,
         is_short: 255 - form.after,
         rows: rows_rank(form.rows),
@@ -189,12 +185,14 @@ pub(crate) fn rank_of(form: &LineForm, evidence: &Evidence) -> Rank {
     }
 }
 
-/// The log of a window, as far as it tells what shows a form.
+/// What the lines of a window are of a log.
 #[derive(Clone, Copy)]
 pub(crate) struct Log {
     /// Whether it has ended, and is so short that less shows a form.
     pub(crate) is_few: bool,
-    /// The number of lines that are not blank, if it has ended or the window has many; else 0.
+    /// Whether it has ended, or the window has many lines.
+    pub(crate) is_late: bool,
+    /// Then the number of lines that are not blank, else 0.
     pub(crate) written: usize,
 }
 
@@ -215,13 +213,11 @@ fn written_in(lines: &Window) -> usize {
 
 /// Returns what the lines of a window are of a log; `is_ended`: they are all of it.
 pub(crate) fn log_of(lines: &Window, is_ended: bool) -> Log {
+    let is_late = is_ended || lines.len() >= POLL_LINES;
     Log {
         is_few: is_ended && lines.len() <= FEW,
-        written: if is_ended || lines.len() >= POLL_LINES {
-            written_in(lines)
-        } else {
-            0
-        },
+        is_late,
+        written: if is_late { written_in(lines) } else { 0 },
     }
 }
 

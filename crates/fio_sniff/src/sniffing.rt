@@ -16,7 +16,7 @@ use crate::trying::Trying;
 use crate::weighing::Weighing;
 use arrayvec::ArrayVec;
 use fio_form::{LineForm, LineRows, Octets};
-use fio_guess::table::{FORMS, POLL_LINES, TRIED};
+use fio_guess::table::{FORMS, TRIED};
 use fio_guess::{Guesses, Window};
 
 /// The forms of some lines: of those that have a line the first one counts. Forms whose messages repeat those of others are last.
@@ -190,6 +190,12 @@ impl Sniffer {
         }
     }
 
+    /// Returns whether the messages are commands that are shown by polls.
+    fn are_polls(&self, log: Log) -> bool {
+        self.known.are_polls()
+            || self.known.messages() == log.written && self.known.are_polls_alone()
+    }
+
     /// Returns the forms that show, or those of a stream if it says more; none if they read commands alone.
     fn guessed(&mut self, lines: &Window, is_ended: bool) -> Forms {
         let mut found: Forms = ArrayVec::new();
@@ -210,16 +216,15 @@ impl Sniffer {
                 return self.streams.forms();
             }
         }
-        let is_late = is_ended || lines.len() >= POLL_LINES;
-        let is_alone = self.known.messages() == log.written && self.known.are_polls_alone();
-        if self.known.has_answer() || is_late && self.known.are_polls() || is_alone {
+        if self.known.has_answer() || log.is_late && self.are_polls(log) {
             forms
         } else {
             ArrayVec::new()
         }
     }
 
-    /// Returns the forms of the lines of a window; none if they read commands alone, unless polls show these. If the log has ended, less shows a form.
+    /// Returns the forms of the lines of a window; none if they read commands alone, unless polls show these. If the log has ended,
+    /// less shows a form.
     pub fn sniff(&mut self, lines: &Window, is_ended: bool) -> Forms
         ensures { AllFit lines.now [] result.items }
     {
@@ -245,6 +250,7 @@ impl Sniffer {
         self.known.clear();
         let log = Log {
             is_few: true,
+            is_late: false,
             written: 0,
         };
         self.search(lines, &mut forms, false, log);
