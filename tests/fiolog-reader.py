@@ -40,10 +40,8 @@ LOST = {'candump': (1, 1, 'a number and a mark before the octets are one word'),
 
 # Logs of strangers that are not read, or in part, and why.
 NOT_READ = {'Saleae, an octet a line': 'two messages, an octet a line', 'strace -x': 'short messages alone',
-            'od -An -t x1': 'a stream of a few short messages', 'tcpdump -X': 'a packet with its headers',
-            'plain text of Wireshark': 'a packet with its headers', 'jq': 'a number a line', 'JSON, all on one line': 'one line',
-            'journalctl -o json': 'one short message', 'Docker': 'one short message', 'Elixir': 'one short message',
-            '\\u': 'one short message', 'xxd -p of a stream': 'a stream of a few messages'}
+            'tcpdump -X': 'a packet with its headers', 'plain text of Wireshark': 'a packet with its headers', 'jq': 'a number a line',
+            'journalctl -o json': 'one short message', 'Docker': 'one short message', 'Elixir': 'one short message', '\\u': 'one short message'}
 
 class Read:
     """What the reader makes of a text."""

@@ -5,7 +5,7 @@ use crate::guess::{GuessPlace, is_sure, is_type};
 use crate::guesses::GuessTable;
 use crate::table::{AFTER, BEFORE, HUGE, LONG, SURE_WEIGHT};
 use crate::words::may_begin;
-use fio_form::{Digits, LineForm, Octets, framed_in, is_message, run_in};
+use fio_form::{Digits, LineForm, Octets, Step, framed_in, is_message, run_in};
 
 /// The flag between two frames of the wire.
 pub(crate) const FLAG: u8 = 0x7e;
@@ -110,19 +110,39 @@ fn add_frames(
     }
 }
 
-/// Returns whether the text before the octets of a form says a message of two octets or more in its notation. As a front it would
-/// hide them.
-pub(crate) fn is_said_before(form: &LineForm, before: &[u8], octets: &mut Octets) -> bool {
-    let digits = form.digits();
+/// Octets that are a message in the text before those of a form: where they begin, and where they end.
+#[derive(Clone, Copy)]
+pub(crate) struct Said {
+    /// Where they begin.
+    pub start: usize,
+    /// Where they end.
+    pub end: usize,
+}
+
+/// Returns the last message of two octets or more in a text, in a notation. As a part of a front it would be hidden.
+pub(crate) fn last_said(
+    before: &[u8],
+    digits: Digits,
+    cycle: &[Step],
+    octets: &mut Octets,
+) -> Option<Said>
+    ensures { IfSome result (λ said. (said.start ≤ said.end) × (said.end ≤ length before.now)) }
+{
+    let mut last = None;
     if matches!(digits, Digits::Text(_) | Digits::Cells | Digits::Sextets) {
-        return false;
+        return last;
     }
-    for at in 0..before.len() {
-        if may_begin(before, at) && run_in(digits, form.cycle(), &before[at..], octets).is_some() {
+    'places: for at in 0..before.len() {
+        if may_begin(before, at)
+            && let Some(count) = run_in(digits, cycle, &before[at..], octets)
+        {
             if octets.len() > 1 && is_message(octets) {
-                return true;
+                last = Some(Said {
+                    start: at,
+                    end: (at + count).min(before.len()),
+                });
             }
         }
     }
-    false
+    last
 }

@@ -1,6 +1,7 @@
 //! The front of a place in a line: the text before it, with its numbers masked.
 ghost use Rattle.std.specs.Prelude.{◌≡◌, ◌≤◌, ◌<◌, IfSome, length};
 
+use crate::cuts::Said;
 use crate::table::{ENDING, NEAR};
 use crate::words::{is_word, run_end};
 use arrayvec::ArrayVec;
@@ -167,6 +168,47 @@ fn ends_in_mark(front: &[Piece]) -> bool {
     match front.last() {
         Some(Piece::Character(mark)) => !is_word(*mark),
         _ => false,
+    }
+}
+
+/// Returns in how many pieces two fronts end alike.
+fn alike(one: &[Piece], other: &[Piece]) -> usize
+    ensures { result ≤ length one.now }
+{
+    let most = one.len().min(other.len());
+    for count in 0..most {
+        if one[one.len() - 1 - count] != other[other.len() - 1 - count] {
+            return count;
+        }
+    }
+    most
+}
+
+/// Returns whether a front has a character that is no blank.
+fn has_character(front: &[Piece]) -> bool {
+    for piece in front {
+        if matches!(*piece, Piece::Character(character) if character != b' ') {
+            return true;
+        }
+    }
+    false
+}
+
+/// Returns the front that octets share with a message that the line says before them: the pieces in which the texts before the two end
+/// alike. `None` if these are blanks alone.
+pub(crate) fn shared_front(line: &[u8], said: Said, end: usize, digits: Digits) -> Option<Front>
+    requires order { (said.start ≤ said.end) × (said.end ≤ end) }
+    requires within { end ≤ length line.now }
+{
+    let own = front_of(&line[said.end..], end - said.end, digits, true)?;
+    let other = front_of(line, said.start, digits, true)?;
+    let count = alike(&own, &other);
+    let mut front: Front = ArrayVec::new();
+    let _fits = front.try_extend_from_slice(&own[own.len() - count..]);
+    if has_character(&front) {
+        Some(front)
+    } else {
+        None
     }
 }
 

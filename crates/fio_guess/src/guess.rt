@@ -1,10 +1,12 @@
 //! A guess: the form of a place in a line of a window.
 
+use crate::cuts::last_said;
 use crate::cycles::cycle_of;
-use crate::fronts::front_of;
+use crate::fronts::{front_of, shared_front};
 use crate::hashes::{front_hash, hash_of, short};
 use crate::window::Window;
-use fio_form::{Digits, LineForm, LineRows, Size, Step, size_of};
+use arrayvec::ArrayVec;
+use fio_form::{Digits, LineForm, LineRows, Octets, Size, Step, size_of};
 
 /// A form of a place in a line of a window, and how often it reads a message there.
 #[derive(Clone, Copy, Debug, Default)]
@@ -81,7 +83,8 @@ impl GuessPlace {
 }
 
 /// Returns the form of octets that begin at a place of a line, with the text before them as its front. `None` if no octets begin
-/// there, or that text is no front. `cycle`: which of the cycles of the place, from 0 on.
+/// there, or that text is no front. One that says a message is none: it would be hidden; if the front may begin anywhere, the two
+/// messages have what they share. `cycle`: which of the cycles of the place, from 0 on.
 pub fn plain_form(
     line: &[u8],
     place: usize,
@@ -92,8 +95,13 @@ pub fn plain_form(
     if place > line.len() {
         return None;
     }
-    let front = front_of(line, place, digits, is_anywhere)?;
     let cycle = cycle_of(line, place, digits, cycle)?;
+    let mut octets: Octets = ArrayVec::new();
+    let front = match last_said(&line[..place], digits, &cycle, &mut octets) {
+        None => front_of(line, place, digits, is_anywhere)?,
+        Some(said) if is_anywhere => shared_front(line, said, place, digits)?,
+        Some(_said) => return None,
+    };
     let mut form = LineForm::new(&front, digits, &cycle)?;
     form.is_anywhere = is_anywhere;
     Some(form)

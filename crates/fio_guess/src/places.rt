@@ -1,7 +1,7 @@
 //! The places of a line where octets may begin, and in which notation.
 ghost use Rattle.std.specs.Prelude.{◌≡◌, ◌≤◌, ◌<◌, length};
 
-use crate::cuts::{FLAG, add_cuts, is_said_before};
+use crate::cuts::{FLAG, add_cuts};
 use crate::cycles::cycle_of;
 use crate::guess::{GuessPlace, is_type, is_words, plain_form};
 use crate::guesses::Guesses;
@@ -223,7 +223,7 @@ impl Guesses {
         let Some(mut form) = plain_form(text, place, at.digits, cycle, at.is_anywhere) else {
             return;
         };
-        if self.octets.is_empty() || is_said_before(&form, &text[..place], &mut self.held) {
+        if self.octets.is_empty() {
             return;
         }
         form.is_swapped = at.is_swapped;

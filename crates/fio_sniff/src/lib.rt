@@ -4,7 +4,7 @@
 //!   the lines (`weighing`, `tally`, `evidence`); the best one takes its lines, and the others are weighed by those that are left.
 //!   A form may hold for some values of one of its numbers only (`splitting`), may repeat the messages of others (`copies`), and
 //!   its octets may go on from line to line without end (`candidates`, `streams`).
-//! - `Looking` asks while lines come, and shows forms once two looks in a row find the same ones.
+//! - `Looking` asks while lines come, and shows forms once two looks in a row find the same ones; or three, if they leave octets.
 //! - `Sniffer::like` gives a form to each line that a user shows as a sample.
 //!
 //! # What is proved
@@ -26,6 +26,7 @@ mod leaving;
 mod likening;
 mod looking;
 mod polls;
+mod seconds;
 mod set;
 mod sniffing;
 mod splitting;

@@ -1,12 +1,17 @@
 //! Reads the lines of a window by one form.
 use crate::evidence::Evidence;
 use crate::known::Known;
+use crate::seconds::next_in;
 use crate::tally::{LineTold, Tally};
 use crate::written::Written;
-use fio_form::{LineForm, Size, is_begun, size_of};
+use arrayvec::ArrayVec;
+use fio_form::{LineForm, Octets, Size, is_begun, size_of};
 use fio_guess::Window;
 use fio_rows::{Reading, Said};
 use std::slice;
+
+/// The most messages that are counted of a line behind its first one.
+const SECONDS: usize = 8;
 
 /// What is told at a line: of octets that began above, and of those that begin or go on there.
 #[derive(Clone, Copy)]
@@ -19,6 +24,8 @@ pub(crate) struct Observed {
     pub(crate) here: LineTold,
     /// The line in which that began.
     pub(crate) first: usize,
+    /// Where its octets end in this line.
+    pub(crate) end: usize,
     /// How the octets are written of what ended above, and of this.
     written_above: Written,
     written: Written,
@@ -75,6 +82,7 @@ impl Weighing {
             first_above: self.first,
             here: LineTold::Nothing,
             first: at,
+            end: line.len(),
             written_above: self.written,
             written: self.written,
         };
@@ -103,6 +111,7 @@ impl Weighing {
         }
         heard.written = self.written;
         heard.first = self.first;
+        heard.end = said.found.end;
         heard.here = match said.said {
             Said::Frame => LineTold::Message,
             Said::Damaged => self.damage(form),
@@ -146,6 +155,9 @@ impl Weighing {
                 .tell_written(heard.above, &self.reading.ended, heard.written_above);
             self.tally
                 .tell_written(heard.here, &self.reading.message, heard.written);
+            if heard.here == LineTold::Message {
+                self.weigh_seconds(form, at, lines.line(at), heard.end, known);
+            }
         }
         let last = self.end();
         self.tally
@@ -153,6 +165,41 @@ impl Weighing {
         self.tally
             .tell_written(last, &self.reading.message, self.written);
         self.tally.evidence()
+    }
+
+    /// Counts the messages of a line behind its first one.
+    fn weigh_seconds(
+        &mut self,
+        form: &LineForm,
+        at: usize,
+        line: &[u8],
+        end: usize,
+        known: &Known,
+    ) {
+        let mut octets: Octets = ArrayVec::new();
+        let mut held: Octets = ArrayVec::new();
+        let mut from = end;
+        for _ in 0..SECONDS {
+            let Some(next) = next_in(form, line, from, &mut octets, &mut held) else {
+                return;
+            };
+            self.tally.tell(LineTold::Message, at, &octets, known);
+            from = next;
+        }
+    }
+
+    /// Keeps the last one of the messages of a line, of which the first one was kept.
+    fn take_seconds(&self, form: &LineForm, at: usize, line: &[u8], end: usize, known: &mut Known) {
+        let mut octets: Octets = ArrayVec::new();
+        let mut held: Octets = ArrayVec::new();
+        let mut from = end;
+        for _ in 0..SECONDS {
+            let Some(next) = next_in(form, line, from, &mut octets, &mut held) else {
+                return;
+            };
+            known.mark(at, &octets);
+            from = next;
+        }
     }
 
     /// Takes the lines of a form. The messages of one that repeats others are not kept.
@@ -171,6 +218,7 @@ impl Weighing {
             }
             if heard.here == LineTold::Message && !form.is_echo {
                 known.mark(heard.first, &self.reading.message);
+                self.take_seconds(form, at, lines.line(at), heard.end, known);
             }
         }
         if self.end() == LineTold::Message {
