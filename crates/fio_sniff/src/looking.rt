@@ -67,7 +67,7 @@ impl Looking {
         }
         self.is_again = is_same;
         if is_same {
-            self.next = lines.len() + lines.len() / 2;
+            self.next = lines.len().saturating_add(lines.len() / 2);
         }
         self.above = seen;
         None

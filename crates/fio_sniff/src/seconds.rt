@@ -16,7 +16,7 @@ pub(crate) fn next_in(
     }
     let found = find(form, &line[from..], octets)?;
     match whole_of(form, octets, held) {
-        Whole::Message { .. } | Whole::Any { .. } => Some(from + found.end),
+        Whole::Message { .. } | Whole::Any { .. } => Some(from.saturating_add(found.end)),
         _ => None,
     }
 }
