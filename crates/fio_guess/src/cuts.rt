@@ -128,21 +128,21 @@ pub(crate) fn last_said(
 ) -> Option<Said>
     ensures { IfSome result (λ said. (said.start ≤ said.end) × (said.end ≤ length before.now)) }
 {
-    let mut last = None;
     if matches!(digits, Digits::Text(_) | Digits::Cells | Digits::Sextets) {
-        return last;
+        return None;
     }
-    'places: for at in 0..before.len() {
-        if may_begin(before, at)
-            && let Some(count) = run_in(digits, cycle, &before[at..], octets)
+    'places: for step in 0..before.len() {
+        let start = before.len() - 1 - step;
+        if may_begin(before, start)
+            && let Some(count) = run_in(digits, cycle, &before[start..], octets)
         {
             if octets.len() > 1 && is_message(octets) {
-                last = Some(Said {
-                    start: at,
-                    end: (at + count).min(before.len()),
+                return Some(Said {
+                    start,
+                    end: start + count,
                 });
             }
         }
     }
-    last
+    None
 }

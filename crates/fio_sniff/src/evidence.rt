@@ -130,14 +130,15 @@ pub(crate) fn is_echo(evidence: &Evidence) -> bool {
 }
 
 /// Returns whether one word tells the front of a form from that of another one, and all its messages are of one end.
-pub(crate) fn is_kin(form: &LineForm, other: &LineForm, evidence: &Evidence) -> bool {
+pub(crate) fn is_kin(form: &LineForm, other: &LineForm, evidence: &Evidence, log: Log) -> bool {
+    let (messages, types) = if log.is_few { (1, 1) } else { (KIN, 2) };
     let is_one_end = evidence.commands == 0 || evidence.commands == evidence.frames;
     form.digits() == other.digits()
         && form.cycle() == other.cycle()
         && !is_cut(form)
-        && evidence.types > 1
+        && evidence.types >= types
         && is_one_end
-        && evidence.frames as usize >= KIN
+        && evidence.frames as usize >= messages
         && times(100, evidence.frames) >= times(KIN_HUNDREDTHS, evidence.there)
         && differs_in_a_word(form.front(), other.front())
 }
@@ -192,19 +193,25 @@ pub(crate) struct Log {
     pub(crate) is_few: bool,
     /// Whether it has ended, or the window has many lines.
     pub(crate) is_late: bool,
-    /// Then the number of lines that are not blank, else 0.
+    /// Then the number of lines that are not blank, and no remarks, else 0.
     pub(crate) written: usize,
 }
 
-/// Returns the number of lines that are not blank.
+/// Returns whether a line is blank, or a remark.
+fn is_empty(line: &[u8]) -> bool {
+    for character in line {
+        if !matches!(*character, b' ' | b'\t' | b'\r') {
+            return *character == b'#';
+        }
+    }
+    true
+}
+
+/// Returns the number of lines that are not blank, and no remarks.
 fn written_in(lines: &Window) -> usize {
     let mut count: usize = 0;
     for at in 0..lines.len() {
-        if lines
-            .line(at)
-            .iter()
-            .any(|character| !matches!(*character, b' ' | b'\t' | b'\r'))
-        {
+        if !is_empty(lines.line(at)) {
             count = count.saturating_add(1);
         }
     }
@@ -221,21 +228,23 @@ pub(crate) fn log_of(lines: &Window, is_ended: bool) -> Log {
     }
 }
 
-/// Returns whether octets have two digits each, with a blank or comma between: they are no number, time or date.
+/// Returns whether octets have two digits each, with a blank or comma between or nothing, and a message is one line.
 fn is_plain(form: &LineForm) -> bool {
-    let is_apart = match form.cycle() {
+    let is_gap = match form.cycle() {
+        [Step::Octet] => true,
         [Step::Octet, Step::Mark(mark), ..] => matches!(*mark, b' ' | b','),
         _ => false,
     };
-    is_apart && form.digits() == Digits::Pairs && form.rows == LineRows::One && !is_cut(form)
+    is_gap && form.digits() == Digits::Pairs && form.rows == LineRows::One && !is_cut(form)
 }
 
-/// Returns whether each line of a log is a message of a form, and a poll.
+/// Returns whether each line of a log is a message of a form, and a poll. Without a gap it might be a number.
 fn are_polls_alone(form: &LineForm, evidence: &Evidence, log: Log) -> bool {
     evidence.are_polls_alone
         && evidence.frames == evidence.there
         && evidence.frames as usize == log.written
         && is_plain(form)
+        && form.cycle().len() > 1
 }
 
 /// Returns whether two forms show each other: one has commands and the other one answers, a word tells them apart, and in a log of a

@@ -65,7 +65,7 @@ impl Sniffer {
         is_shown(form, evidence, log)
             || self.known.messages() > 0
                 && (is_paired(form, evidence, log)
-                    || forms.iter().any(|other| is_kin(form, other, evidence)))
+                    || forms.iter().any(|other| is_kin(form, other, evidence, log)))
     }
 
     /// Returns a form for some values of a number, and what the lines say for it, if those lines fit better than all of the form.

@@ -6,7 +6,7 @@ use crate::known::mark_of;
 use crate::set::Set;
 use crate::sniffing::Forms;
 use arrayvec::ArrayVec;
-use fio_form::{LineForm, LineRows, Octets, digits_of, find, is_answer, value_of};
+use fio_form::{Digits, LineForm, LineRows, Octets, digits_of, find, is_answer, value_of};
 use fio_guess::table::{FEW_VALUES, SLOTS, STREAM, STREAM_TENTHS, SURE, SURE_OF_FEW};
 use fio_guess::{Window, is_sure};
 use fio_rows::{KEPT, Next, Stream};
@@ -165,6 +165,7 @@ impl Streams {
 
     /// Keeps forms if their stream is the best one.
     fn try_forms(&mut self, own: &[LineForm], lines: &Window, is_few: bool) {
+        let is_few = is_few && own.iter().all(|form| form.digits() == Digits::Pairs);
         for is_flags in [true, false] {
             let messages = self.strength(own, lines, is_flags, is_few);
             if messages > self.messages {
