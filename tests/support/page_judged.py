@@ -47,7 +47,7 @@ LOGS = [
      {'losses_of_sync': 1}),
     ('a breach below the poll below a restart', BACK + '> 3602\n< b60300000000000c\n', 'broken',
      ['Line 6 breaks the rule number', 'Line 4: ' + RESTARTED], {'losses_of_sync': 2}),
-    ('a watchdog that is forgotten', '> 3a32\n< ba00\n> 3a32\n< ba00\n', 'restarted', ['Line 4: the module restarted, or forgot its watchdog'], {'losses_of_sync': 1}),
+    ('a watchdog that is forgotten', LATER + '> 3a32\n< ba00\n> 3a32\n< ba00\n', 'restarted', ['Line 6: the module restarted, or forgot its watchdog'], {'losses_of_sync': 1}),
     ('a load that was sent', LATER + LOAD + DONE + EARLIER, 'partly', ['in the 5 messages that'], {'frames_below_loads': 1, 'losses_of_sync': 1}),
     ('a load that a lost line may have been', LATER + CUT + DONE + EARLIER + STATUS + '> 3602\n< b60200000000000c\n', 'partly', ['in the 5 messages that'],
      {'frames_below_loads': 1, 'losses_of_sync': 2, 'frames_at_losses_of_sync': 3}),
@@ -62,21 +62,21 @@ LOGS = [
     ('a log with a bad line', '> 36ff\n> 36f\n< b6ff010000010200000001\n> 3600\n< b600000000000002\n', 'partly',
      ['1 line could not be read as a message and is not judged'], {'losses_of_sync': 1, 'frames_at_losses_of_sync': 1}),
     ('a log of the bus', '3605\nb605000000000001\n3605\n', 'partly', ['1 message is not judged, since this log was not taken at the CPU'], {'frames_not_at_the_cpu': 1}),
-    ('answers below a breach', '> 36ff\n< b605000000000001\n< b605000000000001\n', 'broken',
+    ('answers below a breach', '> 36fe\n< b6fe000000000001\n> 36ff\n< b605000000000001\n< b605000000000001\n', 'broken',
      ['1 loss of sync, at a breach: 1 message from there to the next poll is not judged'], {'losses_of_sync': 1, 'frames_at_losses_of_sync': 1}),
     ('an answer alone', 'b605018c4121000000416a\n', 'unjudged', ['1 message above the first command is not judged'], {'frames_above_a_command': 1}),
     ('a log that begins with an answer', '< b605000000000001\n> 3606\n< b606000000000002\n', 'partly', ['1 message above the first command is not judged'],
      {'frames_above_a_command': 1}),
     ('a breach above the first poll', '> 34\n< b605000000000001\n> 3606\n< b606000000000002\n', 'broken', ['in the middle of traffic'], {'losses_of_sync': 1}),
-    ('one poll, over and over', '> 3605\n' * 4, 'partly', ['No answer came: the module is silent, or its direction was not logged'], {}),
+    ('one poll, over and over', '> 33010c0503\n' + '> 3605\n' * 4, 'partly', ['No answer came: the module is silent, or its direction was not logged'], {}),
     ('a line that may be a message', 'TX 36 05\nRX B6 05 00 00 00 00 00 01\nmemory at b6 05 00 00\nRX B6 05 00 02 00 00 00 01\nTX 36 06\n', 'partly',
      ['1 line may be a message, and has no form of this log'], {'losses_of_sync': 1, 'frames_at_losses_of_sync': 1}),
     ('octets beside a message', 'TX 36 05\nRX B6 05 00 00 00 00 00 01\nTX 36 06\nRX B6 06 00 00 00 00 00 02 and b6 09 00\nTX 36 09\n', 'partly',
      ['1 line could not be read as a message and is not judged'], {'losses_of_sync': 1, 'frames_at_losses_of_sync': 1}),
-    ('a log of which less than half is judged', '> 3605\n' + '> 36f\n' * 3 + '< b605000000000001\n', 'unjudged', ['3 lines could not be read'],
-     {'losses_of_sync': 1, 'frames_at_losses_of_sync': 1}),
+    ('a log of which less than half is judged', '> 3605\n< b605000000000001\n> 36f\n' + STATUS * 2, 'unjudged', ['1 line could not be read'],
+     {'losses_of_sync': 1, 'frames_at_losses_of_sync': 4}),
     ('a log of the other end', '07:15:02.100 RX 36 05\n07:15:02.106 TX B6 05 00 00 00 00 00 01\n', 'good', [], {}),
-    ('commands alone', ''.join('> 36%02x\n' % number for number in range(5)), 'unjudged', ['This log has the commands alone'], {}),
+    ('commands alone', ''.join('> 36%02x\n' % number for number in range(8)), 'unjudged', ['This log has the commands alone'], {}),
     ('answers alone', ''.join('< b6%02x000000000001\n' % number for number in range(5)), 'unjudged', ['This log has the answers alone'], {}),
 ]
 
@@ -98,8 +98,8 @@ def check_logs(check, browser, _):
 
 def check_sources(check, browser, _):
     """Beside a breach are the sources of its rule, as docs/PROTOCOL.md has them of the answer to a load, and of a block's number."""
-    for name, text, words in (('a load that is refused', '> 32000000ff\n< b201\n', 'Source: behaviour own profile, layout own profile.'),
-                              ('another number', '> 3605\n< b6060000000003e8\n', 'Source: behaviour TEES 2009, layout TEES 2009.')):
+    for name, text, words in (('a load that is refused', LATER + '> 32000000ff\n< b201\n', 'Source: behaviour own profile, layout own profile.'),
+                              ('another number', LATER + '> 3601\n< b6020000000003e8\n', 'Source: behaviour TEES 2009, layout TEES 2009.')):
         pasted(browser, text)
         browser.click('#first-breach')
         check.equal('the sources: ' + name, words, words_in(browser, '#rule-source'))

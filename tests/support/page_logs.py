@@ -100,7 +100,7 @@ ROUNDS = ['> 36%02x\n< b6%02x0000%08x\n' % (number, number, number) for number i
 def check_unsure(check, browser, _):
     """A line of no form that may be a message is shown; a damaged line is shown as it is written, and accuses nobody up to the next poll;
     a breach below is found."""
-    kind, says = verdict_on(browser, ''.join(ROUNDS) + 'memory at b6 05 00 00\n')
+    kind, says = verdict_on(browser, ''.join(ROUNDS) + 'memory at b6050000\n')
     check.equal('a line of no form', [[17, False, '', True, '']], by_page({'rows': browser.run(CELLS), 'note': ''})[0][16:])
     check.holds('it is not judged', kind == 'partly' and '1 line may be a message' in says, (kind, says))
     poll, answer = ROUNDS[3].splitlines()

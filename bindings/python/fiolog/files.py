@@ -28,11 +28,14 @@ def kind_of(first):
     """The kind of a file by its first octets; None for a text that may be a log."""
     first = first[:WINDOW]
     found = next((kind for kind, pattern in _PATTERNS.items() if pattern.search(first)), None)
-    return found or ('binary' if _is_binary(first) else None)
+    return found or ('binary' if is_binary(first) else None)
 
 
-def _is_binary(octets):
-    """Whether octets are no text: one in ten is a control character or no UTF-8."""
+def is_binary(octets):
+    """Whether octets are no text: all of them are 0, or of the others one in ten is a control character or no UTF-8."""
+    if octets and not octets.strip(b'\0'):
+        return True
+    octets = octets.replace(b'\0', b'')
     strange = len(octets) - len(octets.translate(None, _CONTROLS)) + octets.decode('utf-8', 'replace').count('\ufffd')
     return 10 * strange > len(octets)
 

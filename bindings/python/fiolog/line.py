@@ -8,7 +8,7 @@ import fio2070
 from fio2070.constants import WIRE_ADDRESS, WIRE_CONTROL
 
 from .batch import DAMAGED, OTHER, Line, frame_of, made_of
-from .files import kind_of
+from .files import is_binary
 from .log_words import LINE
 from .message import direction_of
 from .options import BITS, HIGH_FIRST, OCTETS
@@ -84,7 +84,7 @@ class Beginning:
             return BITS if _ANY_BIT.search(self.held, 0, WINDOW) else ''
         if self.frames and self.frames >= self.damaged:
             return OCTETS
-        return ROWS if kind_of(self.held) == 'binary' else ''
+        return ROWS if is_binary(self.held) else ''
 
     def _form_by(self, piece):
         """What this piece of a line shows."""

@@ -43,10 +43,10 @@ function isText(octets) {
   }
 }
 
-// Whether octets are no text: one of them is 0, or one in ten is a control character or no UTF-8.
+// Whether octets are no text: all of them are 0, or of the others one in ten is a control character or no UTF-8.
 function isBinary(octets) {
-  const text = new TextDecoder().decode(octets), strange = text.match(/[\x01-\x08\x0b\x0e-\x1a\x1c-\x1f\ufffd]/g) || [];
-  return text.includes('\0') || 10 * strange.length > octets.length;
+  const text = new TextDecoder().decode(octets.filter((octet) => octet !== 0)), strange = text.match(/[\x01-\x08\x0b\x0e-\x1a\x1c-\x1f\ufffd]/g) || [];
+  return text === '' ? octets.length > 0 : 10 * strange.length > text.length;
 }
 
 // What a file is by how it begins: one of LINE_WAYS, 'octets' for another file that is no text, or '' for the lines of a log.

@@ -30,9 +30,6 @@ const WORDS = {
   'own profile': 'what this project chose where TEES 2009 leaves a choice: a device that chose otherwise breaks such a rule, and may be right',
 };
 
-// The reasons of lines that have no octets.
-const WITHOUT_OCTETS = [LOG_REASONS.noOctets, LOG_REASONS.loss, LOG_REASONS.heading];
-
 // How many lines are skipped, and why, the most frequent reasons first; and how the others are read, a sentence each.
 function passedWords({ passed, remarks }) {
   const reasons = [...passed].sort(([, one], [, other]) => other - one);
@@ -49,23 +46,25 @@ function nounOf({ summary }, name, noun) {
 
 // The octets that show what a file is.
 const SHOWING = 4096;
+// Four octets in a line.
+const HAS_OCTETS = /(?<![0-9a-z])(?:[0-9a-f]{2}[ ,:;|-]){3}[0-9a-f]{2}(?![0-9a-z])/i;
 
-// One sentence on a file, by its octets, and by whether lines of it have octets.
-function kindOf(file, hasOctets) {
+// One sentence on a file.
+function kindOf(file) {
   const first = asLatin(file.subarray(0, SHOWING)), found = Object.values(FILES).find(({ begins }) => begins.test(first));
   if (found) return `It is ${found.is}${found.act === '' ? '' : `: ${found.act}`}.`;
-  return hasOctets ? 'It is text with octets that are no message. Perhaps it is a log of another link, or the bits of its octets are in reverse order.'
+  return HAS_OCTETS.test(first) ? 'It is text with octets that are no message. Perhaps it is a log of another link, or the bits of its octets are in reverse order.'
     : 'It is text without octets of a message.';
 }
 
 // What can be read, with an example of each.
 const CAN_READ = [
-  ['Octets as hexadecimal digits, a frame a line', '36ff'],
+  ['Octets as hexadecimal digits, a frame a line', '36ff\nb6ff010000010200000001'],
   ['A transcript: > before what the CPU sent, < before what it heard', '> 36ff\n< b6ff010000010200000001'],
-  ['A log with times and directions, as terminals and analysers write it', '07:15:02.100 TX 36 05'],
+  ['A log with times and directions, as terminals and analysers write it', '07:15:02.100 TX 36 05\n07:15:02.108 RX B6 05 00 00 00 00 03 E8'],
   ['A hex dump, with or without a column of characters', '0000  b6 05 00 00 00 00 00 01'],
   ['SDLC frames with their flags; also files of a line’s octets, or of its bits as 0 and 1', '7E 14 83 36 01 E0 5D 7E 14 83 36 02 7B 6F 7E'],
-  ['A table with a header, or JSON, with a key or a column of octets', 'time,direction,data\n0.100,TX,36 05'],
+  ['A table with a header, or JSON, with a key or a column of octets', 'time,direction,data\n0.100,TX,36 05\n0.108,RX,B6 05 00 00 00 00 03 E8'],
 ];
 
 export class MessagesView {
@@ -121,8 +120,8 @@ export class MessagesView {
 
   // Says what a text is that is no log, and what can be read.
   showNoMessage(file) {
-    const { log } = this, hasOctets = [...log.passed.keys()].some((reason) => !WITHOUT_OCTETS.includes(reason));
-    this.showNone(`No message was found in ${log.name}`, element('p', { id: 'no-log-kind' }, kindOf(file, hasOctets)),
+    const { log } = this;
+    this.showNone(`No message was found in ${log.name}`, element('p', { id: 'no-log-kind' }, kindOf(file)),
       ...log.count === 0 ? [] : [element('p', {}, `${counted(log.count, 'line')} may have octets and could not be read, the first in line ${log.lines[0]}.`)],
       element('p', { id: 'no-log-passed' }, passedWords(log)),
       back(),
