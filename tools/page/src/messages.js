@@ -1,6 +1,6 @@
 // The view Messages: the verdict, what was counted, a search, the table, and the message that is selected.
 
-import { LOG_FORMS, LOG_REASONS, LOG_SIDES } from './constants.js';
+import { LOG_FORMS, LOG_SIDES } from './constants.js';
 import { byId, counted, element, saveText, say, sentence, withCommas } from './dom.js';
 import { detailOf } from './detail.js';
 import { FILES } from './files.js';
