@@ -112,7 +112,7 @@ fn add_frames(
 
 /// Octets that are a message in the text before those of a form: where they begin, and where they end.
 #[derive(Clone, Copy)]
-pub(crate) struct Said {
+pub(crate) struct Before {
     /// Where they begin.
     pub start: usize,
     /// Where they end.
@@ -125,7 +125,7 @@ pub(crate) fn last_said(
     digits: Digits,
     cycle: &[Step],
     octets: &mut Octets,
-) -> Option<Said>
+) -> Option<Before>
     ensures { IfSome result (λ said. (said.start ≤ said.end) × (said.end ≤ length before.now)) }
 {
     if matches!(digits, Digits::Text(_) | Digits::Cells | Digits::Sextets) {
@@ -137,7 +137,7 @@ pub(crate) fn last_said(
             && let Some(count) = run_in(digits, cycle, &before[start..], octets)
         {
             if octets.len() > 1 && is_message(octets) {
-                return Some(Said {
+                return Some(Before {
                     start,
                     end: start + count,
                 });

@@ -1,7 +1,7 @@
 //! The front of a place in a line: the text before it, with its numbers masked.
 ghost use Rattle.std.specs.Prelude.{◌≡◌, ◌≤◌, ◌<◌, IfSome, length};
 
-use crate::cuts::Said;
+use crate::cuts::Before;
 use crate::table::{ENDING, NEAR};
 use crate::words::{is_word, run_end};
 use arrayvec::ArrayVec;
@@ -196,7 +196,7 @@ fn has_character(front: &[Piece]) -> bool {
 
 /// Returns the front that octets share with a message that the line says before them: the pieces in which the texts before the two end
 /// alike. `None` if these are blanks alone.
-pub(crate) fn shared_front(line: &[u8], said: Said, end: usize, digits: Digits) -> Option<Front>
+pub(crate) fn shared_front(line: &[u8], said: Before, end: usize, digits: Digits) -> Option<Front>
     requires order { (said.start ≤ said.end) × (said.end ≤ end) }
     requires within { end ≤ length line.now }
 {

@@ -128,9 +128,11 @@ say_keeps form row tail state = λ e.
     let same : say form row tail state ≡ say_whole form row tail state (whole_of form state.octets) =
     by_whole form row tail state (whole_of form state.octets) (whole_here form state.octets tail fits) in
     let there : says_message (say_whole form row tail state (whole_of form state.octets)).said ≡ true =
-    sym (ap (λ (s : Rows). says_message s.said) same) ∙ e in
-    (few, sym (told form state.octets few) ∙ (whole_says form row tail state (whole_of form state.octets) there
-    ∙ ap (λ (s : Rows). reading.Frame s.message) (sym same)))
+    sym (ap (λ (s : Rows). says_message s.said) same) ∙ e in (
+      few,
+      sym (told form state.octets few) ∙ (whole_says form row tail state (whole_of form state.octets) there
+          ∙ ap (λ (s : Rows). reading.Frame s.message) (sym same)),
+    )
 
 begun_with_keeps : (form : LineForm) (offset : ℕ) (tail : List ℕ) (state : Rows) → Keeps form state.octets (begun_with form offset tail state)
 begun_with_keeps form offset tail state =
