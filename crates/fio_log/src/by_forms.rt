@@ -4,7 +4,7 @@ ghost use Rattle.fio_log.specs.Verdicts.{Agrees, has_reason};
 ghost use Rattle.fio_log.specs.declared.verdict.Kind.TheVariants.{Frames};
 
 use crate::counts::{Counts, ReadAs};
-use crate::heading::Heading;
+use crate::heading::{Heading, LineAbove};
 use crate::lines::NumberedLine;
 use crate::quiet::is_plain_quiet;
 use crate::rows::{MessageRows, StreamRows};
@@ -26,8 +26,11 @@ pub(crate) struct LineHeard {
     pub goes_on: bool,
     /// Whether it is longer than a line that is kept.
     pub is_long: bool,
+    /// Whether a part of it is gone.
+    pub has_gap: bool,
 }
 
+mod streams;
 mod telling;
 
 /// Reads lines by forms.
@@ -41,7 +44,7 @@ pub(crate) struct FormReader {
     stream: Stream,
     /// The rows of the octets of the stream that are in no message yet.
     stream_rows: StreamRows,
-    heading: Heading,
+    above: LineAbove,
     /// What is said of the message that is open.
     begun: Heading,
     /// The last frame.
@@ -97,7 +100,7 @@ impl FormReader {
             rows: MessageRows::new(),
             stream: Stream::new(),
             stream_rows: StreamRows::new(),
-            heading: Heading::new(),
+            above: LineAbove::new(),
             begun: Heading::new(),
             last: ArrayVec::new(),
             octets: ArrayVec::new(),
@@ -116,7 +119,7 @@ impl FormReader {
         self.rows.clear();
         self.stream.clear();
         self.stream_rows.clear();
-        self.heading = Heading::new();
+        self.above.clear();
         self.begun = Heading::new();
         self.last.clear();
         self.shapes.clear();
@@ -162,6 +165,7 @@ impl FormReader {
     pub(crate) fn adopt(&mut self, forms: &[LineForm]) {
         let mut kept: Forms = ArrayVec::new();
         let mut counts = Counts::new();
+        counts.copy_others(&self.counts);
         for (at, form) in self.forms.iter().enumerate() {
             if at < self.given && kept.try_push(form.copied()).is_ok() {
                 counts.add_from(&self.counts, at);
@@ -199,7 +203,8 @@ impl FormReader {
     /// Hears what a line says, after the line above it.
     pub(crate) fn hear(&mut self, line: NumberedLine) -> LineHeard {
         let was_open = self.reading.is_open();
-        let said = if line.is_long {
+        let has_gap = line.has_gap();
+        let said = if line.is_long || has_gap {
             self.reading.skip()
         } else {
             self.reading.read(&self.forms, line.text)
@@ -208,11 +213,13 @@ impl FormReader {
             && !said.is_broken
             && !said.is_ended
             && matches!(said.said, Said::Frame | Said::Part | Said::Damaged)
-            && !line.is_long;
+            && !line.is_long
+            && !has_gap;
         LineHeard {
             said,
             goes_on,
             is_long: line.is_long,
+            has_gap,
         }
     }
 

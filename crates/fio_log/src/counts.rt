@@ -1,4 +1,5 @@
 //! What is counted of the lines of each form, and how it looks.
+use crate::ends::Ends;
 use arrayvec::ArrayVec;
 use fio_form::Found;
 use fio_guess::table::FORMS;
@@ -28,25 +29,33 @@ pub(crate) struct Count {
     from: u64,
     lines: u64,
     damaged: u64,
+    ends: Ends,
 }
 
 /// What is counted of all forms.
 #[derive(Drop)]
 pub(crate) struct Counts {
     all: ArrayVec<Count, FORMS>,
+    /// How many lines have no octets, and no form.
+    others: u64,
 }
+
+/// A log has nearly nothing but lines of forms if at most one of so many lines is another one.
+const PURE: u64 = 16;
 
 impl Counts {
     /// Returns counts of no forms.
     pub(crate) fn new() -> Counts {
         Counts {
             all: ArrayVec::new(),
+            others: 0,
         }
     }
 
     /// Takes all forms out.
     pub(crate) fn clear(&mut self) {
         self.all.clear();
+        self.others = 0;
     }
 
     /// Appends the counts of one more form.
@@ -56,7 +65,36 @@ impl Counts {
             from: 0,
             lines: 0,
             damaged: 0,
+            ends: Ends::new(),
         });
+    }
+
+    /// Takes the number of other lines from others.
+    pub(crate) fn copy_others(&mut self, other: &Counts) {
+        self.others = other.others;
+    }
+
+    /// Counts a line without octets that no form has.
+    pub(crate) fn count_other(&mut self) {
+        self.others = self.others.saturating_add(1);
+    }
+
+    /// Returns whether a line that no form has is a part of one, in a log that has nearly nothing else: it begins as the lines of a
+    /// form do and does not end so, or ends as they do and does not begin so.
+    pub(crate) fn has_part(&self, line: &[u8]) -> bool {
+        let mut lines: u64 = 0;
+        for count in self.all.as_slice() {
+            lines = lines.saturating_add(count.lines);
+        }
+        if self.others > lines / PURE {
+            return false;
+        }
+        for count in self.all.as_slice() {
+            if count.ends.are_parted(line) {
+                return true;
+            }
+        }
+        false
     }
 
     /// Appends the counts that another one has of a form; those of no lines if it has none.
@@ -70,6 +108,7 @@ impl Counts {
             to.from = from.from;
             to.lines = from.lines;
             to.damaged = from.damaged;
+            to.ends.copy(&from.ends);
         }
     }
 
@@ -95,6 +134,8 @@ impl Counts {
         count.lines = count.lines.saturating_add(1);
         if is_damaged {
             count.damaged = count.damaged.saturating_add(1);
+        } else {
+            count.ends.take(line);
         }
     }
 

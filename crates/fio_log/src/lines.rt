@@ -15,6 +15,8 @@ pub const LINE_OCTETS: usize = 65_536;
 enum Held {
     /// Nothing is held.
     Nothing,
+    /// A NUL.
+    Nul,
     /// An escape.
     Escape,
     /// A colour sequence.
@@ -33,7 +35,7 @@ impl Held {
         ensures { result.now ≡ held_octets self }
     {
         match self {
-            Held::Nothing | Held::Colour => b"",
+            Held::Nothing | Held::Nul | Held::Colour => b"",
             Held::Escape => b"\x1b",
             Held::NoBreak => b"\xc2",
             Held::Mark => b"\xef",
@@ -46,6 +48,7 @@ impl Held {
         ensures { result.now ≡ held_text self }
     {
         match self {
+            Held::Nul => b"\0",
             Held::NoBreak => b" ",
             _ => b"",
         }
@@ -57,6 +60,7 @@ impl Held {
     {
         match self {
             Held::Nothing => false,
+            Held::Nul => octet == 0,
             Held::Escape => octet == b'[',
             Held::Colour => true,
             Held::NoBreak => octet == 0xa0,
@@ -70,6 +74,7 @@ impl Held {
         ensures { result ≡ held_next self octet }
     {
         match self {
+            Held::Nul => Held::Nul,
             Held::Escape => Held::Colour,
             Held::Colour if !octet.is_ascii_alphabetic() => Held::Colour,
             Held::Mark => Held::SecondMark,
@@ -82,6 +87,7 @@ impl Held {
         ensures { result ≡ held_first octet }
     {
         match octet {
+            0 => Held::Nul,
             0x1b => Held::Escape,
             0xc2 => Held::NoBreak,
             0xef => Held::Mark,
@@ -150,8 +156,8 @@ impl LineText {
     }
 }
 
-/// Makes lines of octets. A line ends at LF, CR LF or CR. Byte order marks, NUL and colour sequences are taken out, and a
-/// no-break space is a blank.
+/// Makes lines of octets. A line ends at LF, CR LF or CR. Byte order marks, a NUL by itself and colour sequences are taken out,
+/// and a no-break space is a blank. Of several NULs in a row all but the first stay: there is a gap in the line.
 #[derive(Drop)]
 pub struct LineMaker {
     text: LineText,
@@ -290,7 +296,7 @@ impl LineMaker {
         if self.ending != LineEnding::Open {
             return;
         }
-        if self.text.octets.is_empty() && self.held == Held::Nothing {
+        if self.text.octets.is_empty() && matches!(self.held, Held::Nothing | Held::Nul) {
             self.restart();
         } else {
             self.end(LineEnding::Feed);
@@ -380,6 +386,11 @@ pub(crate) struct NumberedLine<'a> {
 }
 
 impl NumberedLine<'_> {
+    /// Returns whether a part of the line is gone: there are NULs in its place.
+    pub(crate) fn has_gap(self) -> bool {
+        self.text.contains(&0)
+    }
+
     /// Returns whether the line has nothing but blanks.
     pub(crate) fn is_blank(self) -> bool
         ensures { result ≡ is_blank_line (record { octets = self.entry.text.now; is_long = self.entry.is_long }) }

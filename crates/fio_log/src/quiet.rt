@@ -44,7 +44,7 @@ fn held_by(octets: &[u8]) -> Hidden {
 
 /// Returns whether what a text has up to a place may be octets of a notation: it is no part of a longer word, and a literal has
 /// an escape.
-fn is_run(digits: Digits, text: &[u8], end: usize) -> bool {
+pub(crate) fn is_run(digits: Digits, text: &[u8], end: usize) -> bool {
     let end = end.min(text.len());
     if let Digits::Text(_) = digits {
         return text[..end].contains(&b'\\');

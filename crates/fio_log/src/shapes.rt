@@ -99,7 +99,7 @@ fn word_at(line: &[u8], place: usize) -> (usize, bool)
 }
 
 /// Returns the sum of the shape of a line.
-fn sum_of(line: &[u8]) -> u64 {
+pub(crate) fn sum_of(line: &[u8]) -> u64 {
     let mut sum: u64 = 0xcbf2_9ce4_8422_2325;
     let mut next = 0;
     let mut above = 0;

@@ -11,17 +11,22 @@ use crate::lines::NumberedLine;
 use crate::middle::lacks_middle;
 use crate::places::Place;
 use crate::quiet::{Hidden, has_fronts, held_by_text};
-use crate::rows::StreamRow;
 use crate::second::{is_quiet_between, may_follow, second_in};
+use crate::spoilt::has_odd_digits;
 use crate::told::Told;
 use crate::verdict::{Kind, LineVerdict, Reason};
 use crate::wordings::{reason_beside_octets, reason_without_octets};
-use fio_form::{Found, LineRows, Whole};
-use fio_rows::{KEPT, Next, Said};
+use fio_form::Whole;
+use fio_rows::Said;
 
 impl FormReader {
     /// Returns the verdict on the line that was heard last, and takes its frames.
-    pub(crate) fn tell(&mut self, line: NumberedLine, heard: LineHeard, told: &mut Told) -> LineVerdict
+    pub(crate) fn tell(
+        &mut self,
+        line: NumberedLine,
+        heard: LineHeard,
+        told: &mut Told,
+    ) -> LineVerdict
         ensures agrees { Agrees result (length told.new.frames) }
         ensures words { SaysWords line.entry.text.now result.reason }
         ensures blank { result.kind ≡ Kind.Blank → is_blank_line (record { octets = line.entry.text.now; is_long = line.entry.is_long }) ≡ true }
@@ -34,11 +39,7 @@ impl FormReader {
             found.start
         };
         let own = Heading::of(line.text, place);
-        let said = if found.end > 0 {
-            own.or(self.heading)
-        } else {
-            own
-        };
+        let said = self.heading_of(own, heard);
         let above = if self.stream.octets.is_empty() {
             said
         } else {
@@ -46,7 +47,7 @@ impl FormReader {
         };
         let (kind, reason) = self.tell_kind(line, heard, said, told);
         if kind != Kind::PassedOver || heard.said.said != Said::Other {
-            self.heading = Heading::new();
+            self.above.pass();
         }
         self.count(line, heard, kind);
         let shown = match heard.said.said {
@@ -65,6 +66,16 @@ impl FormReader {
         }
     }
 
+    /// Returns what a line says of its octets by itself, or else what the line above it says.
+    fn heading_of(&mut self, own: Heading, heard: LineHeard) -> Heading {
+        match self.forms.get(heard.said.form) {
+            Some(form) if heard.said.found.end > 0 && !heard.goes_on => {
+                own.or(self.above.of(form))
+            }
+            _ => own,
+        }
+    }
+
     /// Returns what a line is, and takes its frames.
     fn tell_kind(
         &mut self,
@@ -80,9 +91,13 @@ impl FormReader {
         ensures blank { result.0 ≡ Kind.Blank → is_blank_line (record { octets = line.entry.text.now; is_long = line.entry.is_long }) ≡ true }
     {
         if heard.is_long {
+            self.break_off();
             return (Kind::Damaged, Reason::TooLong);
         }
-        let found = heard.said.found;
+        if heard.has_gap || self.is_spoilt(line.text, heard) {
+            self.break_off();
+            return (Kind::Damaged, Reason::NoMessage);
+        }
         match heard.said.said {
             Said::Frame => self.tell_frame(line, heard, said, told),
             Said::Part => {
@@ -93,16 +108,26 @@ impl FormReader {
                     (Kind::Damaged, Reason::TooLong)
                 }
             }
-            Said::Stream => self.tell_stream(line.number, found, said, told),
+            Said::Stream => self.tell_stream(line, heard.said.found, said, told),
             Said::Idle => (Kind::PassedOver, Reason::NoMessage),
             Said::Stray | Said::Damaged => (Kind::Damaged, Reason::NoMessage),
             Said::Other => self.tell_other(line),
         }
     }
 
+    /// Returns whether the octets of a line end within a word of digits, so that it is not known which of them are octets.
+    fn is_spoilt(&self, line: &[u8], heard: LineHeard) -> bool {
+        let is_read = matches!(heard.said.said, Said::Frame | Said::Part | Said::Stream);
+        let end = heard.said.found.end;
+        match self.forms.get(heard.said.form) {
+            Some(form) if is_read && end <= line.len() => has_odd_digits(form, &line[end..]),
+            _ => false,
+        }
+    }
+
     /// Counts the line for its form.
     fn count(&mut self, line: NumberedLine, heard: LineHeard, kind: Kind) {
-        if heard.said.said != Said::Other && !heard.is_long {
+        if heard.said.said != Said::Other && !heard.is_long && !heard.has_gap {
             self.counts.count(
                 heard.said.form,
                 line.number,
@@ -159,11 +184,28 @@ impl FormReader {
         let is_cut = form < self.forms.len()
             && end <= line.text.len()
             && ends_in_gap(&self.forms[form], &line.text[end..]);
-        let is_all = self.tell_seconds(line, end, told) && !is_cut;
+        let is_first = self.is_first(line.text, heard);
+        let is_all = self.tell_seconds(line, end, told) && !is_cut && is_first;
         (
             Kind::Frames,
             if is_all { Reason::None } else { Reason::More },
         )
+    }
+
+    /// Returns whether no message stands before that of a line. Only a form whose front may begin anywhere leaves one out.
+    fn is_first(&mut self, line: &[u8], heard: LineHeard) -> bool {
+        let front = heard.said.found.front;
+        match self.forms.get(heard.said.form) {
+            Some(form) if form.is_anywhere && front <= line.len() => second_in(
+                &self.forms,
+                &line[..front],
+                0,
+                &mut self.octets,
+                &mut self.held,
+            )
+            .is_none(),
+            _ => true,
+        }
     }
 
     /// Takes the messages behind the first one of a line; returns whether nothing else of it may be one.
@@ -206,14 +248,12 @@ impl FormReader {
                 && is_quiet_between(&self.forms, line.text, from, found.front, &mut self.octets);
             from = found.end;
         }
-        is_all
-            && is_quiet_between(
-                &self.forms,
-                line.text,
-                from,
-                line.text.len(),
-                &mut self.octets,
-            )
+        is_all && self.is_quiet_from(line.text, from)
+    }
+
+    /// Returns whether a line has no octets that may be a message from a place on.
+    pub(super) fn is_quiet_from(&mut self, line: &[u8], from: usize) -> bool {
+        is_quiet_between(&self.forms, line, from, line.len(), &mut self.octets)
     }
 
     /// Returns what a line is that no form has.
@@ -223,19 +263,24 @@ impl FormReader {
         ensures words { SaysWords line.entry.text.now result.1 }
         ensures blank { result.0 ≡ Kind.Blank → is_blank_line (record { octets = line.entry.text.now; is_long = line.entry.is_long }) ≡ true }
     {
-        if line.is_blank() {
+        if line.is_blank() && !self.above.is_heading() {
             return (Kind::Blank, Reason::None);
         }
-        if is_cut_line(&self.forms, line.text, &mut self.octets) {
+        if self.above.is_heading()
+            || is_cut_line(&self.forms, line.text, &mut self.octets, &mut self.held)
+        {
             return (Kind::Damaged, Reason::NoMessage);
         }
         let held = held_by_text(&self.forms, line.text, &mut self.octets);
         self.is_loud = held != Hidden::Nothing
-            || has_ends(&self.forms, line.text, &mut self.octets)
-            || lacks_middle(&self.forms, line.text);
+            || has_ends(&self.forms, line.text, &mut self.octets, &mut self.held)
+            || lacks_middle(&self.forms, line.text)
+            || self.counts.has_part(line.text);
         if !self.is_loud {
-            self.heading = Heading::of(line.text, line.text.len());
-            return (Kind::PassedOver, reason_without_octets(line.text));
+            let reason = reason_without_octets(line.text);
+            self.counts.count_other();
+            self.above.take(line.text, reason == Reason::NoOctets);
+            return (Kind::PassedOver, reason);
         }
         let reason = reason_beside_octets(line.text);
         if reason != Reason::None {
@@ -247,81 +292,6 @@ impl FormReader {
         } else {
             (Kind::Possible, Reason::NoForm)
         }
-    }
-
-    /// Takes the octets of a stream that a line has, and the messages that they end.
-    fn tell_stream(
-        &mut self,
-        number: u64,
-        found: Found,
-        said: Heading,
-        told: &mut Told,
-    ) -> (Kind, Reason)
-        ensures reason { has_reason result.0 result.1 ≡ true }
-        ensures frames { has_frames result.0 (length told.new.frames) ≡ true }
-        ensures words { (text : List ℕ) → SaysWords text result.1 }
-        ensures blank { result.0 ≡ Kind.Blank → ⊥ }
-    {
-        let count = self.reading.octets.len();
-        let place = Place {
-            line: number,
-            start: found.start,
-            end: found.end,
-        };
-        let mut is_whole = self.stream_rows.push(StreamRow::of(place, count, said));
-        let is_flags = self.forms.iter().any(|form| form.rows == LineRows::Flags);
-        for at in 0..count {
-            if let Some(octet) = self.reading.octets.get(at).copied() {
-                is_whole = self.stream.take(octet) && is_whole;
-                is_whole = self.divide(is_flags, told) && is_whole;
-            }
-        }
-        if !is_whole && told.frames() == 0 {
-            (Kind::Damaged, Reason::NoMessage)
-        } else if told.frames() == 0 {
-            (Kind::Part, Reason::None)
-        } else {
-            (
-                Kind::Frames,
-                if is_whole {
-                    Reason::None
-                } else {
-                    Reason::Broken
-                },
-            )
-        }
-    }
-
-    /// Divides off what the octets of the stream have ended; returns whether that was all messages.
-    fn divide(&mut self, is_flags: bool, told: &mut Told) -> bool {
-        let mut is_whole = true;
-        'parts: for _ in 0..KEPT {
-            let next = if is_flags {
-                self.stream.unframe()
-            } else {
-                self.stream.divide()
-            };
-            match next {
-                Next::Message(count) => is_whole = self.tell_of_stream(count, told) && is_whole,
-                Next::Broken(count) => {
-                    self.stream_rows.take(count, false, told);
-                    is_whole = false;
-                }
-                Next::Idle(count) => {
-                    self.stream_rows.take(count, false, told);
-                }
-                Next::Wait => return is_whole,
-            }
-        }
-        is_whole
-    }
-
-    /// Takes a message of the stream, which has so many of its octets; returns whether there was room.
-    pub(super) fn tell_of_stream(&mut self, count: usize, told: &mut Told) -> bool
-        ensures { length told.old.frames ≤ length told.new.frames }
-    {
-        let is_told = told.add_frame(&self.stream.message);
-        self.stream_rows.take(count, true, told) && is_told
     }
 }
 
