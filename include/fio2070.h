@@ -1124,8 +1124,8 @@ struct fio2070_log_verdict {
     uint8_t reserved[4];
 };
 
-/** Where octets are written in a log. A line is counted in octets, those of UTF-8; colour sequences, NUL and byte order marks
- * are none of them. */
+/** Where octets are written in a log. A line is counted in octets, those of UTF-8; colour sequences, NULs by themselves and
+ * byte order marks are none of them. */
 struct fio2070_log_place {
     /** The number of the line, from 1. */
     uint64_t line;

@@ -1,7 +1,7 @@
 //! Places of a log where octets are written.
 
-/// Where octets are written in a log. Colour sequences, NUL and byte order marks do not count as characters
-/// of a line.
+/// Where octets are written in a log. Colour sequences, NULs by themselves and byte order marks do not count as characters of a
+/// line.
 #[derive(Clone, Copy, Debug, Default, PartialEq, Eq)]
 pub struct Place {
     /// The number of the line, from 1.

@@ -4,7 +4,7 @@ ghost use Rattle.std.specs.Prelude.{◌≡◌};
 use crate::directions::Direction;
 
 /// How lines are read. As `Frames` or `Transcript` they are read as `show` or `check` reads them, with two differences:
-/// colour sequences, NUL and byte order marks are removed, and a line also ends at CR.
+/// colour sequences, NULs by themselves and byte order marks are removed, and a line also ends at CR.
 #[derive(Clone, Copy, Debug, PartialEq, Eq)]
 pub enum Form {
     /// As lines of any log: frames are found by what the octets of a line say, and by what makes that sure.
