@@ -68,7 +68,7 @@ LOGS = [
     ('a log that begins with an answer', '< b605000000000001\n> 3606\n< b606000000000002\n', 'partly', ['1 message above the first command is not judged'],
      {'frames_above_a_command': 1}),
     ('a breach above the first poll', '> 34\n< b605000000000001\n> 3606\n< b606000000000002\n', 'broken', ['in the middle of traffic'], {'losses_of_sync': 1}),
-    ('one poll, over and over', '> 33010c0503\n' + '> 3605\n' * 4, 'partly', ['No answer came: the module is silent, or its direction was not logged'], {}),
+    ('one poll, over and over', '> 36 05\n' * 8, 'partly', ['No answer came: the module is silent, or its direction was not logged'], {}),
     ('a line that may be a message', 'TX 36 05\nRX B6 05 00 00 00 00 00 01\nmemory at b6 05 00 00\nRX B6 05 00 02 00 00 00 01\nTX 36 06\n', 'partly',
      ['1 line may be a message, and has no form of this log'], {'losses_of_sync': 1, 'frames_at_losses_of_sync': 1}),
     ('octets beside a message', 'TX 36 05\nRX B6 05 00 00 00 00 00 01\nTX 36 06\nRX B6 06 00 00 00 00 00 02 and b6 09 00\nTX 36 09\n', 'partly',
