@@ -6,7 +6,7 @@ use Rattle.fio_log.specs.Blanks.{Texts}
 use Rattle.fio_log.specs.Lines.{Text, finished, lines_after, no_line, only}
 use Rattle.fio_log.specs.OwnVerdicts.{own_form_of}
 use Rattle.fio_log.specs.declared.own_texts.OwnForm.{OwnForm}
-use Rattle.fio_log.specs.Telling.{IsTextOf, KeepsVerdict, Telling, has_told_all, read_at_end}
+use Rattle.fio_log.specs.Telling.{HasReadAsBefore, IsTextOf, KeepsVerdict, Telling, has_told_all, read_at_end}
 use Rattle.fio_log.specs.declared.directions.Direction.{Direction}
 use Rattle.fio_log.specs.declared.directions.Direction.TheVariants as directions
 use Rattle.fio_log.specs.declared.places.Place.{Place}
@@ -149,7 +149,8 @@ pub record HasForms (before : Telling) (count : ℕ) (after : Telling) : Type 0 
 -- A reader has learnt so many forms of sample lines. It learns none once a line of a log is read, or if a log is one of the
 -- program's own texts; whatever it learns, nothing changes of what it has read and told.
 pub record HasLearnt (before : Telling) (count : ℕ) (after : Telling) : Type 0 where
-  pub same : after ≡ before
+  pub same : HasReadAsBefore before after
+  pub log : (texts : Texts) → HasReadOf texts before → HasReadOf texts after
   pub late : 0 < before.read → count ≡ 0
   pub own : (text : OwnForm) → own_form_of before.form ≡ Some text → count ≡ 0
   pub few : count ≤ 16

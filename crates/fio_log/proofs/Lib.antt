@@ -4,3 +4,4 @@ pub mod LineLemmas
 pub mod OwnVerdictLemmas
 pub mod FrameLemmas
 pub mod WaitingLemmas
+pub mod KnowingLemmas

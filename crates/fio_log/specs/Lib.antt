@@ -9,3 +9,4 @@ pub mod Verdicts
 pub mod OwnVerdicts
 pub mod Telling
 pub mod Waiting
+pub mod Knowing

@@ -2,15 +2,19 @@
 use Rattle.std.specs.Prelude.{◌≡◌, ℕ, ◌+◌, ◌≤◌, ◌==◌, ◌&&◌, Bool, true, false, if◌then◌else◌, List, [], length}
 use Rattle.fio_log.specs.Blanks.{Texts}
 use Rattle.fio_log.specs.Frames.{AreFew, Frames}
+use Rattle.fio_log.specs.Knowing.{IsLineAt, KnowsLines}
 use Rattle.fio_log.specs.Verdicts.{Agrees}
 use Rattle.fio_log.specs.Lines.{Making, finished, is_whole, lines_after, only, with_making}
 use Rattle.fio_guess.specs.declared.table.TheConstants.{LINES}
 use Rattle.fio_log.specs.declared.places.Place.{Place}
+use Rattle.fio_log.specs.declared.teller.Teller.{Teller}
 use Rattle.fio_log.specs.declared.verdict.Form.{Form}
+use Rattle.fio_log.specs.declared.verdict.Form.TheVariants.{Auto}
 use Rattle.fio_log.specs.declared.verdict.LineVerdict.{LineVerdict}
 
 -- A reader: how it reads, the line that is being made, how many lines are read, how many verdicts are returned, whether the
--- next one can be returned, and whether the log has ended; the frames of the last verdict.
+-- next one can be returned, and whether the log has ended; the frames of the last verdict; and what is kept of the lines without
+-- a verdict.
 pub record Telling : Type 0 where
   pub form : Form
   pub making : Making
@@ -19,6 +23,7 @@ pub record Telling : Type 0 where
   pub is_ready : Bool
   pub is_ended : Bool
   pub last : Frames
+  pub teller : Teller
 
 -- the frames of the last verdict
 abbrev pub frames_of : Telling → List (List ℕ)
@@ -30,7 +35,23 @@ places_of telling = telling.last.places
 
 -- the line that is made, if it is whole, is the last one that is read of a log with these lines
 abbrev pub IsTextOf : Texts → Telling → Type 0
-IsTextOf texts telling = is_whole telling.making.ending ≡ true → telling.making.text ≡ texts telling.read
+IsTextOf texts telling = IsLineAt texts telling.read telling.making
+
+-- What a reader keeps of a log with these lines is right, and it can return a verdict only if it knows the forms.
+pub record Knows (texts : Texts) (telling : Telling) : Type 0 where
+  pub text : IsTextOf texts telling
+  pub kept : telling.form ≡ Auto → KnowsLines texts telling.teller telling.read telling.told
+  pub ready : telling.form ≡ Auto → telling.is_ready ≡ true → telling.teller.is_known ≡ true
+
+-- Nothing has changed of what a reader has read and told.
+pub record HasReadAsBefore (before after : Telling) : Type 0 where
+  pub form : after.form ≡ before.form
+  pub making : after.making ≡ before.making
+  pub read : after.read ≡ before.read
+  pub told : after.told ≡ before.told
+  pub is_ready : after.is_ready ≡ before.is_ready
+  pub is_ended : after.is_ended ≡ before.is_ended
+  pub last : after.last ≡ before.last
 
 -- whether the log of a reader has ended, and each verdict is returned
 abbrev pub has_told_all : Telling → Bool

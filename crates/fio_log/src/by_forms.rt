@@ -1,6 +1,9 @@
 //! Lines read by the forms that are known.
-ghost use Rattle.std.specs.Prelude.{◌≡◌, [], length, true, false};
+ghost use Rattle.std.specs.Prelude.{◌≡◌, ℕ, List, [], length, true, false};
+ghost use Rattle.fio_log.specs.Knowing.{SaysOf};
+ghost use Rattle.fio_log.specs.Lines.{Text};
 ghost use Rattle.fio_log.specs.Verdicts.{Agrees, has_reason};
+ghost use Rattle.fio_log.specs.Wordings.{SaysWords};
 ghost use Rattle.fio_log.specs.declared.verdict.Kind.TheVariants.{Frames};
 
 use crate::counts::{Counts, ReadAs};
@@ -243,7 +246,8 @@ impl FormReader {
         is_end: bool,
         told: &mut Told,
     ) -> LineVerdict
-        ensures { Agrees result (length told.new.frames) }
+        ensures agrees { Agrees result (length told.new.frames) }
+        ensures said { (text : Text) → SaysOf text result }
     {
         let is_told = if is_end {
             take_message(&self.reading.message, &self.rows, &mut self.last, told)
@@ -269,7 +273,8 @@ impl FormReader {
     /// Tells the messages that end with the log, if there are any, in the verdict on its last line, whose frames are told.
     pub(crate) fn tell_end(&mut self, last: LineVerdict, told: &mut Told) -> LineVerdict
         requires { Agrees last (length told.old.frames) }
-        ensures { Agrees result (length told.new.frames) }
+        ensures agrees { Agrees result (length told.new.frames) }
+        ensures said { (text : Text) → SaysOf text last → SaysOf text result }
     {
         let is_whole = self.reading.end();
         if is_whole {
@@ -299,7 +304,8 @@ impl FormReader {
 
 /// Returns the reason of a verdict of which frames are told, if lines with frames may have it.
 fn reason_of_frames(verdict: LineVerdict) -> Reason
-    ensures { has_reason Frames result ≡ true }
+    ensures reason { has_reason Frames result ≡ true }
+    ensures words { (text : List ℕ) → SaysWords text result }
 {
     match verdict.reason {
         Reason::More => Reason::More,

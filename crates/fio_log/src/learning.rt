@@ -1,7 +1,8 @@
 //! Learns the forms of a log from its lines.
-ghost use Rattle.std.specs.Prelude.{◌≡◌, ◌+◌, ◌≤◌, [], length, true};
+ghost use Rattle.std.specs.Prelude.{◌≡◌, ◌+◌, ◌≤◌, ◌++◌, ◌∷◌, [], length, true, false};
 ghost use Rattle.fio_guess.specs.declared.table.TheConstants.{LINES};
 
+use crate::lines::LineMaker;
 use fio_guess::Window;
 use fio_sniff::{Forms, Looking, Sniffer};
 
@@ -72,11 +73,24 @@ impl Learning {
     }
 
     /// Takes a line of a log whose forms are not known; returns whether there was room.
-    pub(crate) fn push(&mut self, line: &[u8]) -> bool
+    fn push(&mut self, line: &[u8]) -> bool
         ensures pushed { result ≡ true → length self.new.window ≡ length self.old.window + 1 }
         ensures few { result ≡ true → length self.new.window ≤ LINES }
+        ensures lines { result ≡ true → self.new.window ≡ self.old.window ++ line.now ∷ [] }
+        ensures full { result ≡ false → self.new.window ≡ self.old.window }
     {
         self.window.push(line)
+    }
+
+    /// Takes the line that is made, if it is not long; returns whether it did, and there was room.
+    pub(crate) fn take(&mut self, maker: &LineMaker) -> bool
+        ensures pushed { result ≡ true → length self.new.window ≡ length self.old.window + 1 }
+        ensures few { result ≡ true → length self.new.window ≤ LINES }
+        ensures short { result ≡ true → maker.now.text.is_long ≡ false }
+        ensures lines { result ≡ true → self.new.window ≡ self.old.window ++ maker.now.text.octets ∷ [] }
+        ensures full { result ≡ false → self.new.window ≡ self.old.window }
+    {
+        !maker.is_long() && self.push(maker.octets())
     }
 
     /// Returns the forms that two looks in a row give, of the lines down to here; none if they do not yet.
@@ -87,7 +101,9 @@ impl Learning {
     }
 
     /// Returns the forms of all lines; `is_ended`: these are the whole log.
-    pub(crate) fn last_look(&mut self, is_ended: bool) -> Forms {
+    pub(crate) fn last_look(&mut self, is_ended: bool) -> Forms
+        ensures { self.new.window ≡ self.old.window }
+    {
         self.sniffer.sniff(&self.window, is_ended)
     }
 

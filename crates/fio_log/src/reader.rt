@@ -1,11 +1,15 @@
 //! The reader of a log: it turns octets into lines, and lines into verdicts.
-ghost use Rattle.std.specs.Prelude.{◌≡◌, ◌+◌, ◌≤◌, ◌<◌, ◌↔◌, true, false, None, Some, IfSome, IsSome, MatchOption, [], get_or, length, slice_index_or, take};
+ghost use Rattle.std.specs.Prelude.{◌≡◌, ◌+◌, ◌≤◌, ◌<◌, ◌↔◌, true, false, ℕ, None, Some, IfSome, IsSome, MatchOption, [], get_or, length, slice_index_or, take};
+ghost use Rattle.fio_log.specs.Blanks.{Texts, is_blank_line};
+ghost use Rattle.fio_log.specs.Knowing.{IsLineAt, KnowsLines, SaysOf};
 ghost use Rattle.fio_log.specs.Lines.{finished, is_whole, no_line};
 ghost use Rattle.fio_log.specs.OwnTexts.{spells};
 ghost use Rattle.fio_log.specs.OwnVerdicts.{IsOwnVerdict, own_form_of};
-ghost use Rattle.fio_log.specs.Telling.{HasNoMore, HasTaken, HasTold, KeepsVerdict, frames_of, has_told_all, places_of, read_at_end};
+ghost use Rattle.fio_log.specs.Telling.{HasNoMore, HasReadAsBefore, HasTaken, HasTold, IsTextOf, KeepsVerdict, Knows, frames_of, has_told_all, places_of, read_at_end};
 ghost use Rattle.fio_log.specs.Verdicts.{Agrees, WaitingAgrees};
 ghost use Rattle.fio_log.specs.Waiting.{Fills, KnowsAsBefore, WaitsForOne};
+ghost use Rattle.fio_log.specs.Wordings.{SaysWords};
+ghost use Rattle.fio_log.specs.declared.verdict.Kind.TheVariants.{Blank};
 ghost use Rattle.fio_log.specs.declared.verdict.Form.TheVariants.{Auto};
 ghost use Rattle.fio_log.specs.declared.own_texts.OwnForm.{OwnForm};
 
@@ -58,6 +62,7 @@ impl Model for Reader {
       is_ready = r.is_ready;
       is_ended = r.is_ended;
       last = r.frames;
+      teller = r.teller;
     } };
 
     ghost invariant = { λ r. (r.told ≤ r.read)
@@ -79,6 +84,7 @@ impl Reader {
         ensures none_told { result.told ≡ 0 }
         ensures open { result.is_ended ≡ false }
         ensures form { result.form ≡ form }
+        ensures knows { (texts : Texts) → Knows texts result }
     {
         Reader {
             maker: LineMaker::new(),
@@ -100,6 +106,7 @@ impl Reader {
         ensures none_told { self.new.told ≡ 0 }
         ensures open { self.new.is_ended ≡ false }
         ensures form { self.new.form ≡ self.old.form }
+        ensures knows { (texts : Texts) → Knows texts self.new }
     {
         self.maker.restart();
         self.teller.start_again();
@@ -114,7 +121,8 @@ impl Reader {
     /// Learns forms from sample lines, by which the lines of the log are read from its beginning; returns how many. It learns
     /// none once a line of the log is read, or if the log is one of the program's own texts.
     pub fn like(&mut self, sample: &[u8]) -> usize
-        ensures same { self.new ≡ self.old }
+        ensures same { HasReadAsBefore self.old self.new }
+        ensures knows { (texts : Texts) → Knows texts self.old → Knows texts self.new }
         ensures late { 0 < self.old.read → result ≡ 0 }
         ensures few { result ≤ 16 }
         ensures own { (own : OwnForm) → own_form_of self.old.form ≡ Some own → result ≡ 0 }
@@ -150,6 +158,7 @@ impl Reader {
         ensures none { result ≡ 0 → self.new ≡ self.old }
         ensures forward { self.old.is_ready ≡ false → self.old.is_ended ≡ false → self.old.read < u64.MAX
             → 0 < length octets.now → 0 < result }
+        ensures knows { (texts : Texts) → Knows texts self.old → IsTextOf texts self.new → Knows texts self.new }
     {
         if self.is_ready || self.is_ended || self.read == u64::MAX || octets.is_empty() {
             return 0;
@@ -190,6 +199,7 @@ impl Reader {
         ensures told { self.new.told ≡ self.old.told }
         ensures form { self.new.form ≡ self.old.form }
         ensures ready { self.old.is_ready ≡ true → KeepsVerdict self.old self.new }
+        ensures knows { (texts : Texts) → Knows texts self.old → IsTextOf texts self.new → Knows texts self.new }
     {
         if self.is_ended {
             return;
@@ -224,6 +234,7 @@ impl Reader {
         ensures told { self.new.told ≡ self.old.told }
         ensures form { self.new.form ≡ self.old.form }
         ensures open { self.new.is_ended ≡ false }
+        ensures knows { (texts : Texts) → Knows texts self.old → IsTextOf texts self.new → Knows texts self.new }
     {
         if self.read == u64::MAX || self.maker.is_whole() {
             return;
@@ -263,6 +274,11 @@ impl Reader {
             IsOwnVerdict own self.new.making.text verdict.kind verdict.reason (frames_of self.new)) }
         ensures last { (own : OwnForm) → own_form_of self.old.form ≡ Some own → IfSome result (λ verdict.
             (verdict.line ≡ self.new.read) × (is_whole self.new.making.ending ≡ true)) }
+        ensures knows { (texts : Texts) → Knows texts self.old → Knows texts self.new }
+        ensures words { (texts : Texts) → Knows texts self.old → self.old.form ≡ Auto
+            → IfSome result (λ verdict. SaysWords (texts verdict.line).octets verdict.reason) }
+        ensures blank { (texts : Texts) → Knows texts self.old → self.old.form ≡ Auto
+            → IfSome result (λ verdict. verdict.kind ≡ Blank → is_blank_line (texts verdict.line) ≡ true) }
     {
         if !self.is_ready {
             return None;
@@ -331,6 +347,9 @@ fn read_line(
     ensures one { form ≡ Auto → result ≡ false → WaitsForOne teller.new at.read at.told }
     ensures waiting { WaitingAgrees teller.old.waiting (length frames.old.frames)
         → WaitingAgrees teller.new.waiting (length frames.new.frames) }
+    ensures known { form ≡ Auto → result ≡ true → teller.new.is_known ≡ true }
+    ensures knows { form ≡ Auto → (texts : Texts) (above : ℕ) → at.read ≡ above + 1 → is_whole maker.now.ending ≡ true
+        → IsLineAt texts at.read maker.now → KnowsLines texts teller.old above at.told → KnowsLines texts teller.new at.read at.told }
 {
     match form.own() {
         Some(text) => {
@@ -358,6 +377,9 @@ fn next_verdict(
     ensures agrees { Agrees result (length frames.new.frames) }
     ensures waiting { WaitingAgrees teller.new.waiting (length frames.new.frames) }
     ensures known { KnowsAsBefore teller.old teller.new }
+    ensures none { form ≡ Auto → teller.new.waiting ≡ None }
+    ensures said { form ≡ Auto → (texts : Texts) → at.told < u64.MAX → IsLineAt texts at.read maker.now
+        → KnowsLines texts teller.old at.read at.told → SaysOf (texts (at.told + 1)) result }
 {
     match form.own() {
         Some(_text) => own,
@@ -369,6 +391,10 @@ fn next_verdict(
 fn end_teller(form: Form, is_ready: bool, maker: &LineMaker, at: At, teller: &mut Teller)
     ensures waiting { teller.new.waiting ≡ teller.old.waiting }
     ensures kept { (form ≡ Auto → Fills teller.old at.read at.told) → form ≡ Auto → Fills teller.new at.read at.told }
+    ensures known { form ≡ Auto → is_ready ≡ false → teller.new.is_known ≡ true }
+    ensures same { teller.old.is_known ≡ true → teller.new.is_known ≡ true }
+    ensures knows { form ≡ Auto → (texts : Texts) → KnowsLines texts teller.old at.read at.told
+        → KnowsLines texts teller.new at.read at.told }
 {
     if is_ready || form != Form::Auto {
         return;

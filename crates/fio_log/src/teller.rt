@@ -1,5 +1,8 @@
 //! Reads the lines of a log by forms: each is heard in order, and told when its verdict depends on no line below it.
-ghost use Rattle.std.specs.Prelude.{◌≡◌, ◌+◌, ◌≤◌, length, false, true, None};
+ghost use Rattle.std.specs.Prelude.{◌≡◌, ℕ, ◌+◌, ◌≤◌, ◌<◌, IfSome, length, false, true, None};
+ghost use Rattle.fio_log.specs.Blanks.{Texts};
+ghost use Rattle.fio_log.specs.Knowing.{AreLinesFrom, HasWindowOf, IsLineAt, KnowsLines, SaysOf};
+ghost use Rattle.fio_log.specs.Lines.{Text, is_whole};
 ghost use Rattle.fio_log.specs.Verdicts.{Agrees, WaitingAgrees};
 ghost use Rattle.fio_log.specs.Waiting.{Fills, KnowsAsBefore, WaitsForOne};
 
@@ -48,6 +51,7 @@ impl Teller {
         ensures waiting { result.waiting ≡ None }
         ensures kept { Fills result 0 0 }
         ensures unknown { result.is_known ≡ false }
+        ensures knows { (texts : Texts) → KnowsLines texts result 0 0 }
     {
         Teller {
             learning: Learning::new(),
@@ -67,6 +71,7 @@ impl Teller {
         ensures waiting { self.new.waiting ≡ None }
         ensures kept { Fills self.new 0 0 }
         ensures unknown { self.new.is_known ≡ false }
+        ensures knows { (texts : Texts) → KnowsLines texts self.new 0 0 }
     {
         self.learning.start_again();
         self.by_forms.clear();
@@ -84,7 +89,10 @@ impl Teller {
         ensures few { result ≤ 16 }
         ensures waiting { self.new.waiting ≡ self.old.waiting }
         ensures kept { Fills self.new 0 0 }
+        ensures known { self.old.is_known ≡ true → self.new.is_known ≡ true }
+        ensures knows { (texts : Texts) → KnowsLines texts self.old 0 0 → KnowsLines texts self.new 0 0 }
     {
+        self.first = 0;
         self.learning.take_sample(sample);
         let forms = self.learning.like();
         self.learning.start_again();
@@ -108,6 +116,9 @@ impl Teller {
         ensures waiting { self.new.waiting ≡ self.old.waiting }
         ensures kept { (self.old.is_known ≡ false → at.read ≤ at.told + length self.old.learning.window + 1) → Fills self.new at.read at.told }
         ensures one { result ≡ false → WaitsForOne self.new at.read at.told }
+        ensures known { result ≡ true → self.new.is_known ≡ true }
+        ensures knows { (texts : Texts) (above : ℕ) → at.read ≡ above + 1 → is_whole maker.now.ending ≡ true → IsLineAt texts at.read maker.now
+            → KnowsLines texts self.old above at.told → KnowsLines texts self.new at.read at.told }
     {
         if self.is_known {
             return self.hear_next(maker, at);
@@ -122,8 +133,10 @@ impl Teller {
         requires { self.old.is_known ≡ false }
         ensures waiting { self.new.waiting ≡ self.old.waiting }
         ensures kept { at.read ≤ at.told + length self.old.learning.window + 1 → Fills self.new at.read at.told }
+        ensures knows { (texts : Texts) (above : ℕ) → at.read ≡ above + 1 → is_whole maker.now.ending ≡ true → IsLineAt texts at.read maker.now
+            → KnowsLines texts self.old above at.told → KnowsLines texts self.new at.read at.told }
     {
-        let is_kept = !maker.is_long() && self.learning.push(maker.octets());
+        let is_kept = self.learning.take(maker);
         if !is_kept {
             self.know(at);
             return;
@@ -138,6 +151,8 @@ impl Teller {
     fn know(&mut self, at: At)
         ensures waiting { self.new.waiting ≡ self.old.waiting }
         ensures known { self.new.is_known ≡ true }
+        ensures knows { (texts : Texts) (read : ℕ) → read ≤ u64.MAX → KnowsLines texts self.old read at.told
+            → KnowsLines texts self.new read at.told }
     {
         if !self.is_known {
             let forms = self.learning.last_look(at.is_ended);
@@ -150,6 +165,8 @@ impl Teller {
     fn drain(&mut self, at: At)
         ensures waiting { self.new.waiting ≡ self.old.waiting }
         ensures known { self.new.is_known ≡ true }
+        ensures window { (texts : Texts) → at.told + length self.old.learning.window ≤ u64.MAX
+            → AreLinesFrom texts (at.told + 1) (length self.old.learning.window) self.old.learning.window → HasWindowOf texts self.new }
     {
         self.is_known = true;
         self.first = at.told.saturating_add(1);
@@ -160,6 +177,7 @@ impl Teller {
     pub(crate) fn end(&mut self, maker: &LineMaker, at: At)
         ensures known { self.new.is_known ≡ true }
         ensures waiting { self.new.waiting ≡ self.old.waiting }
+        ensures knows { (texts : Texts) → KnowsLines texts self.old at.read at.told → KnowsLines texts self.new at.read at.told }
     {
         self.know(at);
         self.hear_next(maker, at);
@@ -170,6 +188,7 @@ impl Teller {
         ensures waiting { self.new.waiting ≡ self.old.waiting }
         ensures known { KnowsAsBefore self.old self.new }
         ensures one { result ≡ false → WaitsForOne self.new at.read at.told }
+        ensures ready { result ≡ true → self.new.is_known ≡ true }
     {
         if !self.is_known {
             return false;
@@ -258,6 +277,8 @@ impl Teller {
         requires { WaitingAgrees self.old.waiting (length frames.old.frames) }
         ensures agrees { WaitingAgrees self.new.waiting (length frames.new.frames) }
         ensures known { KnowsAsBefore self.old self.new }
+        ensures knows { (texts : Texts) → at.told < u64.MAX → IsLineAt texts at.read maker.now → KnowsLines texts self.old at.read at.told
+            → KnowsLines texts self.new at.read at.told }
     {
         if let Some(heard) = self.heard {
             let verdict = self.tell_heard(maker, at, heard, frames);
@@ -277,6 +298,8 @@ impl Teller {
         ensures agrees { Agrees result (length frames.new.frames) }
         ensures waiting { self.new.waiting ≡ self.old.waiting }
         ensures known { KnowsAsBefore self.old self.new }
+        ensures said { (texts : Texts) → at.told < u64.MAX → IsLineAt texts at.read maker.now → HasWindowOf texts self.old
+            → SaysOf (texts (at.told + 1)) result }
     {
         let number = at.told.saturating_add(1);
         let Some(line) = line_at(
@@ -302,8 +325,27 @@ impl Teller {
         ensures agrees { Agrees result (length frames.new.frames) }
         ensures waiting { self.new.waiting ≡ None }
         ensures known { KnowsAsBefore self.old self.new }
+        ensures said { (texts : Texts) → at.told < u64.MAX → IsLineAt texts at.read maker.now → KnowsLines texts self.old at.read at.told
+            → SaysOf (texts (at.told + 1)) result }
     {
-        let (verdict, waits) = match (self.waiting, self.heard) {
+        let (verdict, waits) = self.tell_first(maker, at, frames);
+        self.forget();
+        if waits {
+            self.tell_waiting(maker, at, verdict, frames)
+        } else {
+            verdict
+        }
+    }
+
+    /// Returns what the line says whose verdict is next, and whether that waits for the line below.
+    fn tell_first(&mut self, maker: &LineMaker, at: At, frames: &mut Told) -> (LineVerdict, bool)
+        requires { WaitingAgrees self.old.waiting (length frames.old.frames) }
+        ensures agrees { Agrees result.0 (length frames.new.frames) }
+        ensures known { KnowsAsBefore self.old self.new }
+        ensures said { (texts : Texts) → at.told < u64.MAX → IsLineAt texts at.read maker.now → KnowsLines texts self.old at.read at.told
+            → SaysOf (texts (at.told + 1)) result.0 }
+    {
+        match (self.waiting, self.heard) {
             (Some(verdict), _) => (verdict, true),
             (None, Some(heard)) => {
                 let waits = self.by_forms.waits(heard);
@@ -316,12 +358,6 @@ impl Teller {
                     false,
                 )
             }
-        };
-        self.forget();
-        if waits {
-            self.tell_waiting(maker, at, verdict, frames)
-        } else {
-            verdict
         }
     }
 
@@ -346,6 +382,7 @@ impl Teller {
         ensures agrees { Agrees result (length frames.new.frames) }
         ensures waiting { self.new.waiting ≡ self.old.waiting }
         ensures known { KnowsAsBefore self.old self.new }
+        ensures said { (text : Text) → SaysOf text verdict → SaysOf text result }
     {
         let number = at.told.saturating_add(2);
         let Some(line) = line_at(
@@ -383,7 +420,10 @@ fn line_at<'a>(
     lines: u64,
     read: u64,
     number: u64,
-) -> Option<NumberedLine<'a>> {
+) -> Option<NumberedLine<'a>>
+    ensures { (texts : Texts) → IsLineAt texts read maker.now → (0 < first → AreLinesFrom texts first lines learning.now.window)
+        → IfSome result (λ line. texts number ≡ record { octets = line.text.now; is_long = line.is_long }) }
+{
     if first > 0 && number >= first && number - first < lines {
         return Some(NumberedLine {
             number,

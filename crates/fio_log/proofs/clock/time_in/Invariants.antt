@@ -1,4 +1,4 @@
-use Rattle.std.proofs.Common.{length, true, ◌-◌, ◌≡◌, ◌≤◌, drop}
+use Rattle.std.proofs.Common.{length, true, ◌-◌, ◌≡◌, drop}
 use Rattle.fio_log.specs.Clock.{first_time}
 use Rattle.fio_log.proofs.clock.time_in.Given as goal
 

@@ -1,4 +1,4 @@
-use Rattle.std.proofs.Common.{◌≡◌, ◌∙◌, true, false, rules, arith, sym}
+use Rattle.std.proofs.Common.{◌≡◌, ◌∙◌, ◌<◌, ◌^◌, ◌-◌, true, false, rules, arith, refl, sym}
 use Rattle.fio_log.specs.Lines.{is_whole}
 use Rattle.fio_log.proofs.OwnVerdictLemmas.{none-left}
 use Rattle.fio_log.proofs.WaitingLemmas.{same_fills}
@@ -35,3 +35,15 @@ invariant_of-self-else-is_whole-2 c =
       λ auto. same_fills _ _ _ _ c.settle.ensures.known (kept.6 auto),
       λ auto late running known. kept.7 auto late running (sym c.settle.ensures.known.known ∙ known),
     )
+
+pub returns-then-is_whole-2-clause-knows : goal.returns-then-is_whole-2-clause-knows
+returns-then-is_whole-2-clause-knows c = λ texts knows text.
+    let k = rw (← c.self.view_is) at knows in
+    let whole : is_whole c.finish.new.self.ending ≡ true = search rules in
+    let less : c.self.inside.told < 2 ^ 64 - 1 = omega (arith, c.self.invariant.0) in
+    record {
+      text = text;
+      kept = λ auto. c.read_line-self-inside.ensures.knows auto texts c.self.inside.read refl whole text
+          (c.settle.ensures.knows texts less k.text (k.kept auto));
+      ready = λ auto ready. c.read_line-self-inside.ensures.known auto ready;
+    }

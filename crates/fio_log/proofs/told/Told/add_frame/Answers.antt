@@ -1,9 +1,8 @@
-use Rattle.std.proofs.Common.{◌≡◌, ◌≤◌, ◌<◌, ◌+◌, ◌-◌, ◌∙◌, [], ◌∷◌, ◌++◌, true, false, length, arith, rules, refl, sym, ap}
+use Rattle.std.proofs.Common.{◌≡◌, ◌≤◌, ◌+◌, [], ◌∷◌, ◌++◌, true, length, arith, rules}
 use Rattle.std.proofs.lemmas.Grind.{common_steps}
 use Rattle.std.proofs.lemmas.List.Elements.{All-push}
-use Rattle.std.specs.List.{All}
 use Rattle.fio_guess.specs.Lines.{parts_of, GoUp}
-use Rattle.fio_guess.proofs.Lines.{length-parts_of, GoUp-push, parts_of-push}
+use Rattle.fio_guess.proofs.Lines.{GoUp-push, parts_of-push}
 use Rattle.fio_log.specs.OwnTexts.{spells}
 use Rattle.fio_log.proofs.FrameLemmas.{no_octets}
 use Rattle.fio_log.proofs.OwnTextLemmas.{spelled_short}
