@@ -165,9 +165,7 @@ fn is_rest_of_octets(form: &LineForm, line: &[u8]) -> bool {
         _ if line.len() <= FEW_DIGITS => !line.is_empty(),
         _ if line.len() > OFFSET_DIGITS => true,
         [] => false,
-        [first, rest @ ..] => {
-            !first.is_numeric() || rest.iter().any(|piece| piece.is_numeric())
-        }
+        [first, rest @ ..] => { !first.is_numeric() || rest.iter().any(|piece| piece.is_numeric()) }
     }
 }
 

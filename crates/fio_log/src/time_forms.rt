@@ -95,10 +95,7 @@ fn part_of_name(parts: TimeParts, text: &[u8]) -> Option<TimeRead>
 fn is_numeric(sign: u8) -> bool
     ensures { result ≡ is_of_number sign }
 {
-    matches!(
-        sign,
-        b'E' | b'F' | b'Y' | b'M' | b'D' | b'h' | b'm' | b's'
-    )
+    matches!(sign, b'E' | b'F' | b'Y' | b'M' | b'D' | b'h' | b'm' | b's')
 }
 
 /// Returns how many digits a sign allows.
@@ -163,10 +160,7 @@ pub(crate) fn number_in(text: &[u8], most: usize) -> Number
     let mut number = Number { value: 0, count: 0 };
     'digits: while number.count < text.len() {
         let character = text[number.count];
-        if number.count >= most
-            || !is_decimal(character)
-            || number.value > 1_000_000_000_000_000
-        {
+        if number.count >= most || !is_decimal(character) || number.value > 1_000_000_000_000_000 {
             break;
         }
         number = Number {
