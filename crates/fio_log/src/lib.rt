@@ -25,9 +25,10 @@
 //! | read a line of the program's own texts | `read_own_line` |
 //!
 //! A line is kept until the forms are known (`learning`), heard by them (`by_forms`), and told as soon as its verdict depends on
-//! no line below it (`teller`). The definitions are in `specs/`: characters (`Digits`), times (`Clock`), lines (`Lines`), which are
-//! blank (`Blanks`), what words say (`Wordings`), the program's own texts (`OwnTexts`), frames and their places (`Frames`), what a
-//! verdict says (`Verdicts`, `OwnVerdicts`), what a reader has read and returned (`Telling`), and how many lines wait (`Waiting`).
+//! no line below it (`teller`). The definitions are in `specs/`: characters (`Digits`), times (`Clock`), lines (`Lines`), which
+//! are blank (`Blanks`), what words say (`Wordings`), the program's own texts (`OwnTexts`), frames and their places (`Frames`),
+//! what a verdict says (`Verdicts`, `OwnVerdicts`), what a reader has read and returned (`Telling`), how many lines wait
+//! (`Waiting`), and what is known of them (`Knowing`).
 //!
 //! # What is proved
 //!
@@ -39,10 +40,11 @@
 //! Each frame of a verdict spells a message (`spelled`). `frame` and `place` return that of their index (`same`), for each index
 //! below their number (`given`); no verdict has more than 2,048 frames, 16,384 octets of frames and 1,024 places (`few` of
 //! `HasTold`). Kind and reason of a verdict agree, and with its number of frames (`agreed` of `HasTold`). A line of the program's
-//! own texts is read as `show` and `check` read it (`read_own_line`, `own`, `last`). `time_in` returns the first time by the table
-//! of `specs/Clock.antt` (`time`).
+//! own texts is read as `show` and `check` read it (`read_own_line`, `own`, `last`). Of any other log, whose lines are those that
+//! were read (`knows`), a line that is said to be blank is (`blank`), and one that is said to speak of loss, or to be a heading, does
+//! or is, by its own words (`words`). `time_in` returns the first time by the table of `specs/Clock.antt` (`time`).
 //!
-//! Not proved: what is said of a line of any other log. A reader for which each line is damaged meets the clauses. Lines are read
+//! Not proved: what else is said of a line of such a log. A reader for which each line is damaged meets the clauses. Lines are read
 //! by the calls of `fio_form` and `fio_rows`, which are proved; that a verdict has the frames that these read is tested by
 //! `tests/fiolog-reader.py` and `tests/real-logs.py`.
 #![tactic(auto)]
