@@ -224,7 +224,7 @@ def check_passed(check, folder):
                              '2026-11-22T07:15:09.020Z tx 3605\n', '--quiet', '-v')
     check.equal('a damaged line accuses nobody', (1, numbers_of(heard(folder, LOG, '--quiet')[0])['breaches']),
                 (sum(numbers_of(out).get(name, 0) for name in ('damaged lines', 'lines that may be a message and have no form')), numbers_of(out)['breaches']))
-    out = heard(folder, '> ' + 'b6' * 200_000 + '\n> 3605\n< b60500000000000a\n> 3606\n')[0]
+    out = heard(folder, '> ' + 'b6' * 200_000 + '\n> 3605\n< b60500000000000a\n> 3606\n', '--like', '> 3605', '--like', '< b60500000000000a')[0]
     check.equal('below a line of 400 KB', (3, 'poll block 5'), (numbers_of(out)['frames'], out.splitlines()[0][-12:]))
 
 

