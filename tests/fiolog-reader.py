@@ -31,10 +31,8 @@ REASONS = {
 }
 
 # Forms of which frames are not read: the share of the session's and of random ones, and why.
-LOST = {'candump': (1, 1, 'a number and a mark before the octets are one word'),
-        'Saleae': (.1, 1, 'an octet a line: an answer of any length is divided by the command below it'),
+LOST = {'Saleae': (.1, 1, 'an octet a line: an answer of any length is divided by the command below it'),
         'Saleae with names': (.1, 1, 'an octet a line'), 'Saleae HDLC': (.1, 1, 'an octet a line'),
-        'hexdump -C': (0, .1, 'rows of a type of any length'), 'wrapped at 16': (0, .1, 'rows of a type of any length'),
         'C arrays': (0, .2, 'rows of a type of any length'), 'serial monitor': (0, .1, 'rows of a type of any length'),
         'socat -x -v': (0, .1, 'rows of a type of any length, and such as end at 0A')}
 
