@@ -34,8 +34,8 @@
 //!
 //! Each line has one verdict, in order: `verdict` returns that of the next line, and after the end of the log it returns `None`
 //! only once every line has had its verdict (`told`, `all`); while it returns `None`, at most 1,024 lines that are read are
-//! without one (`waiting` of `HasNoMore`). `end` keeps a verdict that is ready (`ready`). The octets that `feed` takes make the
-//! lines that are read (`taken`).
+//! without one (`waiting` of `HasNoMore`). `end` keeps a verdict that is ready (`ready`). The lines of a log do not depend on
+//! where it is cut (`lines_are_cut_anywhere`), and the octets that `feed` takes make the lines that are read (`taken`).
 //!
 //! Each frame of a verdict spells a message (`spelled`). `frame` and `place` return that of their index (`same`), for each index
 //! below their number (`given`); no verdict has more than 2,048 frames, 16,384 octets of frames and 1,024 places (`few` of
@@ -58,6 +58,7 @@ mod digits;
 mod directions;
 mod ends;
 mod heading;
+pub mod laws;
 mod learning;
 mod lines;
 mod middle;
