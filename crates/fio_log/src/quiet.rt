@@ -1,4 +1,6 @@
 //! What is quiet: text in which no frame can be hidden.
+ghost use Rattle.std.specs.Prelude.{◌≤◌, length};
+
 use crate::digits::is_letter;
 use fio_form::{
     Digits, LineForm, Octets, Size, Step, find, front_in, is_message, run_in, size_of, swap,
@@ -59,6 +61,19 @@ pub(crate) fn is_run(digits: Digits, text: &[u8], end: usize) -> bool {
     has_gap
 }
 
+/// Returns how many characters of a run are passed over: all; but of one that begins within a word, as the end of `received` does,
+/// only those of the word, since octets may begin behind it.
+fn passed_over(is_in_word: bool, run: &[u8]) -> usize
+    ensures { result ≤ length run.now }
+{
+    if !is_in_word {
+        return run.len();
+    }
+    run.iter()
+        .take_while(|character| is_letter(**character))
+        .count()
+}
+
 /// Returns what a text has in the notation of a form.
 fn held_in(form: &LineForm, text: &[u8], octets: &mut Octets) -> Hidden {
     let before = usize::from(form.before);
@@ -79,7 +94,8 @@ fn held_in(form: &LineForm, text: &[u8], octets: &mut Octets) -> Hidden {
                 }
             }
             if count > 1 && count <= text.len() - place {
-                next = place + count;
+                let is_in_word = place > 0 && is_letter(text[place - 1]);
+                next = place + passed_over(is_in_word, &text[place..place + count]);
             }
         }
     }
