@@ -8,7 +8,7 @@
  * access outside the arguments of a call, which the proof excludes, ends in FIO2070_TRAP(). FIO2070_UNCHECKED leaves
  * the tests of accesses out. FIO2070_FAST makes the code longer and faster.
  *
- * Sources: 4453c1af7ec6ad130e15eccd4af518551a7bf7a8ffb95fd935fbcff4e09b83a4 (SHA-256; packaging/release-files --sources)
+ * Sources: 30bdfa704256ab0bde9e43667819c272e7838e028073e8f412ff2e9b4da85840 (SHA-256; packaging/release-files --sources)
  * Kit: rattle-kit-13f logic dac8208d650f15bf
  * Proof: logic=proved functions=226 target=wasm64-unknown-unknown sum=dac8208d650f15bf native=nat,char,string
  * Made by `make release-files`: do not edit.
@@ -52907,7 +52907,6 @@ uint32_t v25 = 0;
 uint32_t i0;
 uint32_t i1;
 uint32_t i2;
-uint32_t i3;
 uint64_t j0;
 uint64_t j1;
 uint64_t j2;
@@ -52929,6 +52928,8 @@ uint8_t *p9;
 uint8_t *p10;
 uint8_t *p11;
 uint8_t *p12;
+uint8_t *p13;
+uint8_t *p14;
 j0 = m->g0;
 j1 = UINT64_C(2112);
 j0 = j0 - j1;
@@ -53189,7 +53190,7 @@ if (i0) { goto l12; }
 }
 j0 = v19;
 i0 = (j0 == 0);
-if (i0) { goto l11; }
+if (i0) { goto l6; }
 j0 = v19;
 j1 = v15;
 j2 = v19;
@@ -53486,23 +53487,129 @@ l33:;
 i0 = UINT32_C(2);
 v7 = i0;
 l11:;
-j0 = v16;
-j1 = v16;
-j2 = v19;
-j3 = v5;
-j2 = j2 + j3;
-j3 = v19;
-j4 = v18;
-i3 = (j3 > j4);
-j1 = i3 ? j1 : j2;
-j2 = v19;
-j3 = UINT64_C(2);
-i2 = (j2 < j3);
-j0 = i2 ? j0 : j1;
+j0 = v19;
+j1 = UINT64_C(2);
+i0 = (j0 < j1);
+if (!i0) {
+j0 = v19;
+j1 = v18;
+i0 = (j0 > j1);
+if (!i0) {
+j0 = v5;
+i0 = (j0 == 0);
+if (!i0) {
+j0 = v17;
+j1 = UINT64_C(18446744073709551615);
+j0 = j0 + j1;
+p13 = read_at(j0, m, 1u);
+i0 = load8(p13 + 0);
+v24 = i0;
+i1 = UINT32_C(95);
+i0 = (i0 == i1);
+if (!i0) {
+i0 = v24;
+i1 = UINT32_C(48);
+i0 = (i0 < i1);
+if (i0) { goto l35; }
+i0 = v24;
+i1 = UINT32_C(58);
+i0 = (i0 < i1);
+if (!i0) {
+i0 = v24;
+i1 = UINT32_C(65);
+i0 = (i0 < i1);
+if (i0) { goto l35; }
+i0 = v24;
+i1 = UINT32_C(91);
+i0 = (i0 < i1);
+if (!i0) {
+i0 = v24;
+i1 = UINT32_C(97);
+i0 = (i0 < i1);
+if (i0) { goto l35; }
+i0 = v24;
+i0 = (uint32_t)extend(i0 & 255, 7);
+i1 = UINT32_C(122);
+i0 = (SIGNED32(i0) > SIGNED32(i1));
+if (i0) { goto l35; }
+}
+}
+}
+j0 = UINT64_C(0);
+v22 = j0;
+l37:;
+j0 = v14;
+j1 = v22;
+j0 = j0 + j1;
+p14 = read_at(j0, m, 1u);
+i0 = load8(p14 + 0);
+v24 = i0;
+i1 = UINT32_C(95);
+i0 = (i0 == i1);
+if (!i0) {
+i0 = v24;
+i1 = UINT32_C(48);
+i0 = (i0 >= i1);
+if (!i0) {
+j0 = v22;
+v19 = j0;
+goto l35;
+}
+i0 = v24;
+i1 = UINT32_C(58);
+i0 = (i0 < i1);
+if (!i0) {
+i0 = v24;
+i1 = UINT32_C(65);
+i0 = (i0 >= i1);
+if (!i0) {
+j0 = v22;
+v19 = j0;
+goto l35;
+}
+i0 = v24;
+i1 = UINT32_C(91);
+i0 = (i0 < i1);
+if (!i0) {
+i0 = v24;
+i1 = UINT32_C(97);
+i0 = (i0 >= i1);
+if (!i0) {
+j0 = v22;
+v19 = j0;
+goto l35;
+}
+i0 = v24;
+i0 = (uint32_t)extend(i0 & 255, 7);
+i1 = UINT32_C(122);
+i0 = (SIGNED32(i0) <= SIGNED32(i1));
+if (!i0) {
+j0 = v22;
+v19 = j0;
+goto l35;
+}
+}
+}
+}
+j0 = v19;
+j1 = v22;
+j2 = UINT64_C(1);
+j1 = j1 + j2;
+v22 = j1;
+i0 = (j0 != j1);
+if (i0) { goto l37; }
+}
+l35:;
+j0 = v19;
+j1 = v5;
+j0 = j0 + j1;
 v16 = j0;
 }
 }
 }
+}
+}
+l6:;
 j0 = v14;
 j1 = UINT64_C(1);
 j0 = j0 + j1;
@@ -53525,15 +53632,15 @@ j0 = j0 & j1;
 i0 = (uint32_t)j0;
 switch (i0) {
 case 0:
-goto l35;
+goto l42;
 case 1:
-goto l37;
+goto l44;
 case 2:
-goto l36;
+goto l43;
 default:
-goto l35;
+goto l42;
 }
-l37:;
+l44:;
 i0 = v7;
 i1 = UINT32_C(255);
 i0 = i0 & i1;
@@ -53543,11 +53650,11 @@ v7 = i0;
 i0 = v24;
 i1 = UINT32_C(2);
 i0 = (i0 != i1);
-if (i0) { goto l35; }
-l36:;
+if (i0) { goto l42; }
+l43:;
 i0 = UINT32_C(2);
 v7 = i0;
-l35:;
+l42:;
 j0 = v8;
 j1 = UINT64_C(1);
 j0 = j0 + j1;

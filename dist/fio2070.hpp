@@ -3,7 +3,7 @@
  *
  * The field I/O transition link of the Model 2070: the header for C++17, above fio2070.h.
  *
- * Sources: 4453c1af7ec6ad130e15eccd4af518551a7bf7a8ffb95fd935fbcff4e09b83a4 (SHA-256; packaging/release-files --sources)
+ * Sources: 30bdfa704256ab0bde9e43667819c272e7838e028073e8f412ff2e9b4da85840 (SHA-256; packaging/release-files --sources)
  * Kit: rattle-kit-13f logic dac8208d650f15bf
  * Proof: logic=proved functions=226 target=wasm64-unknown-unknown sum=dac8208d650f15bf native=nat,char,string
  * Made by `make release-files`: do not edit.
