@@ -126,27 +126,29 @@ impl Learning {
         }
     }
 
-    /// Takes a line of a log whose forms are known; `is_new`: it may be of another one. Returns the forms of the window, once two
-    /// looks in a row give them, if there was such a line.
-    pub(crate) fn offer(&mut self, line: &[u8], is_new: bool) -> Option<Forms> {
+    /// Takes a line of a log whose forms are known; `is_new`: it may be of another one. Returns whether the lines of the window are
+    /// to be looked at: there was such a line.
+    pub(crate) fn offer(&mut self, line: &[u8], is_new: bool) -> bool {
         if self.rest > 0 {
             self.rest -= 1;
-            return None;
+            return false;
         }
         if is_new {
             self.near = NEAR;
             self.is_new = true;
         }
         if !self.is_first && self.near == 0 {
-            return None;
+            return false;
         }
         self.near = self.near.saturating_sub(1);
-        if !self.window.push(line) && !self.push_anew(line) {
-            return None;
-        }
-        if !self.is_new {
-            return None;
-        }
+        let is_taken = self.window.push(line) || self.push_anew(line);
+        is_taken && self.is_new
+    }
+
+    /// Returns the forms of the window, once two looks in a row give them.
+    pub(crate) fn look_again(&mut self) -> Option<Forms>
+        ensures { self.new.window ≡ self.old.window }
+    {
         let forms = self.look();
         if forms.is_some() {
             self.is_new = false;

@@ -267,7 +267,17 @@ impl Teller {
             return;
         }
         let is_new = self.by_forms.is_new(verdict, maker.octets());
-        if let Some(forms) = self.learning.offer(maker.octets(), is_new) {
+        if self.learning.offer(maker.octets(), is_new) {
+            self.look_again();
+        }
+    }
+
+    /// Looks for forms in the window. It is a function of its own, since forms are large, and most lines need no look.
+    fn look_again(&mut self)
+        ensures waiting { self.new.waiting ≡ self.old.waiting }
+        ensures known { KnowsAsBefore self.old self.new }
+    {
+        if let Some(forms) = self.learning.look_again() {
             self.found = Some(forms);
         }
     }
