@@ -8,7 +8,7 @@
  * access outside the arguments of a call, which the proof excludes, ends in FIO2070_TRAP(). FIO2070_UNCHECKED leaves
  * the tests of accesses out. FIO2070_FAST makes the code longer and faster.
  *
- * Sources: 30bdfa704256ab0bde9e43667819c272e7838e028073e8f412ff2e9b4da85840 (SHA-256; packaging/release-files --sources)
+ * Sources: ada8fde267b9e313b9a70846bc2a25408157d72ac51e989a33c14160f7b1d30b (SHA-256; packaging/release-files --sources)
  * Kit: rattle-kit-13f logic dac8208d650f15bf
  * Proof: logic=proved functions=226 target=wasm64-unknown-unknown sum=dac8208d650f15bf native=nat,char,string
  * Made by `make release-files`: do not edit.
@@ -44109,12 +44109,6 @@ v3 = j0;
 i0 = v9;
 v16 = i0;
 l589:;
-j0 = v7;
-j1 = UINT64_C(12976);
-j0 = j0 + j1;
-i1 = UINT32_C(0);
-j2 = UINT64_C(12560);
-fill(m, j0, i1, j2);
 j0 = v1;
 j1 = UINT64_C(238088);
 j0 = j0 + j1;
@@ -44738,6 +44732,12 @@ if (!i0) {
 j0 = v7;
 j1 = UINT64_C(12976);
 j0 = j0 + j1;
+i1 = UINT32_C(0);
+j2 = UINT64_C(12560);
+fill(m, j0, i1, j2);
+j0 = v7;
+j1 = UINT64_C(12976);
+j0 = j0 + j1;
 j1 = v1;
 fio_log_learning_Learning_look(m, j0, j1);
 j0 = v7;
@@ -44806,12 +44806,12 @@ j1 = v4;
 store64(p336 + 32, j1);
 j0 = v7;
 j1 = v7;
-i1 = load32(p294 + 8);
-store32(p294 + 16, i1);
-j0 = v7;
-j1 = v7;
 i1 = load16(p294 + 12);
 store16(p294 + 20, i1);
+j0 = v7;
+j1 = v7;
+i1 = load32(p294 + 8);
+store32(p294 + 16, i1);
 j0 = v7;
 j1 = UINT64_C(0);
 store64(p294 + 22, j1);

@@ -3,7 +3,7 @@
  *
  * The field I/O transition link of the Model 2070: the header of fio2070.c.
  *
- * Sources: 30bdfa704256ab0bde9e43667819c272e7838e028073e8f412ff2e9b4da85840 (SHA-256; packaging/release-files --sources)
+ * Sources: ada8fde267b9e313b9a70846bc2a25408157d72ac51e989a33c14160f7b1d30b (SHA-256; packaging/release-files --sources)
  * Kit: rattle-kit-13f logic dac8208d650f15bf
  * Proof: logic=proved functions=226 target=wasm64-unknown-unknown sum=dac8208d650f15bf native=nat,char,string
  * Made by `make release-files`: do not edit.
