@@ -8,6 +8,7 @@ ghost use Rattle.fio_log.specs.declared.verdict.Kind.TheVariants.{Frames};
 
 use crate::counts::{Counts, ReadAs};
 use crate::heading::{Heading, LineAbove};
+use crate::known_forms::KnownForms;
 use crate::lines::NumberedLine;
 use crate::quiet::is_plain_quiet;
 use crate::rows::{MessageRows, StreamRows};
@@ -39,7 +40,7 @@ mod telling;
 /// Reads lines by forms.
 #[derive(Drop)]
 pub(crate) struct FormReader {
-    forms: Forms,
+    forms: KnownForms,
     counts: Counts,
     reading: Reading,
     /// The rows of the message that is open.
@@ -78,6 +79,11 @@ fn is_same(one: &LineForm, other: &LineForm) -> bool {
         && one.values.as_slice() == other.values.as_slice()
 }
 
+/// Returns the first forms, which were given; at most so many.
+fn given_of(forms: &[LineForm], given: usize) -> &[LineForm] {
+    &forms[..given.min(forms.len())]
+}
+
 /// Returns whether a form is among others.
 fn has_same(forms: &[LineForm], form: &LineForm) -> bool {
     place_of(forms, form) < forms.len()
@@ -97,7 +103,7 @@ impl FormReader {
     /// Returns a reader without forms.
     pub(crate) fn new() -> FormReader {
         FormReader {
-            forms: ArrayVec::new(),
+            forms: KnownForms::new(),
             counts: Counts::new(),
             reading: Reading::new(),
             rows: MessageRows::new(),
@@ -132,21 +138,19 @@ impl FormReader {
 
     /// Returns the forms.
     pub(crate) fn forms(&self) -> &[LineForm] {
-        &self.forms
+        self.forms.list()
     }
 
     /// Returns how the lines of a form look, and how many there are.
     pub(crate) fn read_as(&self, form: usize) -> Option<ReadAs<'_>> {
-        if form >= self.forms.len() {
-            return None;
-        }
-        self.counts.get(form, self.forms[form].is_echo)
+        let is_echo = self.forms.get(form)?.is_echo;
+        self.counts.get(form, is_echo)
     }
 
     /// Adds forms behind those that are known, as far as there is room.
     pub(crate) fn add(&mut self, forms: &[LineForm]) {
         for form in forms {
-            if self.forms.try_push(form.copied()).is_ok() {
+            if self.forms.push(form.copied()) {
                 self.counts.add();
             }
         }
@@ -155,7 +159,7 @@ impl FormReader {
     /// Adds forms that are given by samples: they stay, and come before those that are learnt.
     pub(crate) fn give(&mut self, forms: &[LineForm]) {
         self.add(forms);
-        self.given = self.forms.len();
+        self.given = self.forms.list().len();
     }
 
     /// Returns whether other forms may be taken: no message is open, and no octets of a stream are held.
@@ -169,19 +173,19 @@ impl FormReader {
         let mut kept: Forms = ArrayVec::new();
         let mut counts = Counts::new();
         counts.copy_others(&self.counts);
-        for (at, form) in self.forms.iter().enumerate() {
+        for (at, form) in self.forms.list().iter().enumerate() {
             if at < self.given && kept.try_push(form.copied()).is_ok() {
                 counts.add_from(&self.counts, at);
             }
         }
         for form in forms {
-            if !has_same(&self.forms[..self.given.min(self.forms.len())], form)
+            if !has_same(given_of(self.forms.list(), self.given), form)
                 && kept.try_push(form.copied()).is_ok()
             {
-                counts.add_from(&self.counts, place_of(&self.forms, form));
+                counts.add_from(&self.counts, place_of(self.forms.list(), form));
             }
         }
-        for (at, form) in self.forms.iter().enumerate() {
+        for (at, form) in self.forms.list().iter().enumerate() {
             if at >= self.given
                 && !has_front(forms, form.front())
                 && kept.try_push(form.copied()).is_ok()
@@ -189,7 +193,7 @@ impl FormReader {
                 counts.add_from(&self.counts, at);
             }
         }
-        self.forms = kept;
+        self.forms.set(kept);
         self.counts = counts;
     }
 
@@ -198,7 +202,7 @@ impl FormReader {
         match verdict.kind {
             Kind::Possible | Kind::Damaged => true,
             Kind::PassedOver => self.is_loud
-                || self.forms.is_empty() && !is_plain_quiet(line, &mut self.octets),
+                || self.forms.list().is_empty() && !is_plain_quiet(line, &mut self.octets),
             _ => false,
         }
     }
@@ -210,7 +214,7 @@ impl FormReader {
         let said = if line.is_long || has_gap {
             self.reading.skip()
         } else {
-            self.reading.read(&self.forms, line.text)
+            self.reading.read(self.forms.list(), line.text)
         };
         let goes_on = was_open
             && !said.is_broken

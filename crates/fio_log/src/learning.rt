@@ -22,15 +22,15 @@ pub(crate) struct Learning {
     pub window: Window,
     sniffer: Sniffer,
     looking: Looking,
-    /// Whether the first window still fills.
-    is_first: bool,
+    /// Whether the first window has ended.
+    is_later: bool,
     /// Whether a line since the last look may be of a form that is not known.
     is_new: bool,
     /// How many lines more are looked at.
     near: u8,
     /// How many lines more are passed over.
     rest: u64,
-    /// How many are passed over after the next window without forms.
+    /// How many are passed over after the next window without forms, if one has ended before.
     next_rest: u64,
 }
 
@@ -43,11 +43,11 @@ impl Learning {
             window: Window::new(),
             sniffer: Sniffer::new(),
             looking: Looking::new(),
-            is_first: true,
+            is_later: false,
             is_new: false,
             near: 0,
             rest: 0,
-            next_rest: REST,
+            next_rest: 0,
         }
     }
 
@@ -56,10 +56,10 @@ impl Learning {
         ensures { self.new.window ≡ [] }
     {
         self.clear();
-        self.is_first = true;
+        self.is_later = false;
         self.near = 0;
         self.rest = 0;
-        self.next_rest = REST;
+        self.next_rest = 0;
     }
 
     /// Begins another window.
@@ -68,7 +68,7 @@ impl Learning {
     {
         self.window.clear();
         self.looking.clear();
-        self.is_first = false;
+        self.is_later = true;
         self.is_new = false;
     }
 
@@ -137,7 +137,7 @@ impl Learning {
             self.near = NEAR;
             self.is_new = true;
         }
-        if !self.is_first && self.near == 0 {
+        if self.is_later && self.near == 0 {
             return false;
         }
         self.near = self.near.saturating_sub(1);
@@ -159,7 +159,7 @@ impl Learning {
     /// Ends a window that is full, for a line; returns whether the next one begins with it, as the one after the first window does
     /// if the line may be of another form.
     fn push_anew(&mut self, line: &[u8]) -> bool {
-        if !self.is_first || !self.is_new {
+        if self.is_later || !self.is_new {
             self.end_window();
             return false;
         }
@@ -171,9 +171,9 @@ impl Learning {
     /// Ends a window that is full; after one that gave no forms lines are passed over.
     fn end_window(&mut self) {
         if self.is_new {
-            self.rest = self.next_rest;
-            self.next_rest = if self.next_rest < LONGEST_REST {
-                2 * self.next_rest
+            self.rest = self.next_rest.max(REST);
+            self.next_rest = if self.rest < LONGEST_REST {
+                2 * self.rest
             } else {
                 LONGEST_REST
             };

@@ -58,6 +58,7 @@ mod digits;
 mod directions;
 mod ends;
 mod heading;
+mod known_forms;
 pub mod laws;
 mod learning;
 mod lines;

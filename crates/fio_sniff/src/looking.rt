@@ -19,7 +19,7 @@ pub struct Looking {
     above: Seen,
     /// Whether the look above that one found the same ones.
     is_again: bool,
-    /// The number of lines at the next look.
+    /// The number of lines at the next look; less than at the first one before that.
     next: usize,
 }
 
@@ -38,7 +38,7 @@ impl Looking {
         Looking {
             above: ArrayVec::new(),
             is_again: false,
-            next: FIRST,
+            next: 0,
         }
     }
 
@@ -46,13 +46,13 @@ impl Looking {
     pub fn clear(&mut self) {
         self.above.clear();
         self.is_again = false;
-        self.next = FIRST;
+        self.next = 0;
     }
 
     /// Looks at a window to which a line was added, if it is time. Returns the forms if the last look found the same ones; `None`
     /// if it is too early to say. A window that is full, and one of a log that has ended, is for `Sniffer::sniff`.
     pub fn look(&mut self, sniffer: &mut Sniffer, lines: &Window) -> Option<Forms> {
-        if lines.len() < self.next || self.next >= LINES {
+        if lines.len() < self.next.max(FIRST) || self.next >= LINES {
             return None;
         }
         self.next = lines.len().saturating_mul(2);

@@ -26,7 +26,7 @@ pub(crate) struct Streams {
     stream: Stream,
     sure: Set,
     /// The forms of the best stream.
-    best: StreamForms,
+    best: Option<StreamForms>,
     /// Its messages.
     messages: u32,
 }
@@ -96,7 +96,7 @@ impl Streams {
             octets: ArrayVec::new(),
             stream: Stream::new(),
             sure: Set::new(),
-            best: ArrayVec::new(),
+            best: None,
             messages: 0,
         }
     }
@@ -170,7 +170,7 @@ impl Streams {
             let messages = self.strength(own, lines, is_flags, is_few);
             if messages > self.messages {
                 self.messages = messages;
-                self.best.clear();
+                let mut best: StreamForms = ArrayVec::new();
                 for form in own {
                     let mut form = form.copied();
                     form.rows = if is_flags {
@@ -178,8 +178,9 @@ impl Streams {
                     } else {
                         LineRows::Stream
                     };
-                    let _ = self.best.try_push(form);
+                    let _ = best.try_push(form);
                 }
+                self.best = Some(best);
             }
         }
     }
@@ -204,7 +205,7 @@ impl Streams {
     /// Searches the best stream; returns its messages. `is_few`: the lines are a short log, which has ended.
     pub(crate) fn search(&mut self, lines: &Window, is_few: bool) -> u32 {
         self.messages = 0;
-        self.best.clear();
+        self.best = None;
         let forms = self.counting.candidates(lines);
         for form in &forms {
             self.try_all(slice::from_ref(form), lines, is_few);
@@ -226,8 +227,10 @@ impl Streams {
     /// Returns the forms of the best stream.
     pub(crate) fn forms(&self) -> Forms {
         let mut forms: Forms = ArrayVec::new();
-        for form in &self.best {
-            let _ = forms.try_push(form.copied());
+        if let Some(best) = &self.best {
+            for form in best {
+                let _ = forms.try_push(form.copied());
+            }
         }
         forms
     }

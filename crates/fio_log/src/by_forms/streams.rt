@@ -42,7 +42,11 @@ impl FormReader {
         };
         let is_all = self.is_quiet_from(line.text, found.end);
         let mut is_whole = self.stream_rows.push(StreamRow::of(place, count, said)) && is_all;
-        let is_flags = self.forms.iter().any(|form| form.rows == LineRows::Flags);
+        let is_flags = self
+            .forms
+            .list()
+            .iter()
+            .any(|form| form.rows == LineRows::Flags);
         for at in 0..count {
             if let Some(octet) = self.reading.octets.get(at).copied() {
                 is_whole = self.stream.take(octet) && is_whole;

@@ -166,7 +166,10 @@ impl FormReader {
         ensures words { SaysWords line.entry.text.now result.1 }
         ensures blank { result.0 ≡ Kind.Blank → is_blank_line (record { octets = line.entry.text.now; is_long = line.entry.is_long }) ≡ true }
     {
-        let is_echo = heard.said.form < self.forms.len() && self.forms[heard.said.form].is_echo;
+        let is_echo = match self.forms.get(heard.said.form) {
+            Some(form) => form.is_echo,
+            None => false,
+        };
         if is_echo {
             return if self.reading.message.as_slice() == self.last.as_slice() {
                 (Kind::PassedOver, Reason::Copy)
@@ -179,11 +182,11 @@ impl FormReader {
             told.clear();
             return (Kind::Damaged, Reason::TooLong);
         }
-        let form = heard.said.form;
         let end = heard.said.found.end;
-        let is_cut = form < self.forms.len()
-            && end <= line.text.len()
-            && ends_in_gap(&self.forms[form], &line.text[end..]);
+        let is_cut = match self.forms.get(heard.said.form) {
+            Some(form) => end <= line.text.len() && ends_in_gap(form, &line.text[end..]),
+            None => false,
+        };
         let is_first = self.is_first(line.text, heard);
         let is_all = self.tell_seconds(line, end, told) && !is_cut && is_first;
         (
@@ -197,7 +200,7 @@ impl FormReader {
         let front = heard.said.found.front;
         match self.forms.get(heard.said.form) {
             Some(form) if form.is_anywhere && front <= line.len() => second_in(
-                &self.forms,
+                self.forms.list(),
                 &line[..front],
                 0,
                 &mut self.octets,
@@ -219,7 +222,7 @@ impl FormReader {
                 break;
             }
             let Some((found, whole)) = second_in(
-                &self.forms,
+                self.forms.list(),
                 line.text,
                 from,
                 &mut self.octets,
@@ -245,7 +248,13 @@ impl FormReader {
             let _fits = self.last.try_extend_from_slice(&self.octets[start..stop]);
             is_all = is_all
                 && is_told
-                && is_quiet_between(&self.forms, line.text, from, found.front, &mut self.octets);
+                && is_quiet_between(
+                    self.forms.list(),
+                    line.text,
+                    from,
+                    found.front,
+                    &mut self.octets,
+                );
             from = found.end;
         }
         is_all && self.is_quiet_from(line.text, from)
@@ -253,7 +262,7 @@ impl FormReader {
 
     /// Returns whether a line has no octets that may be a message from a place on.
     pub(super) fn is_quiet_from(&mut self, line: &[u8], from: usize) -> bool {
-        is_quiet_between(&self.forms, line, from, line.len(), &mut self.octets)
+        is_quiet_between(self.forms.list(), line, from, line.len(), &mut self.octets)
     }
 
     /// Returns what a line is that no form has.
@@ -267,14 +276,24 @@ impl FormReader {
             return (Kind::Blank, Reason::None);
         }
         if self.above.is_heading()
-            || is_cut_line(&self.forms, line.text, &mut self.octets, &mut self.held)
+            || is_cut_line(
+                self.forms.list(),
+                line.text,
+                &mut self.octets,
+                &mut self.held,
+            )
         {
             return (Kind::Damaged, Reason::NoMessage);
         }
-        let held = held_by_text(&self.forms, line.text, &mut self.octets);
+        let held = held_by_text(self.forms.list(), line.text, &mut self.octets);
         self.is_loud = held != Hidden::Nothing
-            || has_ends(&self.forms, line.text, &mut self.octets, &mut self.held)
-            || lacks_middle(&self.forms, line.text)
+            || has_ends(
+                self.forms.list(),
+                line.text,
+                &mut self.octets,
+                &mut self.held,
+            )
+            || lacks_middle(self.forms.list(), line.text)
             || self.counts.has_part(line.text);
         if !self.is_loud {
             let reason = reason_without_octets(line.text);
@@ -287,7 +306,7 @@ impl FormReader {
             return (Kind::PassedOver, reason);
         }
         let is_usual = self.shapes.are_usual(line.text, held == Hidden::Message);
-        if is_usual && !has_fronts(&self.forms, line.text, &mut self.octets) {
+        if is_usual && !has_fronts(self.forms.list(), line.text, &mut self.octets) {
             (Kind::PassedOver, Reason::NoMessage)
         } else {
             (Kind::Possible, Reason::NoForm)
