@@ -8,7 +8,7 @@
  * access outside the arguments of a call, which the proof excludes, ends in FIO2070_TRAP(). FIO2070_UNCHECKED leaves
  * the tests of accesses out. FIO2070_FAST makes the code longer and faster.
  *
- * Sources: ada8fde267b9e313b9a70846bc2a25408157d72ac51e989a33c14160f7b1d30b (SHA-256; packaging/release-files --sources)
+ * Sources: 9ff35275ff4ead02b0a2de3e543dfe134a5e328b49f97c592725ebaa06d09062 (SHA-256; packaging/release-files --sources)
  * Kit: rattle-kit-13f logic dac8208d650f15bf
  * Proof: logic=proved functions=226 target=wasm64-unknown-unknown sum=dac8208d650f15bf native=nat,char,string
  * Made by `make release-files`: do not edit.
@@ -234,8 +234,8 @@ FIO2070_HOT uint64_t trailing64(uint64_t x) { return (uint32_t)x ? trailing32((u
 FIO2070_HOT uint32_t ones32(uint32_t x) { x = PAIRS(x); x = FOURS(x); return (((x + (x >> 4)) & 0x0F0F0F0Fu) * 0x01010101u) >> 24; }
 FIO2070_HOT uint64_t ones64(uint64_t x) { return ones32((uint32_t)x) + ones32((uint32_t)(x >> 32)); }
 
-static const uint8_t table_67482[1134] = {
-154,7,1,0,102,4,0,0,99,111,117,110,116,101,114,32,108,111,97,100,99,111,110,102,105,103,117,114,101,114,97,119,
+static const uint8_t table_1050522[1134] = {
+154,7,16,0,102,4,0,0,99,111,117,110,116,101,114,32,108,111,97,100,99,111,110,102,105,103,117,114,101,114,97,119,
 119,97,116,99,104,100,111,103,32,115,116,97,109,112,32,32,116,114,97,110,115,109,105,116,32,32,114,101,99,101,105,118,
 101,32,115,116,97,116,117,115,32,102,108,97,103,115,32,48,48,48,49,48,50,48,51,48,52,48,53,48,54,48,55,48,
 56,48,57,49,48,49,49,49,50,49,51,49,52,49,53,49,54,49,55,49,56,49,57,50,48,50,49,50,50,50,51,50,
@@ -263,14 +263,14 @@ static const uint8_t table_67482[1134] = {
 10,0,1,2,3,4,6,7,10,11,13,14,0,0,5,0,0,0,0,0,0,0,5,0,0,0,0,0,0,0,9,0,
 0,0,0,0,0,0,5,0,0,0,0,0,0,0,7,0,0,0,0,0,0,0,5,0,0,0,0,0,0,0,5,0,
 0,0,0,0,0,0,4,0,0,0,0,0,0,0,8,0,0,0,0,0,0,0,7,0,0,0,0,0,0,0,8,0,
-0,0,0,0,0,0,180,9,1,0,0,0,0,0,185,9,1,0,0,0,0,0,190,9,1,0,0,0,0,0,199,9,
-1,0,0,0,0,0,204,9,1,0,0,0,0,0,211,9,1,0,0,0,0,0,216,9,1,0,0,0,0,0,221,9,
-1,0,0,0,0,0,225,9,1,0,0,0,0,0,233,9,1,0,0,0,0,0,178,7,1,0,0,0,0,0,8,0,
+0,0,0,0,0,0,180,9,16,0,0,0,0,0,185,9,16,0,0,0,0,0,190,9,16,0,0,0,0,0,199,9,
+16,0,0,0,0,0,204,9,16,0,0,0,0,0,211,9,16,0,0,0,0,0,216,9,16,0,0,0,0,0,221,9,
+16,0,0,0,0,0,225,9,16,0,0,0,0,0,233,9,16,0,0,0,0,0,178,7,16,0,0,0,0,0,8,0,
 0,0,0,0,0,0,4,0,0,0,0,0,0,0,6,0,0,0,0,0,0,0,7,0,0,0,0,0,0,0,4,0,
 0,0,0,0,0,0,8,0,0,0,0,0,0,0,6,0,0,0,0,0,0,0,4,0,0,0,0,0,0,0,7,0,
-0,0,0,0,0,0,30,10,1,0,0,0,0,0,38,10,1,0,0,0,0,0,42,10,1,0,0,0,0,0,48,10,
-1,0,0,0,0,0,55,10,1,0,0,0,0,0,59,10,1,0,0,0,0,0,67,10,1,0,0,0,0,0,73,10,
-1,0,0,0,0,0,77,10,1,0,0,0,0,0};
+0,0,0,0,0,0,30,10,16,0,0,0,0,0,38,10,16,0,0,0,0,0,42,10,16,0,0,0,0,0,48,10,
+16,0,0,0,0,0,55,10,16,0,0,0,0,0,59,10,16,0,0,0,0,0,67,10,16,0,0,0,0,0,73,10,
+16,0,0,0,0,0,77,10,16,0,0,0,0,0};
 static uint32_t rattle_enter(struct machine *m);
 static void rattle_leave(struct machine *m);
 static void fio_check_content_ContentChecker_heard(struct machine *m, uint64_t v0, uint64_t v1, uint64_t v2, uint64_t v3);
@@ -10673,11 +10673,11 @@ uint32_t v9 = 0;
 uint32_t v10 = 0;
 uint32_t v11 = 0;
 uint32_t v12 = 0;
-uint32_t v13 = 0;
-uint64_t v14 = 0;
-uint32_t v15 = 0;
+uint64_t v13 = 0;
+uint32_t v14 = 0;
+uint64_t v15 = 0;
 uint32_t v16 = 0;
-uint64_t v17 = 0;
+uint32_t v17 = 0;
 uint64_t v18 = 0;
 uint64_t v19 = 0;
 uint32_t i0;
@@ -10718,6 +10718,7 @@ uint8_t *p25;
 uint8_t *p26;
 uint8_t *p27;
 uint8_t *p28;
+uint8_t *p29;
 j0 = m->g0;
 j1 = UINT64_C(48);
 j0 = j0 - j1;
@@ -10768,16 +10769,16 @@ j1 = UINT64_C(1);
 j0 = j0 + j1;
 p3 = read_at(j0 + UINT64_C(18446744073709551615), m, 2u);
 j0 = load8(p3 + 1);
-v3 = j0;
+v8 = j0;
 j0 = v2;
 j0 = load8(p3 + 0);
-v8 = j0;
+v13 = j0;
 j0 = v0;
 j1 = UINT64_C(2);
 j0 = j0 + j1;
-v2 = j0;
-j1 = v2;
-p4 = write_at(j1, m, 14u);
+v3 = j0;
+j1 = v3;
+p4 = write_at(j1, m, 1u);
 i1 = load8(p4 + 0);
 i2 = v10;
 i3 = UINT32_C(4294967295);
@@ -10787,11 +10788,18 @@ v11 = i1;
 store8(p4 + 0, i1);
 j0 = UINT64_C(8);
 v2 = j0;
+j0 = v5;
+j1 = UINT64_C(8);
+i0 = (j0 < j1);
+if (i0) { goto l2; }
+j0 = UINT64_C(8);
+v2 = j0;
 j0 = v4;
 j1 = v0;
 j2 = UINT64_C(12);
 j1 = j1 + j2;
-i1 = load32(p4 + 10);
+p5 = read_at(j1, m, 4u);
+i1 = load32(p5 + 0);
 v12 = i1;
 i2 = UINT32_C(16711935);
 i1 = i1 & i2;
@@ -10806,11 +10814,11 @@ i1 = i1 | i2;
 j1 = (uint64_t)i1;
 j2 = UINT64_C(32);
 j1 = j1 << (j2 & 63);
-j2 = v3;
+j2 = v8;
 j3 = UINT64_C(24);
 j2 = j2 << (j3 & 63);
 j1 = j1 | j2;
-j2 = v8;
+j2 = v13;
 j3 = UINT64_C(16);
 j2 = j2 << (j3 & 63);
 j1 = j1 | j2;
@@ -10823,8 +10831,8 @@ j2 = j2 << (j3 & 63);
 j1 = j1 | j2;
 j2 = UINT64_C(177);
 j1 = j1 | j2;
-p5 = write_at(j0, m, 8u);
-store64(p5 + 0, j1);
+p6 = write_at(j0, m, 8u);
+store64(p6 + 0, j1);
 goto l2;
 }
 j0 = v6;
@@ -10836,15 +10844,15 @@ store16(p1 + 44, i1);
 j0 = UINT64_C(0);
 v2 = j0;
 i0 = UINT32_C(0);
-v13 = i0;
+v14 = i0;
 j0 = UINT64_C(0);
-v14 = j0;
-i0 = UINT32_C(0);
-v15 = i0;
+v15 = j0;
 i0 = UINT32_C(0);
 v16 = i0;
+i0 = UINT32_C(0);
+v17 = i0;
 j0 = UINT64_C(0);
-v17 = j0;
+v13 = j0;
 j0 = UINT64_C(0);
 v3 = j0;
 i0 = v11;
@@ -10877,21 +10885,21 @@ j0 = v0;
 j1 = UINT64_C(20);
 j0 = j0 + j1;
 i1 = UINT32_C(1);
-p6 = write_at(j0 + UINT64_C(18446744073709551612), m, 5u);
-store8(p6 + 4, i1);
+p7 = write_at(j0 + UINT64_C(18446744073709551612), m, 5u);
+store8(p7 + 4, i1);
 j0 = v0;
 j1 = UINT64_C(16);
 j0 = j0 + j1;
 i1 = v9;
-store32(p6 + 0, i1);
+store32(p7 + 0, i1);
 j0 = UINT64_C(1);
 v3 = j0;
 j0 = UINT64_C(2);
-v17 = j0;
+v13 = j0;
 i0 = UINT32_C(178);
-v16 = i0;
+v17 = i0;
 i0 = UINT32_C(0);
-v13 = i0;
+v14 = i0;
 i0 = UINT32_C(0);
 v12 = i0;
 goto l4;
@@ -10899,7 +10907,7 @@ l16:;
 j0 = v7;
 j1 = UINT64_C(3);
 j0 = divide64(j0, j1);
-v17 = j0;
+v15 = j0;
 j0 = v7;
 j1 = UINT64_C(3);
 i0 = (j0 < j1);
@@ -10910,28 +10918,28 @@ j0 = j0 + j1;
 v7 = j0;
 j0 = v8;
 v3 = j0;
-j0 = v17;
-v14 = j0;
+j0 = v15;
+v13 = j0;
 l18:;
 j0 = v3;
-p7 = read_at(j0, m, 1u);
-i0 = load8(p7 + 0);
+p8 = read_at(j0, m, 1u);
+i0 = load8(p8 + 0);
 i1 = UINT32_C(64);
 i0 = i0 & i1;
 i0 = (i0 == 0);
 if (!i0) {
 i0 = UINT32_C(1);
-v13 = i0;
+v14 = i0;
 goto l5;
 }
 j0 = v3;
 j1 = UINT64_C(3);
 j0 = j0 + j1;
 v3 = j0;
-j0 = v14;
+j0 = v13;
 j1 = UINT64_C(18446744073709551615);
 j0 = j0 + j1;
-v14 = j0;
+v13 = j0;
 j1 = UINT64_C(0);
 i0 = (j0 != j1);
 if (i0) { goto l18; }
@@ -10947,19 +10955,19 @@ j0 = v0;
 j1 = UINT64_C(232);
 j0 = j0 + j1;
 v19 = j0;
-p8 = read_at(j0, m, 8u);
-j0 = load64(p8 + 0);
-v14 = j0;
+p9 = read_at(j0, m, 8u);
+j0 = load64(p9 + 0);
+v13 = j0;
 l20:;
 j0 = v8;
 j1 = UINT64_C(2);
 j0 = j0 + j1;
-p9 = read_at(j0 + UINT64_C(18446744073709551614), m, 3u);
-i0 = load8(p9 + 2);
+p10 = read_at(j0 + UINT64_C(18446744073709551614), m, 3u);
+i0 = load8(p10 + 2);
 v11 = i0;
 j0 = v18;
 j1 = v8;
-i1 = (uint32_t)extend(load8(p9 + 0), 7);
+i1 = (uint32_t)extend(load8(p10 + 0), 7);
 v12 = i1;
 i2 = UINT32_C(127);
 i1 = i1 & i2;
@@ -10969,27 +10977,27 @@ j0 = j0 + j1;
 j1 = v8;
 j2 = UINT64_C(1);
 j1 = j1 + j2;
-i1 = load8(p9 + 1);
-p10 = write_at(j0, m, 1u);
-store8(p10 + 0, i1);
+i1 = load8(p10 + 1);
+p11 = write_at(j0, m, 1u);
+store8(p11 + 0, i1);
 j0 = v7;
 j1 = v3;
 j0 = j0 + j1;
 i1 = UINT32_C(0);
-p11 = write_at(j0, m, 1u);
-store8(p11 + 0, i1);
+p12 = write_at(j0, m, 1u);
+store8(p12 + 0, i1);
 j0 = v1;
 j1 = v3;
 j0 = j0 + j1;
 i1 = v11;
-p12 = write_at(j0, m, 1u);
-store8(p12 + 0, i1);
+p13 = write_at(j0, m, 1u);
+store8(p13 + 0, i1);
 j0 = UINT64_C(1);
 j1 = v3;
 j0 = j0 << (j1 & 63);
-j1 = v14;
+j1 = v13;
 j0 = j0 | j1;
-j1 = v14;
+j1 = v13;
 j2 = UINT64_C(18446744073709551614);
 j3 = v3;
 j2 = rotate64(j2, j3);
@@ -10998,15 +11006,15 @@ i2 = v12;
 i3 = UINT32_C(0);
 i2 = (SIGNED32(i2) < SIGNED32(i3));
 j0 = i2 ? j0 : j1;
-v14 = j0;
+v13 = j0;
 j0 = v8;
 j1 = UINT64_C(3);
 j0 = j0 + j1;
 v8 = j0;
-j0 = v17;
+j0 = v15;
 j1 = UINT64_C(18446744073709551615);
 j0 = j0 + j1;
-v17 = j0;
+v15 = j0;
 j1 = UINT64_C(0);
 i0 = (j0 != j1);
 if (i0) { goto l20; }
@@ -11015,48 +11023,7 @@ l15:;
 j0 = v0;
 j1 = UINT64_C(12);
 j0 = j0 + j1;
-p13 = read_at(j0, m, 244u);
-i0 = load32(p13 + 0);
-v11 = i0;
-i1 = UINT32_C(16711935);
-i0 = i0 & i1;
-i1 = UINT32_C(8);
-i0 = rotate32(i0, 0u - i1);
-i1 = v11;
-i2 = UINT32_C(24);
-i1 = rotate32(i1, 0u - i2);
-i2 = UINT32_C(16711935);
-i1 = i1 & i2;
-i0 = i0 | i1;
-v15 = i0;
-j0 = v0;
-j1 = UINT64_C(248);
-j0 = j0 + j1;
-j0 = load64(p13 + 236);
-v3 = j0;
-j1 = UINT64_C(18446742974197923840);
-j0 = j0 & j1;
-v14 = j0;
-j0 = v3;
-i0 = (uint32_t)j0;
-v13 = i0;
-j0 = v3;
-j1 = UINT64_C(8);
-j0 = j0 >> (j1 & 63);
-i0 = (uint32_t)j0;
-v12 = i0;
-j0 = UINT64_C(1);
-v3 = j0;
-j0 = UINT64_C(13);
-v17 = j0;
-i0 = UINT32_C(180);
-v16 = i0;
-goto l3;
-l14:;
-j0 = v0;
-j1 = UINT64_C(12);
-j0 = j0 + j1;
-p14 = read_at(j0, m, 236u);
+p14 = read_at(j0, m, 244u);
 i0 = load32(p14 + 0);
 v11 = i0;
 i1 = UINT32_C(16711935);
@@ -11069,18 +11036,18 @@ i1 = rotate32(i1, 0u - i2);
 i2 = UINT32_C(16711935);
 i1 = i1 & i2;
 i0 = i0 | i1;
-v15 = i0;
+v16 = i0;
 j0 = v0;
-j1 = UINT64_C(240);
+j1 = UINT64_C(248);
 j0 = j0 + j1;
-j0 = load64(p14 + 228);
+j0 = load64(p14 + 236);
 v3 = j0;
 j1 = UINT64_C(18446742974197923840);
 j0 = j0 & j1;
-v14 = j0;
+v15 = j0;
 j0 = v3;
 i0 = (uint32_t)j0;
-v13 = i0;
+v14 = i0;
 j0 = v3;
 j1 = UINT64_C(8);
 j0 = j0 >> (j1 & 63);
@@ -11089,9 +11056,50 @@ v12 = i0;
 j0 = UINT64_C(1);
 v3 = j0;
 j0 = UINT64_C(13);
-v17 = j0;
-i0 = UINT32_C(181);
+v13 = j0;
+i0 = UINT32_C(180);
+v17 = i0;
+goto l3;
+l14:;
+j0 = v0;
+j1 = UINT64_C(12);
+j0 = j0 + j1;
+p15 = read_at(j0, m, 236u);
+i0 = load32(p15 + 0);
+v11 = i0;
+i1 = UINT32_C(16711935);
+i0 = i0 & i1;
+i1 = UINT32_C(8);
+i0 = rotate32(i0, 0u - i1);
+i1 = v11;
+i2 = UINT32_C(24);
+i1 = rotate32(i1, 0u - i2);
+i2 = UINT32_C(16711935);
+i1 = i1 & i2;
+i0 = i0 | i1;
 v16 = i0;
+j0 = v0;
+j1 = UINT64_C(240);
+j0 = j0 + j1;
+j0 = load64(p15 + 228);
+v3 = j0;
+j1 = UINT64_C(18446742974197923840);
+j0 = j0 & j1;
+v15 = j0;
+j0 = v3;
+i0 = (uint32_t)j0;
+v14 = i0;
+j0 = v3;
+j1 = UINT64_C(8);
+j0 = j0 >> (j1 & 63);
+i0 = (uint32_t)j0;
+v12 = i0;
+j0 = UINT64_C(1);
+v3 = j0;
+j0 = UINT64_C(13);
+v13 = j0;
+i0 = UINT32_C(181);
+v17 = i0;
 goto l3;
 l13:;
 j0 = v0;
@@ -11101,40 +11109,40 @@ fio_module_state_ModuleState_poll(m, j0, j1, i2);
 j0 = UINT64_C(2);
 v3 = j0;
 i0 = UINT32_C(0);
-v13 = i0;
+v14 = i0;
 i0 = UINT32_C(0);
 v12 = i0;
 j0 = UINT64_C(0);
-v14 = j0;
-i0 = UINT32_C(0);
-v15 = i0;
+v15 = j0;
 i0 = UINT32_C(0);
 v16 = i0;
+i0 = UINT32_C(0);
+v17 = i0;
 j0 = UINT64_C(0);
-v17 = j0;
+v13 = j0;
 goto l3;
 l12:;
 j0 = v8;
-p15 = read_at(j0, m, 8u);
-j0 = load64(p15 + 0);
+p16 = read_at(j0, m, 8u);
+j0 = load64(p16 + 0);
 v3 = j0;
 j0 = v0;
 j1 = UINT64_C(32);
 j0 = j0 + j1;
 j1 = v7;
-p16 = read_at(j1, m, 8u);
-j1 = load64(p16 + 0);
-p17 = write_at(j0 + UINT64_C(18446744073709551596), m, 28u);
-store64(p17 + 20, j1);
+p17 = read_at(j1, m, 8u);
+j1 = load64(p17 + 0);
+p18 = write_at(j0 + UINT64_C(18446744073709551596), m, 28u);
+store64(p18 + 20, j1);
 j0 = v0;
 j1 = UINT64_C(24);
 j0 = j0 + j1;
 j1 = v3;
-store64(p17 + 12, j1);
+store64(p18 + 12, j1);
 j0 = v0;
 j1 = UINT64_C(12);
 j0 = j0 + j1;
-i0 = load32(p17 + 0);
+i0 = load32(p18 + 0);
 v11 = i0;
 i1 = UINT32_C(16711935);
 i0 = i0 & i1;
@@ -11150,19 +11158,19 @@ v12 = i0;
 j0 = UINT64_C(1);
 v3 = j0;
 j0 = UINT64_C(6);
-v17 = j0;
+v13 = j0;
 i0 = UINT32_C(183);
-v16 = i0;
+v17 = i0;
 i0 = UINT32_C(0);
-v13 = i0;
+v14 = i0;
 goto l4;
 l11:;
 j0 = v0;
 j1 = UINT64_C(3);
 j0 = j0 + j1;
 v3 = j0;
-p18 = write_at(j0, m, 1u);
-i0 = load8(p18 + 0);
+p19 = write_at(j0, m, 1u);
+i0 = load8(p19 + 0);
 v11 = i0;
 j0 = v3;
 i1 = v10;
@@ -11180,31 +11188,31 @@ i3 = v12;
 i4 = UINT32_C(100);
 i3 = (i3 < i4);
 i1 = i3 ? i1 : i2;
-store8(p18 + 0, i1);
+store8(p19 + 0, i1);
 i0 = UINT32_C(0);
 v12 = i0;
 i0 = v11;
 i1 = UINT32_C(0);
 i0 = (i0 != i1);
-v13 = i0;
+v14 = i0;
 j0 = UINT64_C(1);
 v3 = j0;
 j0 = UINT64_C(2);
-v17 = j0;
+v13 = j0;
 i0 = UINT32_C(186);
-v16 = i0;
+v17 = i0;
 goto l4;
 l10:;
 j0 = v0;
-p19 = read_at(j0, m, 1u);
-i0 = load8(p19 + 0);
-v13 = i0;
+p20 = read_at(j0, m, 1u);
+i0 = load8(p20 + 0);
+v14 = i0;
 j0 = UINT64_C(1);
 v3 = j0;
 j0 = UINT64_C(2);
-v17 = j0;
+v13 = j0;
 i0 = UINT32_C(188);
-v16 = i0;
+v17 = i0;
 goto l4;
 }
 fio2070_trap();
@@ -11213,137 +11221,138 @@ j0 = v0;
 j1 = UINT64_C(232);
 j0 = j0 + j1;
 v19 = j0;
-p20 = read_at(j0, m, 8u);
-j0 = load64(p20 + 0);
-v14 = j0;
+p21 = read_at(j0, m, 8u);
+j0 = load64(p21 + 0);
+v13 = j0;
 l6:;
 j0 = v19;
-j1 = v14;
-p21 = write_at(j0, m, 8u);
-store64(p21 + 0, j1);
+j1 = v13;
+p22 = write_at(j0, m, 8u);
+store64(p22 + 0, j1);
 i0 = UINT32_C(0);
-v13 = i0;
+v14 = i0;
 l5:;
 i0 = UINT32_C(0);
 v12 = i0;
 j0 = v6;
 i1 = UINT32_C(0);
-p22 = write_at(j0 + UINT64_C(44), m, 3u);
-store8(p22 + 2, i1);
+p23 = write_at(j0 + UINT64_C(44), m, 3u);
+store8(p23 + 2, i1);
 j0 = v6;
 i1 = UINT32_C(0);
-store16(p22 + 0, i1);
+store16(p23 + 0, i1);
 j0 = UINT64_C(1);
 v3 = j0;
 j0 = UINT64_C(2);
-v17 = j0;
+v13 = j0;
 i0 = UINT32_C(179);
-v16 = i0;
+v17 = i0;
 l4:;
 j0 = UINT64_C(0);
-v14 = j0;
+v15 = j0;
 i0 = UINT32_C(0);
-v15 = i0;
+v16 = i0;
 l3:;
 j0 = v6;
 j1 = v6;
-p23 = write_at(j1 + UINT64_C(4), m, 43u);
-i1 = load8(p23 + 42);
+p24 = write_at(j1 + UINT64_C(4), m, 43u);
+i1 = load8(p24 + 42);
 v11 = i1;
-store8(p23 + 2, i1);
+store8(p24 + 2, i1);
 j0 = v6;
 j1 = v6;
-i1 = load16(p23 + 40);
+i1 = load16(p24 + 40);
 v10 = i1;
-store16(p23 + 0, i1);
-j0 = v6;
-i1 = v15;
-store32(p23 + 21, i1);
+store16(p24 + 0, i1);
 j0 = v6;
 i1 = v16;
-store8(p23 + 12, i1);
+store32(p24 + 21, i1);
+j0 = v6;
+i1 = v17;
+store8(p24 + 12, i1);
 j0 = v6;
 j1 = v3;
-store64(p23 + 4, j1);
+store64(p24 + 4, j1);
 j0 = v6;
 i1 = v10;
-store16(p23 + 25, i1);
+store16(p24 + 25, i1);
 j0 = v6;
 i1 = v11;
-store8(p23 + 27, i1);
+store8(p24 + 27, i1);
 j0 = v6;
-j1 = v17;
-store64(p23 + 28, j1);
+j1 = v13;
+store64(p24 + 28, j1);
 j0 = v6;
-j1 = v14;
+j1 = v15;
 i2 = v12;
 j2 = (uint64_t)i2;
 j3 = UINT64_C(8);
 j2 = j2 << (j3 & 63);
 j1 = j1 | j2;
-i2 = v13;
+i2 = v14;
 j2 = (uint64_t)i2;
 j3 = UINT64_C(255);
 j2 = j2 & j3;
 j1 = j1 | j2;
-store64(p23 + 13, j1);
+store64(p24 + 13, j1);
 j0 = v6;
 j1 = UINT64_C(8);
 j0 = j0 + j1;
 j1 = UINT64_C(8);
 j0 = j0 + j1;
-v14 = j0;
+v15 = j0;
 j0 = v3;
 i0 = (uint32_t)j0;
 switch (i0) {
 case 0:
 goto l2;
 case 1:
-goto l22;
+goto l21;
 case 2:
-goto l23;
+goto l22;
 default:
 goto l2;
 }
-l23:;
-j0 = v5;
-j1 = v0;
-j2 = UINT64_C(1030);
-j1 = j1 + j2;
-p24 = read_at(j1, m, 2u);
-i1 = load16(p24 + 0);
-v11 = i1;
-i2 = UINT32_C(773);
-i3 = v11;
-i4 = UINT32_C(773);
-i3 = (i3 < i4);
-i1 = i3 ? i1 : i2;
-j1 = (uint64_t)i1;
-v17 = j1;
-i0 = (j0 < j1);
-if (i0) { goto l21; }
+l22:;
+j0 = v0;
+j1 = UINT64_C(1030);
+j0 = j0 + j1;
+p25 = read_at(j0, m, 2u);
+i0 = load16(p25 + 0);
+v11 = i0;
+i1 = UINT32_C(773);
+i2 = v11;
+i3 = UINT32_C(773);
+i2 = (i2 < i3);
+i0 = i2 ? i0 : i1;
+j0 = (uint64_t)i0;
+v13 = j0;
 j0 = v0;
 j1 = UINT64_C(256);
 j0 = j0 + j1;
-v14 = j0;
-l22:;
+v15 = j0;
+l21:;
+j0 = v13;
+j1 = v5;
+i0 = (j0 > j1);
+if (!i0) {
 j0 = v4;
-j1 = v14;
+j1 = v15;
 j0 = j0 - j1;
-j1 = v17;
+j1 = v13;
 i0 = (j0 >= j1);
 if (!i0) {
-j0 = v17;
+j0 = v13;
 j1 = UINT64_C(3);
 j0 = j0 & j1;
 v2 = j0;
 j0 = UINT64_C(0);
 v8 = j0;
-j0 = v17;
+j0 = v13;
 j1 = UINT64_C(4);
 i0 = (j0 < j1);
 if (!i0) {
-j0 = v17;
+j0 = v13;
 j1 = UINT64_C(65532);
 j0 = j0 & j1;
 v5 = j0;
@@ -11354,38 +11363,38 @@ j0 = v4;
 j1 = v8;
 j0 = j0 + j1;
 v3 = j0;
-j1 = v14;
+j1 = v15;
 j2 = v8;
 j1 = j1 + j2;
 v0 = j1;
-p25 = read_at(j1, m, 4u);
-i1 = load8(p25 + 0);
-p26 = write_at(j0, m, 4u);
-store8(p26 + 0, i1);
+p26 = read_at(j1, m, 4u);
+i1 = load8(p26 + 0);
+p27 = write_at(j0, m, 4u);
+store8(p27 + 0, i1);
 j0 = v3;
 j1 = UINT64_C(1);
 j0 = j0 + j1;
 j1 = v0;
 j2 = UINT64_C(1);
 j1 = j1 + j2;
-i1 = load8(p25 + 1);
-store8(p26 + 1, i1);
+i1 = load8(p26 + 1);
+store8(p27 + 1, i1);
 j0 = v3;
 j1 = UINT64_C(2);
 j0 = j0 + j1;
 j1 = v0;
 j2 = UINT64_C(2);
 j1 = j1 + j2;
-i1 = load8(p25 + 2);
-store8(p26 + 2, i1);
+i1 = load8(p26 + 2);
+store8(p27 + 2, i1);
 j0 = v3;
 j1 = UINT64_C(3);
 j0 = j0 + j1;
 j1 = v0;
 j2 = UINT64_C(3);
 j1 = j1 + j2;
-i1 = load8(p25 + 3);
-store8(p26 + 3, i1);
+i1 = load8(p26 + 3);
+store8(p27 + 3, i1);
 j0 = v5;
 j1 = v8;
 j2 = UINT64_C(4);
@@ -11396,23 +11405,23 @@ if (!i0) break;
 }
 j0 = v2;
 i0 = (j0 == 0);
-if (i0) { goto l21; }
+if (i0) { goto l23; }
 }
 j0 = v4;
 j1 = v8;
 j0 = j0 + j1;
 v3 = j0;
-j0 = v14;
+j0 = v15;
 j1 = v8;
 j0 = j0 + j1;
 v8 = j0;
 l27:;
 j0 = v3;
 j1 = v8;
-p27 = read_at(j1, m, 1u);
-i1 = load8(p27 + 0);
-p28 = write_at(j0, m, 1u);
-store8(p28 + 0, i1);
+p28 = read_at(j1, m, 1u);
+i1 = load8(p28 + 0);
+p29 = write_at(j0, m, 1u);
+store8(p29 + 0, i1);
 j0 = v3;
 j1 = UINT64_C(1);
 j0 = j0 + j1;
@@ -11428,18 +11437,19 @@ v2 = j0;
 j1 = UINT64_C(0);
 i0 = (j0 != j1);
 if (i0) { goto l27; }
-goto l21;
+goto l23;
 }
-j0 = v17;
+j0 = v13;
 i0 = (j0 == 0);
 if (!i0) {
 j0 = v4;
-j1 = v14;
-j2 = v17;
+j1 = v15;
+j2 = v13;
 copy(m, j0, j1, j2);
 }
-l21:;
-j0 = v17;
+}
+l23:;
+j0 = v13;
 v2 = j0;
 l2:;
 j0 = v6;
@@ -12031,7 +12041,7 @@ j4 = UINT64_C(16);
 hex_encode_to_slice(m, j0, j1, j2, j3, j4);
 j0 = v5;
 j1 = UINT64_C(0);
-p5 = read_at(j1 + UINT64_C(67898), m, 26u);
+p5 = read_at(j1 + UINT64_C(1050938), m, 26u);
 j1 = load64(p5 + 0);
 store64(p1 + 294, j1);
 j0 = v5;
@@ -12143,7 +12153,7 @@ j1 = v4;
 j0 = j0 + j1;
 v1 = j0;
 j1 = UINT64_C(0);
-p7 = read_at(j1 + UINT64_C(67796), m, 13u);
+p7 = read_at(j1 + UINT64_C(1050836), m, 13u);
 j1 = load64(p7 + 5);
 p8 = write_at(j0, m, 13u);
 store64(p8 + 5, j1);
@@ -12191,7 +12201,7 @@ j1 = UINT64_C(0);
 store64(p1 + 320, j1);
 j0 = v5;
 j1 = UINT64_C(0);
-p9 = read_at(j1 + UINT64_C(67809), m, 11u);
+p9 = read_at(j1 + UINT64_C(1050849), m, 11u);
 j1 = load64(p9 + 0);
 store64(p1 + 309, j1);
 j0 = v5;
@@ -12225,7 +12235,7 @@ j1 = UINT64_C(0);
 store64(p1 + 328, j1);
 j0 = v5;
 j1 = UINT64_C(0);
-p10 = read_at(j1 + UINT64_C(67820), m, 16u);
+p10 = read_at(j1 + UINT64_C(1050860), m, 16u);
 j1 = load64(p10 + 0);
 store64(p1 + 304, j1);
 j0 = v5;
@@ -12285,7 +12295,7 @@ j1 = v4;
 j0 = j0 + j1;
 v1 = j0;
 j1 = UINT64_C(0);
-p12 = read_at(j1 + UINT64_C(67836), m, 11u);
+p12 = read_at(j1 + UINT64_C(1050876), m, 11u);
 i1 = load32(p12 + 7);
 p13 = write_at(j0, m, 11u);
 store32(p13 + 7, i1);
@@ -12346,7 +12356,7 @@ j1 = v4;
 j0 = j0 + j1;
 v1 = j0;
 j1 = UINT64_C(0);
-p15 = read_at(j1 + UINT64_C(67847), m, 12u);
+p15 = read_at(j1 + UINT64_C(1050887), m, 12u);
 i1 = load32(p15 + 8);
 p16 = write_at(j0, m, 12u);
 store32(p16 + 8, i1);
@@ -12379,7 +12389,7 @@ j1 = UINT64_C(0);
 store64(p1 + 328, j1);
 j0 = v5;
 j1 = UINT64_C(0);
-p17 = read_at(j1 + UINT64_C(67859), m, 9u);
+p17 = read_at(j1 + UINT64_C(1050899), m, 9u);
 j1 = load64(p17 + 0);
 store64(p1 + 311, j1);
 j0 = v5;
@@ -12456,7 +12466,7 @@ i1 = UINT32_C(10);
 store8(p1 + 319, i1);
 j0 = v5;
 j1 = UINT64_C(0);
-p18 = read_at(j1 + UINT64_C(67868), m, 13u);
+p18 = read_at(j1 + UINT64_C(1050908), m, 13u);
 j1 = load64(p18 + 0);
 store64(p1 + 304, j1);
 j0 = v5;
@@ -12477,14 +12487,14 @@ j0 = v5;
 j1 = v1;
 j2 = UINT64_C(15);
 j1 = j1 & j2;
-p20 = read_at(j1 + UINT64_C(67753), m, 1u);
+p20 = read_at(j1 + UINT64_C(1050793), m, 1u);
 i1 = load8(p20 + 0);
 i2 = UINT32_C(8);
 i1 = i1 << (i2 & 31);
 j2 = v1;
 j3 = UINT64_C(4);
 j2 = j2 >> (j3 & 63);
-p21 = read_at(j2 + UINT64_C(67753), m, 1u);
+p21 = read_at(j2 + UINT64_C(1050793), m, 1u);
 i2 = load8(p21 + 0);
 i1 = i1 | i2;
 store16(p1 + 317, i1);
@@ -12650,7 +12660,7 @@ v8 = i1;
 j1 = (uint64_t)i1;
 j2 = UINT64_C(1);
 j1 = j1 << (j2 & 63);
-p23 = read_at(j1 + UINT64_C(67553), m, 2u);
+p23 = read_at(j1 + UINT64_C(1050593), m, 2u);
 i1 = load16(p23 + 0);
 p24 = write_at(j0, m, 4u);
 store16(p24 + 0, i1);
@@ -12667,7 +12677,7 @@ j2 = UINT64_C(65535);
 j1 = j1 & j2;
 j2 = UINT64_C(1);
 j1 = j1 << (j2 & 63);
-p25 = read_at(j1 + UINT64_C(67553), m, 2u);
+p25 = read_at(j1 + UINT64_C(1050593), m, 2u);
 i1 = load16(p25 + 0);
 store16(p24 + 2, i1);
 j0 = v1;
@@ -12777,7 +12787,7 @@ v8 = i1;
 j1 = (uint64_t)i1;
 j2 = UINT64_C(1);
 j1 = j1 << (j2 & 63);
-p28 = read_at(j1 + UINT64_C(67553), m, 2u);
+p28 = read_at(j1 + UINT64_C(1050593), m, 2u);
 i1 = load16(p28 + 0);
 p29 = write_at(j0, m, 4u);
 store16(p29 + 0, i1);
@@ -12794,7 +12804,7 @@ j2 = UINT64_C(65535);
 j1 = j1 & j2;
 j2 = UINT64_C(1);
 j1 = j1 << (j2 & 63);
-p30 = read_at(j1 + UINT64_C(67553), m, 2u);
+p30 = read_at(j1 + UINT64_C(1050593), m, 2u);
 i1 = load16(p30 + 0);
 store16(p29 + 2, i1);
 j0 = v1;
@@ -12842,7 +12852,7 @@ j0 = j0 + j1;
 j1 = v6;
 j2 = UINT64_C(1);
 j1 = j1 << (j2 & 63);
-p32 = read_at(j1 + UINT64_C(67553), m, 2u);
+p32 = read_at(j1 + UINT64_C(1050593), m, 2u);
 i1 = load16(p32 + 0);
 p33 = write_at(j0, m, 2u);
 store16(p33 + 0, i1);
@@ -12872,7 +12882,7 @@ j2 = UINT64_C(65535);
 j1 = j1 & j2;
 j2 = UINT64_C(1);
 j1 = j1 << (j2 & 63);
-p34 = read_at(j1 + UINT64_C(67553), m, 2u);
+p34 = read_at(j1 + UINT64_C(1050593), m, 2u);
 i1 = load16(p34 + 0);
 p35 = write_at(j0, m, 2u);
 store16(p35 + 0, i1);
@@ -12907,7 +12917,7 @@ i1 = v7;
 j1 = (uint64_t)i1;
 j2 = UINT64_C(1);
 j1 = j1 << (j2 & 63);
-p37 = read_at(j1 + UINT64_C(67553), m, 2u);
+p37 = read_at(j1 + UINT64_C(1050593), m, 2u);
 i1 = load16(p37 + 0);
 p38 = write_at(j0, m, 2u);
 store16(p38 + 0, i1);
@@ -12929,7 +12939,7 @@ j1 = UINT64_C(18446744073709551609);
 j0 = j0 + j1;
 v0 = j0;
 j1 = UINT64_C(0);
-p39 = read_at(j1 + UINT64_C(67514), m, 7u);
+p39 = read_at(j1 + UINT64_C(1050554), m, 7u);
 i1 = load32(p39 + 3);
 p40 = write_at(j0, m, 7u);
 store32(p40 + 3, i1);
@@ -12978,7 +12988,7 @@ j2 = UINT64_C(255);
 j1 = j1 & j2;
 j2 = UINT64_C(1);
 j1 = j1 << (j2 & 63);
-p42 = read_at(j1 + UINT64_C(67553), m, 2u);
+p42 = read_at(j1 + UINT64_C(1050593), m, 2u);
 i1 = load16(p42 + 0);
 p43 = write_at(j0, m, 2u);
 store16(p43 + 0, i1);
@@ -13013,7 +13023,7 @@ j2 = UINT64_C(255);
 j1 = j1 & j2;
 j2 = UINT64_C(1);
 j1 = j1 << (j2 & 63);
-p45 = read_at(j1 + UINT64_C(67553), m, 2u);
+p45 = read_at(j1 + UINT64_C(1050593), m, 2u);
 i1 = load16(p45 + 0);
 p46 = write_at(j0, m, 2u);
 store16(p46 + 0, i1);
@@ -13035,7 +13045,7 @@ j1 = UINT64_C(18446744073709551606);
 j0 = j0 + j1;
 v0 = j0;
 j1 = UINT64_C(0);
-p47 = read_at(j1 + UINT64_C(67521), m, 10u);
+p47 = read_at(j1 + UINT64_C(1050561), m, 10u);
 i1 = load16(p47 + 8);
 p48 = write_at(j0, m, 10u);
 store16(p48 + 8, i1);
@@ -13084,7 +13094,7 @@ j2 = UINT64_C(255);
 j1 = j1 & j2;
 j2 = UINT64_C(1);
 j1 = j1 << (j2 & 63);
-p50 = read_at(j1 + UINT64_C(67553), m, 2u);
+p50 = read_at(j1 + UINT64_C(1050593), m, 2u);
 i1 = load16(p50 + 0);
 p51 = write_at(j0, m, 2u);
 store16(p51 + 0, i1);
@@ -13119,7 +13129,7 @@ j2 = UINT64_C(255);
 j1 = j1 & j2;
 j2 = UINT64_C(1);
 j1 = j1 << (j2 & 63);
-p53 = read_at(j1 + UINT64_C(67553), m, 2u);
+p53 = read_at(j1 + UINT64_C(1050593), m, 2u);
 i1 = load16(p53 + 0);
 p54 = write_at(j0, m, 2u);
 store16(p54 + 0, i1);
@@ -13139,7 +13149,7 @@ j1 = UINT64_C(18446744073709551607);
 j0 = j0 + j1;
 v4 = j0;
 j1 = UINT64_C(0);
-p55 = read_at(j1 + UINT64_C(67531), m, 9u);
+p55 = read_at(j1 + UINT64_C(1050571), m, 9u);
 i1 = load8(p55 + 8);
 p56 = write_at(j0, m, 9u);
 store8(p56 + 8, i1);
@@ -13170,14 +13180,14 @@ j0 = j0 + j1;
 j1 = v9;
 j2 = UINT64_C(15);
 j1 = j1 & j2;
-p57 = read_at(j1 + UINT64_C(67753), m, 1u);
+p57 = read_at(j1 + UINT64_C(1050793), m, 1u);
 i1 = load8(p57 + 0);
 i2 = UINT32_C(8);
 i1 = i1 << (i2 & 31);
 j2 = v9;
 j3 = UINT64_C(4);
 j2 = j2 >> (j3 & 63);
-p58 = read_at(j2 + UINT64_C(67753), m, 1u);
+p58 = read_at(j2 + UINT64_C(1050793), m, 1u);
 i2 = load8(p58 + 0);
 i1 = i1 | i2;
 p59 = write_at(j0, m, 2u);
@@ -13204,7 +13214,7 @@ j0 = UINT64_C(0);
 v12 = j0;
 j0 = v5;
 j1 = UINT64_C(0);
-p60 = read_at(j1 + UINT64_C(67482), m, 12u);
+p60 = read_at(j1 + UINT64_C(1050522), m, 12u);
 j1 = load64(p60 + 0);
 store64(p1 + 297, j1);
 j0 = v5;
@@ -13218,14 +13228,14 @@ j1 = load8(p61 + 0);
 v1 = j1;
 j2 = UINT64_C(15);
 j1 = j1 & j2;
-p62 = read_at(j1 + UINT64_C(67753), m, 1u);
+p62 = read_at(j1 + UINT64_C(1050793), m, 1u);
 i1 = load8(p62 + 0);
 i2 = UINT32_C(8);
 i1 = i1 << (i2 & 31);
 j2 = v1;
 j3 = UINT64_C(4);
 j2 = j2 >> (j3 & 63);
-p63 = read_at(j2 + UINT64_C(67753), m, 1u);
+p63 = read_at(j2 + UINT64_C(1050793), m, 1u);
 i2 = load8(p63 + 0);
 i1 = i1 | i2;
 store16(p1 + 317, i1);
@@ -13247,7 +13257,7 @@ j0 = UINT64_C(0);
 v12 = j0;
 j0 = v5;
 j1 = UINT64_C(0);
-p64 = read_at(j1 + UINT64_C(67494), m, 9u);
+p64 = read_at(j1 + UINT64_C(1050534), m, 9u);
 j1 = load64(p64 + 0);
 store64(p1 + 300, j1);
 j0 = v5;
@@ -13261,14 +13271,14 @@ j1 = load8(p65 + 0);
 v1 = j1;
 j2 = UINT64_C(15);
 j1 = j1 & j2;
-p66 = read_at(j1 + UINT64_C(67753), m, 1u);
+p66 = read_at(j1 + UINT64_C(1050793), m, 1u);
 i1 = load8(p66 + 0);
 i2 = UINT32_C(8);
 i1 = i1 << (i2 & 31);
 j2 = v1;
 j3 = UINT64_C(4);
 j2 = j2 >> (j3 & 63);
-p67 = read_at(j2 + UINT64_C(67753), m, 1u);
+p67 = read_at(j2 + UINT64_C(1050793), m, 1u);
 i2 = load8(p67 + 0);
 i1 = i1 | i2;
 store16(p1 + 317, i1);
@@ -13343,7 +13353,7 @@ v8 = i1;
 j1 = (uint64_t)i1;
 j2 = UINT64_C(1);
 j1 = j1 << (j2 & 63);
-p69 = read_at(j1 + UINT64_C(67553), m, 2u);
+p69 = read_at(j1 + UINT64_C(1050593), m, 2u);
 i1 = load16(p69 + 0);
 p70 = write_at(j0, m, 4u);
 store16(p70 + 0, i1);
@@ -13360,7 +13370,7 @@ j2 = UINT64_C(65535);
 j1 = j1 & j2;
 j2 = UINT64_C(1);
 j1 = j1 << (j2 & 63);
-p71 = read_at(j1 + UINT64_C(67553), m, 2u);
+p71 = read_at(j1 + UINT64_C(1050593), m, 2u);
 i1 = load16(p71 + 0);
 store16(p70 + 2, i1);
 j0 = v1;
@@ -13408,7 +13418,7 @@ j0 = j0 + j1;
 j1 = v6;
 j2 = UINT64_C(1);
 j1 = j1 << (j2 & 63);
-p73 = read_at(j1 + UINT64_C(67553), m, 2u);
+p73 = read_at(j1 + UINT64_C(1050593), m, 2u);
 i1 = load16(p73 + 0);
 p74 = write_at(j0, m, 2u);
 store16(p74 + 0, i1);
@@ -13438,7 +13448,7 @@ j2 = UINT64_C(65535);
 j1 = j1 & j2;
 j2 = UINT64_C(1);
 j1 = j1 << (j2 & 63);
-p75 = read_at(j1 + UINT64_C(67553), m, 2u);
+p75 = read_at(j1 + UINT64_C(1050593), m, 2u);
 i1 = load16(p75 + 0);
 p76 = write_at(j0, m, 2u);
 store16(p76 + 0, i1);
@@ -13473,7 +13483,7 @@ i1 = v7;
 j1 = (uint64_t)i1;
 j2 = UINT64_C(1);
 j1 = j1 << (j2 & 63);
-p78 = read_at(j1 + UINT64_C(67553), m, 2u);
+p78 = read_at(j1 + UINT64_C(1050593), m, 2u);
 i1 = load16(p78 + 0);
 p79 = write_at(j0, m, 2u);
 store16(p79 + 0, i1);
@@ -13521,7 +13531,7 @@ j1 = UINT64_C(18446744073709551609);
 j0 = j0 + j1;
 v1 = j0;
 j1 = UINT64_C(0);
-p80 = read_at(j1 + UINT64_C(67514), m, 7u);
+p80 = read_at(j1 + UINT64_C(1050554), m, 7u);
 i1 = load32(p80 + 3);
 p81 = write_at(j0, m, 7u);
 store32(p81 + 3, i1);
@@ -13541,7 +13551,7 @@ j0 = j0 + j1;
 j1 = v4;
 j2 = UINT64_C(15);
 j1 = j1 & j2;
-p82 = read_at(j1 + UINT64_C(67753), m, 1u);
+p82 = read_at(j1 + UINT64_C(1050793), m, 1u);
 i1 = load8(p82 + 0);
 p83 = write_at(j0 + UINT64_C(18446744073709551601), m, 16u);
 store8(p83 + 15, i1);
@@ -13551,7 +13561,7 @@ j0 = j0 + j1;
 j1 = v9;
 j2 = UINT64_C(60);
 j1 = j1 >> (j2 & 63);
-p84 = read_at(j1 + UINT64_C(67753), m, 1u);
+p84 = read_at(j1 + UINT64_C(1050793), m, 1u);
 i1 = load8(p84 + 0);
 store8(p83 + 14, i1);
 j0 = v1;
@@ -13560,7 +13570,7 @@ j0 = j0 + j1;
 j1 = v6;
 j2 = UINT64_C(15);
 j1 = j1 & j2;
-p85 = read_at(j1 + UINT64_C(67753), m, 1u);
+p85 = read_at(j1 + UINT64_C(1050793), m, 1u);
 i1 = load8(p85 + 0);
 store8(p83 + 13, i1);
 j0 = v1;
@@ -13569,7 +13579,7 @@ j0 = j0 + j1;
 j1 = v12;
 j2 = UINT64_C(15);
 j1 = j1 & j2;
-p86 = read_at(j1 + UINT64_C(67753), m, 1u);
+p86 = read_at(j1 + UINT64_C(1050793), m, 1u);
 i1 = load8(p86 + 0);
 store8(p83 + 11, i1);
 j0 = v1;
@@ -13578,7 +13588,7 @@ j0 = j0 + j1;
 j1 = v14;
 j2 = UINT64_C(15);
 j1 = j1 & j2;
-p87 = read_at(j1 + UINT64_C(67753), m, 1u);
+p87 = read_at(j1 + UINT64_C(1050793), m, 1u);
 i1 = load8(p87 + 0);
 store8(p83 + 9, i1);
 j0 = v1;
@@ -13587,7 +13597,7 @@ j0 = j0 + j1;
 j1 = v15;
 j2 = UINT64_C(15);
 j1 = j1 & j2;
-p88 = read_at(j1 + UINT64_C(67753), m, 1u);
+p88 = read_at(j1 + UINT64_C(1050793), m, 1u);
 i1 = load8(p88 + 0);
 store8(p83 + 7, i1);
 j0 = v1;
@@ -13596,7 +13606,7 @@ j0 = j0 + j1;
 j1 = v16;
 j2 = UINT64_C(15);
 j1 = j1 & j2;
-p89 = read_at(j1 + UINT64_C(67753), m, 1u);
+p89 = read_at(j1 + UINT64_C(1050793), m, 1u);
 i1 = load8(p89 + 0);
 store8(p83 + 5, i1);
 j0 = v1;
@@ -13605,7 +13615,7 @@ j0 = j0 + j1;
 j1 = v17;
 j2 = UINT64_C(15);
 j1 = j1 & j2;
-p90 = read_at(j1 + UINT64_C(67753), m, 1u);
+p90 = read_at(j1 + UINT64_C(1050793), m, 1u);
 i1 = load8(p90 + 0);
 store8(p83 + 3, i1);
 j0 = v1;
@@ -13614,7 +13624,7 @@ j0 = j0 + j1;
 j1 = v9;
 j2 = UINT64_C(15);
 j1 = j1 & j2;
-p91 = read_at(j1 + UINT64_C(67753), m, 1u);
+p91 = read_at(j1 + UINT64_C(1050793), m, 1u);
 i1 = load8(p91 + 0);
 store8(p83 + 1, i1);
 j0 = v1;
@@ -13625,7 +13635,7 @@ j2 = UINT64_C(52);
 j1 = j1 >> (j2 & 63);
 j2 = UINT64_C(15);
 j1 = j1 & j2;
-p92 = read_at(j1 + UINT64_C(67753), m, 1u);
+p92 = read_at(j1 + UINT64_C(1050793), m, 1u);
 i1 = load8(p92 + 0);
 store8(p83 + 12, i1);
 j0 = v1;
@@ -13636,7 +13646,7 @@ j2 = UINT64_C(44);
 j1 = j1 >> (j2 & 63);
 j2 = UINT64_C(15);
 j1 = j1 & j2;
-p93 = read_at(j1 + UINT64_C(67753), m, 1u);
+p93 = read_at(j1 + UINT64_C(1050793), m, 1u);
 i1 = load8(p93 + 0);
 store8(p83 + 10, i1);
 j0 = v1;
@@ -13647,7 +13657,7 @@ j2 = UINT64_C(36);
 j1 = j1 >> (j2 & 63);
 j2 = UINT64_C(15);
 j1 = j1 & j2;
-p94 = read_at(j1 + UINT64_C(67753), m, 1u);
+p94 = read_at(j1 + UINT64_C(1050793), m, 1u);
 i1 = load8(p94 + 0);
 store8(p83 + 8, i1);
 j0 = v1;
@@ -13658,7 +13668,7 @@ j2 = UINT64_C(28);
 j1 = j1 >> (j2 & 63);
 j2 = UINT64_C(15);
 j1 = j1 & j2;
-p95 = read_at(j1 + UINT64_C(67753), m, 1u);
+p95 = read_at(j1 + UINT64_C(1050793), m, 1u);
 i1 = load8(p95 + 0);
 store8(p83 + 6, i1);
 j0 = v1;
@@ -13669,7 +13679,7 @@ j2 = UINT64_C(20);
 j1 = j1 >> (j2 & 63);
 j2 = UINT64_C(15);
 j1 = j1 & j2;
-p96 = read_at(j1 + UINT64_C(67753), m, 1u);
+p96 = read_at(j1 + UINT64_C(1050793), m, 1u);
 i1 = load8(p96 + 0);
 store8(p83 + 4, i1);
 j0 = v1;
@@ -13680,7 +13690,7 @@ j2 = UINT64_C(12);
 j1 = j1 >> (j2 & 63);
 j2 = UINT64_C(15);
 j1 = j1 & j2;
-p97 = read_at(j1 + UINT64_C(67753), m, 1u);
+p97 = read_at(j1 + UINT64_C(1050793), m, 1u);
 i1 = load8(p97 + 0);
 store8(p83 + 2, i1);
 j0 = v1;
@@ -13691,7 +13701,7 @@ j2 = UINT64_C(4);
 j1 = j1 >> (j2 & 63);
 j2 = UINT64_C(15);
 j1 = j1 & j2;
-p98 = read_at(j1 + UINT64_C(67753), m, 1u);
+p98 = read_at(j1 + UINT64_C(1050793), m, 1u);
 i1 = load8(p98 + 0);
 store8(p83 + 0, i1);
 j0 = v0;
@@ -13732,7 +13742,7 @@ j1 = v4;
 j0 = j0 + j1;
 v1 = j0;
 j1 = UINT64_C(0);
-p100 = read_at(j1 + UINT64_C(67503), m, 3u);
+p100 = read_at(j1 + UINT64_C(1050543), m, 3u);
 i1 = load8(p100 + 2);
 p101 = write_at(j0, m, 3u);
 store8(p101 + 2, i1);
@@ -13757,7 +13767,7 @@ j0 = j0 + j1;
 j1 = v6;
 j2 = UINT64_C(1);
 j1 = j1 << (j2 & 63);
-p102 = read_at(j1 + UINT64_C(67553), m, 2u);
+p102 = read_at(j1 + UINT64_C(1050593), m, 2u);
 i1 = load16(p102 + 0);
 p103 = write_at(j0, m, 2u);
 store16(p103 + 0, i1);
@@ -13787,7 +13797,7 @@ j2 = UINT64_C(65535);
 j1 = j1 & j2;
 j2 = UINT64_C(1);
 j1 = j1 << (j2 & 63);
-p104 = read_at(j1 + UINT64_C(67553), m, 2u);
+p104 = read_at(j1 + UINT64_C(1050593), m, 2u);
 i1 = load16(p104 + 0);
 p105 = write_at(j0, m, 2u);
 store16(p105 + 0, i1);
@@ -13822,7 +13832,7 @@ i1 = v7;
 j1 = (uint64_t)i1;
 j2 = UINT64_C(1);
 j1 = j1 << (j2 & 63);
-p107 = read_at(j1 + UINT64_C(67553), m, 2u);
+p107 = read_at(j1 + UINT64_C(1050593), m, 2u);
 i1 = load16(p107 + 0);
 p108 = write_at(j0, m, 2u);
 store16(p108 + 0, i1);
@@ -13870,7 +13880,7 @@ j1 = UINT64_C(18446744073709551609);
 j0 = j0 + j1;
 v1 = j0;
 j1 = UINT64_C(0);
-p109 = read_at(j1 + UINT64_C(67514), m, 7u);
+p109 = read_at(j1 + UINT64_C(1050554), m, 7u);
 i1 = load32(p109 + 3);
 p110 = write_at(j0, m, 7u);
 store32(p110 + 3, i1);
@@ -13890,7 +13900,7 @@ j0 = j0 + j1;
 j1 = v0;
 j2 = UINT64_C(15);
 j1 = j1 & j2;
-p111 = read_at(j1 + UINT64_C(67753), m, 1u);
+p111 = read_at(j1 + UINT64_C(1050793), m, 1u);
 i1 = load8(p111 + 0);
 p112 = write_at(j0 + UINT64_C(18446744073709551601), m, 16u);
 store8(p112 + 15, i1);
@@ -13900,7 +13910,7 @@ j0 = j0 + j1;
 j1 = v9;
 j2 = UINT64_C(60);
 j1 = j1 >> (j2 & 63);
-p113 = read_at(j1 + UINT64_C(67753), m, 1u);
+p113 = read_at(j1 + UINT64_C(1050793), m, 1u);
 i1 = load8(p113 + 0);
 store8(p112 + 14, i1);
 j0 = v1;
@@ -13909,7 +13919,7 @@ j0 = j0 + j1;
 j1 = v6;
 j2 = UINT64_C(15);
 j1 = j1 & j2;
-p114 = read_at(j1 + UINT64_C(67753), m, 1u);
+p114 = read_at(j1 + UINT64_C(1050793), m, 1u);
 i1 = load8(p114 + 0);
 store8(p112 + 13, i1);
 j0 = v1;
@@ -13918,7 +13928,7 @@ j0 = j0 + j1;
 j1 = v12;
 j2 = UINT64_C(15);
 j1 = j1 & j2;
-p115 = read_at(j1 + UINT64_C(67753), m, 1u);
+p115 = read_at(j1 + UINT64_C(1050793), m, 1u);
 i1 = load8(p115 + 0);
 store8(p112 + 11, i1);
 j0 = v1;
@@ -13927,7 +13937,7 @@ j0 = j0 + j1;
 j1 = v14;
 j2 = UINT64_C(15);
 j1 = j1 & j2;
-p116 = read_at(j1 + UINT64_C(67753), m, 1u);
+p116 = read_at(j1 + UINT64_C(1050793), m, 1u);
 i1 = load8(p116 + 0);
 store8(p112 + 9, i1);
 j0 = v1;
@@ -13936,7 +13946,7 @@ j0 = j0 + j1;
 j1 = v15;
 j2 = UINT64_C(15);
 j1 = j1 & j2;
-p117 = read_at(j1 + UINT64_C(67753), m, 1u);
+p117 = read_at(j1 + UINT64_C(1050793), m, 1u);
 i1 = load8(p117 + 0);
 store8(p112 + 7, i1);
 j0 = v1;
@@ -13945,7 +13955,7 @@ j0 = j0 + j1;
 j1 = v16;
 j2 = UINT64_C(15);
 j1 = j1 & j2;
-p118 = read_at(j1 + UINT64_C(67753), m, 1u);
+p118 = read_at(j1 + UINT64_C(1050793), m, 1u);
 i1 = load8(p118 + 0);
 store8(p112 + 5, i1);
 j0 = v1;
@@ -13954,7 +13964,7 @@ j0 = j0 + j1;
 j1 = v17;
 j2 = UINT64_C(15);
 j1 = j1 & j2;
-p119 = read_at(j1 + UINT64_C(67753), m, 1u);
+p119 = read_at(j1 + UINT64_C(1050793), m, 1u);
 i1 = load8(p119 + 0);
 store8(p112 + 3, i1);
 j0 = v1;
@@ -13963,7 +13973,7 @@ j0 = j0 + j1;
 j1 = v9;
 j2 = UINT64_C(15);
 j1 = j1 & j2;
-p120 = read_at(j1 + UINT64_C(67753), m, 1u);
+p120 = read_at(j1 + UINT64_C(1050793), m, 1u);
 i1 = load8(p120 + 0);
 store8(p112 + 1, i1);
 j0 = v1;
@@ -13974,7 +13984,7 @@ j2 = UINT64_C(52);
 j1 = j1 >> (j2 & 63);
 j2 = UINT64_C(15);
 j1 = j1 & j2;
-p121 = read_at(j1 + UINT64_C(67753), m, 1u);
+p121 = read_at(j1 + UINT64_C(1050793), m, 1u);
 i1 = load8(p121 + 0);
 store8(p112 + 12, i1);
 j0 = v1;
@@ -13985,7 +13995,7 @@ j2 = UINT64_C(44);
 j1 = j1 >> (j2 & 63);
 j2 = UINT64_C(15);
 j1 = j1 & j2;
-p122 = read_at(j1 + UINT64_C(67753), m, 1u);
+p122 = read_at(j1 + UINT64_C(1050793), m, 1u);
 i1 = load8(p122 + 0);
 store8(p112 + 10, i1);
 j0 = v1;
@@ -13996,7 +14006,7 @@ j2 = UINT64_C(36);
 j1 = j1 >> (j2 & 63);
 j2 = UINT64_C(15);
 j1 = j1 & j2;
-p123 = read_at(j1 + UINT64_C(67753), m, 1u);
+p123 = read_at(j1 + UINT64_C(1050793), m, 1u);
 i1 = load8(p123 + 0);
 store8(p112 + 8, i1);
 j0 = v1;
@@ -14007,7 +14017,7 @@ j2 = UINT64_C(28);
 j1 = j1 >> (j2 & 63);
 j2 = UINT64_C(15);
 j1 = j1 & j2;
-p124 = read_at(j1 + UINT64_C(67753), m, 1u);
+p124 = read_at(j1 + UINT64_C(1050793), m, 1u);
 i1 = load8(p124 + 0);
 store8(p112 + 6, i1);
 j0 = v1;
@@ -14018,7 +14028,7 @@ j2 = UINT64_C(20);
 j1 = j1 >> (j2 & 63);
 j2 = UINT64_C(15);
 j1 = j1 & j2;
-p125 = read_at(j1 + UINT64_C(67753), m, 1u);
+p125 = read_at(j1 + UINT64_C(1050793), m, 1u);
 i1 = load8(p125 + 0);
 store8(p112 + 4, i1);
 j0 = v1;
@@ -14029,7 +14039,7 @@ j2 = UINT64_C(12);
 j1 = j1 >> (j2 & 63);
 j2 = UINT64_C(15);
 j1 = j1 & j2;
-p126 = read_at(j1 + UINT64_C(67753), m, 1u);
+p126 = read_at(j1 + UINT64_C(1050793), m, 1u);
 i1 = load8(p126 + 0);
 store8(p112 + 2, i1);
 j0 = v1;
@@ -14040,7 +14050,7 @@ j2 = UINT64_C(4);
 j1 = j1 >> (j2 & 63);
 j2 = UINT64_C(15);
 j1 = j1 & j2;
-p127 = read_at(j1 + UINT64_C(67753), m, 1u);
+p127 = read_at(j1 + UINT64_C(1050793), m, 1u);
 i1 = load8(p127 + 0);
 store8(p112 + 0, i1);
 j0 = v4;
@@ -14169,7 +14179,7 @@ v8 = i1;
 j1 = (uint64_t)i1;
 j2 = UINT64_C(1);
 j1 = j1 << (j2 & 63);
-p132 = read_at(j1 + UINT64_C(67553), m, 2u);
+p132 = read_at(j1 + UINT64_C(1050593), m, 2u);
 i1 = load16(p132 + 0);
 p133 = write_at(j0, m, 4u);
 store16(p133 + 0, i1);
@@ -14186,7 +14196,7 @@ j2 = UINT64_C(65535);
 j1 = j1 & j2;
 j2 = UINT64_C(1);
 j1 = j1 << (j2 & 63);
-p134 = read_at(j1 + UINT64_C(67553), m, 2u);
+p134 = read_at(j1 + UINT64_C(1050593), m, 2u);
 i1 = load16(p134 + 0);
 store16(p133 + 2, i1);
 j0 = v1;
@@ -14234,7 +14244,7 @@ j0 = j0 + j1;
 j1 = v6;
 j2 = UINT64_C(1);
 j1 = j1 << (j2 & 63);
-p136 = read_at(j1 + UINT64_C(67553), m, 2u);
+p136 = read_at(j1 + UINT64_C(1050593), m, 2u);
 i1 = load16(p136 + 0);
 p137 = write_at(j0, m, 2u);
 store16(p137 + 0, i1);
@@ -14264,7 +14274,7 @@ j2 = UINT64_C(65535);
 j1 = j1 & j2;
 j2 = UINT64_C(1);
 j1 = j1 << (j2 & 63);
-p138 = read_at(j1 + UINT64_C(67553), m, 2u);
+p138 = read_at(j1 + UINT64_C(1050593), m, 2u);
 i1 = load16(p138 + 0);
 p139 = write_at(j0, m, 2u);
 store16(p139 + 0, i1);
@@ -14299,7 +14309,7 @@ i1 = v7;
 j1 = (uint64_t)i1;
 j2 = UINT64_C(1);
 j1 = j1 << (j2 & 63);
-p141 = read_at(j1 + UINT64_C(67553), m, 2u);
+p141 = read_at(j1 + UINT64_C(1050593), m, 2u);
 i1 = load16(p141 + 0);
 p142 = write_at(j0, m, 2u);
 store16(p142 + 0, i1);
@@ -14319,7 +14329,7 @@ j1 = UINT64_C(18446744073709551609);
 j0 = j0 + j1;
 v4 = j0;
 j1 = UINT64_C(0);
-p143 = read_at(j1 + UINT64_C(67514), m, 7u);
+p143 = read_at(j1 + UINT64_C(1050554), m, 7u);
 i1 = load32(p143 + 3);
 p144 = write_at(j0, m, 7u);
 store32(p144 + 3, i1);
@@ -14350,14 +14360,14 @@ j0 = j0 + j1;
 j1 = v14;
 j2 = UINT64_C(15);
 j1 = j1 & j2;
-p145 = read_at(j1 + UINT64_C(67753), m, 1u);
+p145 = read_at(j1 + UINT64_C(1050793), m, 1u);
 i1 = load8(p145 + 0);
 i2 = UINT32_C(8);
 i1 = i1 << (i2 & 31);
 j2 = v14;
 j3 = UINT64_C(4);
 j2 = j2 >> (j3 & 63);
-p146 = read_at(j2 + UINT64_C(67753), m, 1u);
+p146 = read_at(j2 + UINT64_C(1050793), m, 1u);
 i2 = load8(p146 + 0);
 i1 = i1 | i2;
 p147 = write_at(j0, m, 2u);
@@ -14420,7 +14430,7 @@ i1 = v13;
 j1 = (uint64_t)i1;
 j2 = UINT64_C(1);
 j1 = j1 << (j2 & 63);
-p150 = read_at(j1 + UINT64_C(67553), m, 2u);
+p150 = read_at(j1 + UINT64_C(1050593), m, 2u);
 i1 = load16(p150 + 0);
 p151 = write_at(j0, m, 2u);
 store16(p151 + 0, i1);
@@ -14461,7 +14471,7 @@ j2 = UINT64_C(255);
 j1 = j1 & j2;
 j2 = UINT64_C(1);
 j1 = j1 << (j2 & 63);
-p153 = read_at(j1 + UINT64_C(67553), m, 2u);
+p153 = read_at(j1 + UINT64_C(1050593), m, 2u);
 i1 = load16(p153 + 0);
 p154 = write_at(j0, m, 2u);
 store16(p154 + 0, i1);
@@ -14483,7 +14493,7 @@ j1 = UINT64_C(18446744073709551607);
 j0 = j0 + j1;
 v0 = j0;
 j1 = UINT64_C(0);
-p155 = read_at(j1 + UINT64_C(67769), m, 9u);
+p155 = read_at(j1 + UINT64_C(1050809), m, 9u);
 i1 = load8(p155 + 8);
 p156 = write_at(j0, m, 9u);
 store8(p156 + 8, i1);
@@ -14532,7 +14542,7 @@ j2 = UINT64_C(255);
 j1 = j1 & j2;
 j2 = UINT64_C(1);
 j1 = j1 << (j2 & 63);
-p158 = read_at(j1 + UINT64_C(67553), m, 2u);
+p158 = read_at(j1 + UINT64_C(1050593), m, 2u);
 i1 = load16(p158 + 0);
 p159 = write_at(j0, m, 2u);
 store16(p159 + 0, i1);
@@ -14567,7 +14577,7 @@ j2 = UINT64_C(255);
 j1 = j1 & j2;
 j2 = UINT64_C(1);
 j1 = j1 << (j2 & 63);
-p161 = read_at(j1 + UINT64_C(67553), m, 2u);
+p161 = read_at(j1 + UINT64_C(1050593), m, 2u);
 i1 = load16(p161 + 0);
 p162 = write_at(j0, m, 2u);
 store16(p162 + 0, i1);
@@ -14591,7 +14601,7 @@ j1 = v4;
 j0 = j0 + j1;
 v1 = j0;
 j1 = UINT64_C(0);
-p163 = read_at(j1 + UINT64_C(67778), m, 6u);
+p163 = read_at(j1 + UINT64_C(1050818), m, 6u);
 i1 = load16(p163 + 4);
 p164 = write_at(j0, m, 6u);
 store16(p164 + 4, i1);
@@ -14617,14 +14627,14 @@ j1 = load8(p165 + 0);
 v1 = j1;
 j2 = UINT64_C(15);
 j1 = j1 & j2;
-p166 = read_at(j1 + UINT64_C(67753), m, 1u);
+p166 = read_at(j1 + UINT64_C(1050793), m, 1u);
 i1 = load8(p166 + 0);
 i2 = UINT32_C(8);
 i1 = i1 << (i2 & 31);
 j2 = v1;
 j3 = UINT64_C(4);
 j2 = j2 >> (j3 & 63);
-p167 = read_at(j2 + UINT64_C(67753), m, 1u);
+p167 = read_at(j2 + UINT64_C(1050793), m, 1u);
 i2 = load8(p167 + 0);
 i1 = i1 | i2;
 store16(p1 + 317, i1);
@@ -14654,7 +14664,7 @@ i1 = UINT32_C(49);
 store8(p1 + 311, i1);
 j0 = v5;
 j1 = UINT64_C(0);
-p168 = read_at(j1 + UINT64_C(67784), m, 12u);
+p168 = read_at(j1 + UINT64_C(1050824), m, 12u);
 i1 = load16(p168 + 4);
 store16(p1 + 318, i1);
 j0 = v5;
@@ -14663,7 +14673,7 @@ i1 = load32(p168 + 0);
 store32(p1 + 314, i1);
 j0 = v5;
 j1 = v4;
-p169 = read_at(j1 + UINT64_C(67553), m, 2u);
+p169 = read_at(j1 + UINT64_C(1050593), m, 2u);
 i1 = load16(p169 + 0);
 store16(p1 + 312, i1);
 j0 = v5;
@@ -14767,7 +14777,7 @@ j1 = v4;
 j0 = j0 + j1;
 v1 = j0;
 j1 = UINT64_C(0);
-p171 = read_at(j1 + UINT64_C(67540), m, 13u);
+p171 = read_at(j1 + UINT64_C(1050580), m, 13u);
 j1 = load64(p171 + 5);
 p172 = write_at(j0, m, 13u);
 store64(p172 + 5, j1);
@@ -14881,7 +14891,7 @@ i1 = v7;
 j1 = (uint64_t)i1;
 j2 = UINT64_C(1);
 j1 = j1 << (j2 & 63);
-p174 = read_at(j1 + UINT64_C(67553), m, 2u);
+p174 = read_at(j1 + UINT64_C(1050593), m, 2u);
 i1 = load16(p174 + 0);
 store16(p1 + 317, i1);
 j0 = UINT64_C(115);
@@ -14909,7 +14919,7 @@ j2 = UINT64_C(255);
 j1 = j1 & j2;
 j2 = UINT64_C(1);
 j1 = j1 << (j2 & 63);
-p175 = read_at(j1 + UINT64_C(67553), m, 2u);
+p175 = read_at(j1 + UINT64_C(1050593), m, 2u);
 i1 = load16(p175 + 0);
 store16(p1 + 317, i1);
 j0 = UINT64_C(114);
@@ -14923,7 +14933,7 @@ i0 = i0 & i1;
 v7 = i0;
 j0 = v1;
 j1 = UINT64_C(0);
-p176 = read_at(j1 + UINT64_C(67924), m, 10u);
+p176 = read_at(j1 + UINT64_C(1050964), m, 10u);
 i1 = load16(p176 + 8);
 p177 = write_at(j0, m, 10u);
 store16(p177 + 8, i1);
@@ -14971,7 +14981,7 @@ j2 = UINT64_C(255);
 j1 = j1 & j2;
 j2 = UINT64_C(1);
 j1 = j1 << (j2 & 63);
-p179 = read_at(j1 + UINT64_C(67553), m, 2u);
+p179 = read_at(j1 + UINT64_C(1050593), m, 2u);
 i1 = load16(p179 + 0);
 p180 = write_at(j0, m, 2u);
 store16(p180 + 0, i1);
@@ -14993,7 +15003,7 @@ j2 = UINT64_C(255);
 j1 = j1 & j2;
 j2 = UINT64_C(1);
 j1 = j1 << (j2 & 63);
-p181 = read_at(j1 + UINT64_C(67553), m, 2u);
+p181 = read_at(j1 + UINT64_C(1050593), m, 2u);
 i1 = load16(p181 + 0);
 p182 = write_at(j0, m, 2u);
 store16(p182 + 0, i1);
@@ -15021,7 +15031,7 @@ j1 = UINT64_C(18446744073709551607);
 j0 = j0 + j1;
 v6 = j0;
 j1 = UINT64_C(0);
-p184 = read_at(j1 + UINT64_C(67934), m, 9u);
+p184 = read_at(j1 + UINT64_C(1050974), m, 9u);
 i1 = load8(p184 + 8);
 p185 = write_at(j0 + UINT64_C(18446744073709551607), m, 18u);
 store8(p185 + 17, i1);
@@ -15080,7 +15090,7 @@ i1 = i1 << (i2 & 31);
 j1 = (uint64_t)i1;
 j2 = UINT64_C(254);
 j1 = j1 & j2;
-p187 = read_at(j1 + UINT64_C(67553), m, 2u);
+p187 = read_at(j1 + UINT64_C(1050593), m, 2u);
 i1 = load16(p187 + 0);
 p188 = write_at(j0, m, 2u);
 store16(p188 + 0, i1);
@@ -15108,7 +15118,7 @@ i1 = i1 + i2;
 j1 = (uint64_t)i1;
 j2 = UINT64_C(254);
 j1 = j1 & j2;
-p190 = read_at(j1 + UINT64_C(67553), m, 2u);
+p190 = read_at(j1 + UINT64_C(1050593), m, 2u);
 i1 = load16(p190 + 0);
 p191 = write_at(j0, m, 2u);
 store16(p191 + 0, i1);
@@ -15281,7 +15291,7 @@ store64(p1 + 464, j1);
 l131:;
 j0 = v14;
 j1 = UINT64_C(0);
-p194 = read_at(j1 + UINT64_C(67949), m, 7u);
+p194 = read_at(j1 + UINT64_C(1050989), m, 7u);
 i1 = load32(p194 + 0);
 store32(p1 + 392, i1);
 j0 = v14;
@@ -15323,7 +15333,7 @@ i1 = i1 << (i2 & 31);
 j1 = (uint64_t)i1;
 j2 = UINT64_C(254);
 j1 = j1 & j2;
-p195 = read_at(j1 + UINT64_C(67553), m, 2u);
+p195 = read_at(j1 + UINT64_C(1050593), m, 2u);
 i1 = load16(p195 + 0);
 store16(p1 + 390, i1);
 j0 = UINT64_C(18446744073709551570);
@@ -15346,7 +15356,7 @@ i1 = i1 + i2;
 j1 = (uint64_t)i1;
 j2 = UINT64_C(254);
 j1 = j1 & j2;
-p196 = read_at(j1 + UINT64_C(67553), m, 2u);
+p196 = read_at(j1 + UINT64_C(1050593), m, 2u);
 i1 = load16(p196 + 0);
 store16(p1 + 390, i1);
 j0 = UINT64_C(18446744073709551571);
@@ -15366,7 +15376,7 @@ p197 = write_at(j0, m, 2u);
 store16(p197 + 0, i1);
 j0 = v1;
 j1 = UINT64_C(0);
-p198 = read_at(j1 + UINT64_C(67956), m, 6u);
+p198 = read_at(j1 + UINT64_C(1050996), m, 6u);
 i1 = load16(p198 + 4);
 p199 = write_at(j0, m, 6u);
 store16(p199 + 4, i1);
@@ -15457,7 +15467,7 @@ j1 = load8(p200 + 0);
 v6 = j1;
 j2 = UINT64_C(15);
 j1 = j1 & j2;
-p202 = read_at(j1 + UINT64_C(67753), m, 1u);
+p202 = read_at(j1 + UINT64_C(1050793), m, 1u);
 i1 = load8(p202 + 0);
 store8(p201 + 1, i1);
 j0 = v1;
@@ -15466,7 +15476,7 @@ j0 = j0 + j1;
 j1 = v6;
 j2 = UINT64_C(4);
 j1 = j1 >> (j2 & 63);
-p203 = read_at(j1 + UINT64_C(67753), m, 1u);
+p203 = read_at(j1 + UINT64_C(1050793), m, 1u);
 i1 = load8(p203 + 0);
 store8(p201 + 0, i1);
 j0 = v4;
@@ -15543,7 +15553,7 @@ j0 = v2;
 j1 = v1;
 j0 = j0 + j1;
 v1 = j0;
-j1 = UINT64_C(67962);
+j1 = UINT64_C(1051002);
 j0 = j0 - j1;
 j1 = UINT64_C(1);
 i0 = (j0 > j1);
@@ -15644,14 +15654,14 @@ j1 = load8(p2 + 0);
 v4 = j1;
 j2 = UINT64_C(15);
 j1 = j1 & j2;
-p4 = read_at(j1 + UINT64_C(67753), m, 1u);
+p4 = read_at(j1 + UINT64_C(1050793), m, 1u);
 i1 = load8(p4 + 0);
 store8(p3 + 1, i1);
 j0 = v3;
 j1 = v4;
 j2 = UINT64_C(4);
 j1 = j1 >> (j2 & 63);
-p5 = read_at(j1 + UINT64_C(67753), m, 1u);
+p5 = read_at(j1 + UINT64_C(1050793), m, 1u);
 i1 = load8(p5 + 0);
 store8(p3 + 0, i1);
 j0 = v1;
@@ -15754,7 +15764,7 @@ v7 = i1;
 j1 = (uint64_t)i1;
 j2 = UINT64_C(1);
 j1 = j1 << (j2 & 63);
-p1 = read_at(j1 + UINT64_C(67553), m, 2u);
+p1 = read_at(j1 + UINT64_C(1050593), m, 2u);
 i1 = load16(p1 + 0);
 p2 = write_at(j0, m, 4u);
 store16(p2 + 0, i1);
@@ -15771,7 +15781,7 @@ j2 = UINT64_C(65535);
 j1 = j1 & j2;
 j2 = UINT64_C(1);
 j1 = j1 << (j2 & 63);
-p3 = read_at(j1 + UINT64_C(67553), m, 2u);
+p3 = read_at(j1 + UINT64_C(1050593), m, 2u);
 i1 = load16(p3 + 0);
 store16(p2 + 2, i1);
 j0 = v2;
@@ -15817,7 +15827,7 @@ j0 = j0 + j1;
 j1 = v0;
 j2 = UINT64_C(1);
 j1 = j1 << (j2 & 63);
-p5 = read_at(j1 + UINT64_C(67553), m, 2u);
+p5 = read_at(j1 + UINT64_C(1050593), m, 2u);
 i1 = load16(p5 + 0);
 p6 = write_at(j0, m, 2u);
 store16(p6 + 0, i1);
@@ -15847,7 +15857,7 @@ j2 = UINT64_C(65535);
 j1 = j1 & j2;
 j2 = UINT64_C(1);
 j1 = j1 << (j2 & 63);
-p7 = read_at(j1 + UINT64_C(67553), m, 2u);
+p7 = read_at(j1 + UINT64_C(1050593), m, 2u);
 i1 = load16(p7 + 0);
 p8 = write_at(j0, m, 2u);
 store16(p8 + 0, i1);
@@ -15880,7 +15890,7 @@ i1 = v6;
 j1 = (uint64_t)i1;
 j2 = UINT64_C(1);
 j1 = j1 << (j2 & 63);
-p10 = read_at(j1 + UINT64_C(67553), m, 2u);
+p10 = read_at(j1 + UINT64_C(1050593), m, 2u);
 i1 = load16(p10 + 0);
 p11 = write_at(j0, m, 2u);
 store16(p11 + 0, i1);
@@ -15970,7 +15980,7 @@ v9 = i1;
 j1 = (uint64_t)i1;
 j2 = UINT64_C(1);
 j1 = j1 << (j2 & 63);
-p2 = read_at(j1 + UINT64_C(67553), m, 2u);
+p2 = read_at(j1 + UINT64_C(1050593), m, 2u);
 i1 = load16(p2 + 0);
 p3 = write_at(j0, m, 4u);
 store16(p3 + 0, i1);
@@ -15987,7 +15997,7 @@ j2 = UINT64_C(65535);
 j1 = j1 & j2;
 j2 = UINT64_C(1);
 j1 = j1 << (j2 & 63);
-p4 = read_at(j1 + UINT64_C(67553), m, 2u);
+p4 = read_at(j1 + UINT64_C(1050593), m, 2u);
 i1 = load16(p4 + 0);
 store16(p3 + 2, i1);
 j0 = v4;
@@ -16031,7 +16041,7 @@ j0 = j0 + j1;
 j1 = v5;
 j2 = UINT64_C(1);
 j1 = j1 << (j2 & 63);
-p6 = read_at(j1 + UINT64_C(67553), m, 2u);
+p6 = read_at(j1 + UINT64_C(1050593), m, 2u);
 i1 = load16(p6 + 0);
 p7 = write_at(j0, m, 2u);
 store16(p7 + 0, i1);
@@ -16059,7 +16069,7 @@ j2 = UINT64_C(65535);
 j1 = j1 & j2;
 j2 = UINT64_C(1);
 j1 = j1 << (j2 & 63);
-p8 = read_at(j1 + UINT64_C(67553), m, 2u);
+p8 = read_at(j1 + UINT64_C(1050593), m, 2u);
 i1 = load16(p8 + 0);
 p9 = write_at(j0, m, 2u);
 store16(p9 + 0, i1);
@@ -16090,7 +16100,7 @@ i1 = v8;
 j1 = (uint64_t)i1;
 j2 = UINT64_C(1);
 j1 = j1 << (j2 & 63);
-p11 = read_at(j1 + UINT64_C(67553), m, 2u);
+p11 = read_at(j1 + UINT64_C(1050593), m, 2u);
 i1 = load16(p11 + 0);
 p12 = write_at(j0, m, 2u);
 store16(p12 + 0, i1);
@@ -16110,7 +16120,7 @@ j1 = v7;
 j0 = j0 + j1;
 v4 = j0;
 j1 = UINT64_C(0);
-p13 = read_at(j1 + UINT64_C(67881), m, 17u);
+p13 = read_at(j1 + UINT64_C(1050921), m, 17u);
 i1 = load8(p13 + 16);
 p14 = write_at(j0, m, 17u);
 store8(p14 + 16, i1);
@@ -16180,7 +16190,7 @@ j0 = v1;
 j1 = UINT64_C(126);
 j0 = j0 + j1;
 j1 = UINT64_C(0);
-p1 = read_at(j1 + UINT64_C(67784), m, 6u);
+p1 = read_at(j1 + UINT64_C(1050824), m, 6u);
 i1 = load16(p1 + 4);
 p2 = write_at(j0 + UINT64_C(18446744073709551612), m, 6u);
 store16(p2 + 4, i1);
@@ -16218,7 +16228,7 @@ j2 = UINT64_C(255);
 j1 = j1 & j2;
 j2 = UINT64_C(1);
 j1 = j1 << (j2 & 63);
-p4 = read_at(j1 + UINT64_C(67553), m, 2u);
+p4 = read_at(j1 + UINT64_C(1050593), m, 2u);
 i1 = load16(p4 + 0);
 p5 = write_at(j0 + UINT64_C(120), m, 2u);
 store16(p5 + 0, i1);
@@ -16248,7 +16258,7 @@ j2 = UINT64_C(255);
 j1 = j1 & j2;
 j2 = UINT64_C(1);
 j1 = j1 << (j2 & 63);
-p7 = read_at(j1 + UINT64_C(67553), m, 2u);
+p7 = read_at(j1 + UINT64_C(1050593), m, 2u);
 i1 = load16(p7 + 0);
 store16(p6 + 1, i1);
 j0 = UINT64_C(113);
@@ -16259,7 +16269,7 @@ j1 = v6;
 j0 = j0 + j1;
 v1 = j0;
 j1 = UINT64_C(0);
-p8 = read_at(j1 + UINT64_C(67790), m, 6u);
+p8 = read_at(j1 + UINT64_C(1050830), m, 6u);
 i1 = load16(p8 + 4);
 p9 = write_at(j0, m, 6u);
 store16(p9 + 4, i1);
@@ -16367,7 +16377,7 @@ v1 = j1;
 j0 = j0 + j1;
 v4 = j0;
 j1 = UINT64_C(0);
-p3 = read_at(j1 + UINT64_C(67964), m, 5u);
+p3 = read_at(j1 + UINT64_C(1051004), m, 5u);
 i1 = load8(p3 + 4);
 p4 = write_at(j0, m, 5u);
 store8(p4 + 4, i1);
@@ -16383,26 +16393,26 @@ store64(p1 + 72, j1);
 goto l3;
 l6:;
 j0 = v2;
-j1 = UINT64_C(67969);
+j1 = UINT64_C(1051009);
 j2 = UINT64_C(13);
 j3 = v4;
 fio_message_faults_push_number(m, j0, j1, j2, j3);
 goto l3;
 l5:;
 j0 = v2;
-j1 = UINT64_C(67982);
+j1 = UINT64_C(1051022);
 j2 = UINT64_C(13);
 j3 = v5;
 fio_message_faults_push_number(m, j0, j1, j2, j3);
 goto l3;
 l4:;
 j0 = v2;
-j1 = UINT64_C(67995);
+j1 = UINT64_C(1051035);
 j2 = UINT64_C(20);
 j3 = v4;
 fio_message_faults_push_number(m, j0, j1, j2, j3);
 j0 = v2;
-j1 = UINT64_C(68015);
+j1 = UINT64_C(1051055);
 j2 = UINT64_C(5);
 j3 = v3;
 fio_message_faults_push_number(m, j0, j1, j2, j3);
@@ -16531,7 +16541,7 @@ v8 = i1;
 j1 = (uint64_t)i1;
 j2 = UINT64_C(1);
 j1 = j1 << (j2 & 63);
-p3 = read_at(j1 + UINT64_C(67553), m, 2u);
+p3 = read_at(j1 + UINT64_C(1050593), m, 2u);
 i1 = load16(p3 + 0);
 p4 = write_at(j0, m, 4u);
 store16(p4 + 0, i1);
@@ -16548,7 +16558,7 @@ j2 = UINT64_C(65535);
 j1 = j1 & j2;
 j2 = UINT64_C(1);
 j1 = j1 << (j2 & 63);
-p5 = read_at(j1 + UINT64_C(67553), m, 2u);
+p5 = read_at(j1 + UINT64_C(1050593), m, 2u);
 i1 = load16(p5 + 0);
 store16(p4 + 2, i1);
 j0 = v4;
@@ -16592,7 +16602,7 @@ j0 = j0 + j1;
 j1 = v5;
 j2 = UINT64_C(1);
 j1 = j1 << (j2 & 63);
-p7 = read_at(j1 + UINT64_C(67553), m, 2u);
+p7 = read_at(j1 + UINT64_C(1050593), m, 2u);
 i1 = load16(p7 + 0);
 p8 = write_at(j0, m, 2u);
 store16(p8 + 0, i1);
@@ -16620,7 +16630,7 @@ j2 = UINT64_C(65535);
 j1 = j1 & j2;
 j2 = UINT64_C(1);
 j1 = j1 << (j2 & 63);
-p9 = read_at(j1 + UINT64_C(67553), m, 2u);
+p9 = read_at(j1 + UINT64_C(1050593), m, 2u);
 i1 = load16(p9 + 0);
 p10 = write_at(j0, m, 2u);
 store16(p10 + 0, i1);
@@ -16651,7 +16661,7 @@ i1 = v2;
 j1 = (uint64_t)i1;
 j2 = UINT64_C(1);
 j1 = j1 << (j2 & 63);
-p12 = read_at(j1 + UINT64_C(67553), m, 2u);
+p12 = read_at(j1 + UINT64_C(1050593), m, 2u);
 i1 = load16(p12 + 0);
 p13 = write_at(j0, m, 2u);
 store16(p13 + 0, i1);
@@ -16671,7 +16681,7 @@ j1 = v7;
 j0 = j0 + j1;
 v5 = j0;
 j1 = UINT64_C(0);
-p14 = read_at(j1 + UINT64_C(67943), m, 6u);
+p14 = read_at(j1 + UINT64_C(1050983), m, 6u);
 i1 = load16(p14 + 4);
 p15 = write_at(j0, m, 6u);
 store16(p15 + 4, i1);
@@ -16710,7 +16720,7 @@ v1 = i1;
 j1 = (uint64_t)i1;
 j2 = UINT64_C(1);
 j1 = j1 << (j2 & 63);
-p16 = read_at(j1 + UINT64_C(67553), m, 2u);
+p16 = read_at(j1 + UINT64_C(1050593), m, 2u);
 i1 = load16(p16 + 0);
 p17 = write_at(j0, m, 2u);
 store16(p17 + 0, i1);
@@ -16729,7 +16739,7 @@ j2 = UINT64_C(65535);
 j1 = j1 & j2;
 j2 = UINT64_C(1);
 j1 = j1 << (j2 & 63);
-p18 = read_at(j1 + UINT64_C(67553), m, 2u);
+p18 = read_at(j1 + UINT64_C(1050593), m, 2u);
 i1 = load16(p18 + 0);
 p19 = write_at(j0, m, 2u);
 store16(p19 + 0, i1);
@@ -16775,7 +16785,7 @@ j2 = UINT64_C(65535);
 j1 = j1 & j2;
 j2 = UINT64_C(1);
 j1 = j1 << (j2 & 63);
-p21 = read_at(j1 + UINT64_C(67553), m, 2u);
+p21 = read_at(j1 + UINT64_C(1050593), m, 2u);
 i1 = load16(p21 + 0);
 p22 = write_at(j0, m, 2u);
 store16(p22 + 0, i1);
@@ -16802,7 +16812,7 @@ j2 = UINT64_C(65535);
 j1 = j1 & j2;
 j2 = UINT64_C(1);
 j1 = j1 << (j2 & 63);
-p23 = read_at(j1 + UINT64_C(67553), m, 2u);
+p23 = read_at(j1 + UINT64_C(1050593), m, 2u);
 i1 = load16(p23 + 0);
 p24 = write_at(j0, m, 2u);
 store16(p24 + 0, i1);
@@ -16833,7 +16843,7 @@ i1 = v8;
 j1 = (uint64_t)i1;
 j2 = UINT64_C(1);
 j1 = j1 << (j2 & 63);
-p26 = read_at(j1 + UINT64_C(67553), m, 2u);
+p26 = read_at(j1 + UINT64_C(1050593), m, 2u);
 i1 = load16(p26 + 0);
 p27 = write_at(j0, m, 2u);
 store16(p27 + 0, i1);
@@ -16852,7 +16862,7 @@ i0 = (j0 > j1);
 if (!i0) {
 j0 = v4;
 j1 = UINT64_C(0);
-p28 = read_at(j1 + UINT64_C(67514), m, 7u);
+p28 = read_at(j1 + UINT64_C(1050554), m, 7u);
 i1 = load32(p28 + 3);
 p29 = write_at(j0, m, 7u);
 store32(p29 + 3, i1);
@@ -17134,7 +17144,7 @@ v13 = i1;
 j1 = (uint64_t)i1;
 j2 = UINT64_C(1);
 j1 = j1 << (j2 & 63);
-p8 = read_at(j1 + UINT64_C(67553), m, 2u);
+p8 = read_at(j1 + UINT64_C(1050593), m, 2u);
 i1 = load16(p8 + 0);
 p9 = write_at(j0, m, 4u);
 store16(p9 + 0, i1);
@@ -17151,7 +17161,7 @@ j2 = UINT64_C(65535);
 j1 = j1 & j2;
 j2 = UINT64_C(1);
 j1 = j1 << (j2 & 63);
-p10 = read_at(j1 + UINT64_C(67553), m, 2u);
+p10 = read_at(j1 + UINT64_C(1050593), m, 2u);
 i1 = load16(p10 + 0);
 store16(p9 + 2, i1);
 j0 = v9;
@@ -17199,7 +17209,7 @@ j0 = j0 + j1;
 j1 = v3;
 j2 = UINT64_C(1);
 j1 = j1 << (j2 & 63);
-p12 = read_at(j1 + UINT64_C(67553), m, 2u);
+p12 = read_at(j1 + UINT64_C(1050593), m, 2u);
 i1 = load16(p12 + 0);
 p13 = write_at(j0, m, 2u);
 store16(p13 + 0, i1);
@@ -17229,7 +17239,7 @@ j2 = UINT64_C(65535);
 j1 = j1 & j2;
 j2 = UINT64_C(1);
 j1 = j1 << (j2 & 63);
-p14 = read_at(j1 + UINT64_C(67553), m, 2u);
+p14 = read_at(j1 + UINT64_C(1050593), m, 2u);
 i1 = load16(p14 + 0);
 p15 = write_at(j0, m, 2u);
 store16(p15 + 0, i1);
@@ -17264,7 +17274,7 @@ i1 = v12;
 j1 = (uint64_t)i1;
 j2 = UINT64_C(1);
 j1 = j1 << (j2 & 63);
-p17 = read_at(j1 + UINT64_C(67553), m, 2u);
+p17 = read_at(j1 + UINT64_C(1050593), m, 2u);
 i1 = load16(p17 + 0);
 p18 = write_at(j0, m, 2u);
 store16(p18 + 0, i1);
@@ -27361,7 +27371,7 @@ v4 = j0;
 j1 = UINT64_C(3);
 j0 = j0 << (j1 & 63);
 v1 = j0;
-p1 = read_at(j0 + UINT64_C(68288), m, 8u);
+p1 = read_at(j0 + UINT64_C(1051328), m, 8u);
 j0 = load64(p1 + 0);
 v5 = j0;
 j1 = v2;
@@ -27369,7 +27379,7 @@ i0 = (j0 >= j1);
 if (i0) { goto l3; }
 j0 = v3;
 j1 = v1;
-p2 = read_at(j1 + UINT64_C(68376), m, 8u);
+p2 = read_at(j1 + UINT64_C(1051416), m, 8u);
 j1 = load64(p2 + 0);
 v6 = j1;
 j0 = j0 - j1;
@@ -27886,14 +27896,14 @@ j1 = load8(p4 + 0);
 v4 = j1;
 j2 = UINT64_C(15);
 j1 = j1 & j2;
-p5 = read_at(j1 + UINT64_C(67753), m, 1u);
+p5 = read_at(j1 + UINT64_C(1050793), m, 1u);
 i1 = load8(p5 + 0);
 i2 = UINT32_C(8);
 i1 = i1 << (i2 & 31);
 j2 = v4;
 j3 = UINT64_C(4);
 j2 = j2 >> (j3 & 63);
-p6 = read_at(j2 + UINT64_C(67753), m, 1u);
+p6 = read_at(j2 + UINT64_C(1050793), m, 1u);
 i2 = load8(p6 + 0);
 i1 = i1 | i2;
 store16(p1 + 134, i1);
@@ -27929,7 +27939,7 @@ i1 = v9;
 j1 = (uint64_t)i1;
 j2 = UINT64_C(1);
 j1 = j1 << (j2 & 63);
-p7 = read_at(j1 + UINT64_C(67553), m, 2u);
+p7 = read_at(j1 + UINT64_C(1050593), m, 2u);
 i1 = load16(p7 + 0);
 store16(p1 + 124, i1);
 j0 = UINT64_C(102);
@@ -27961,7 +27971,7 @@ j2 = UINT64_C(255);
 j1 = j1 & j2;
 j2 = UINT64_C(1);
 j1 = j1 << (j2 & 63);
-p8 = read_at(j1 + UINT64_C(67553), m, 2u);
+p8 = read_at(j1 + UINT64_C(1050593), m, 2u);
 i1 = load16(p8 + 0);
 store16(p1 + 124, i1);
 j0 = UINT64_C(101);
@@ -27969,7 +27979,7 @@ v4 = j0;
 l14:;
 j0 = v0;
 j1 = UINT64_C(0);
-p9 = read_at(j1 + UINT64_C(68080), m, 14u);
+p9 = read_at(j1 + UINT64_C(1051120), m, 14u);
 j1 = load64(p9 + 6);
 p10 = write_at(j0, m, 14u);
 store64(p10 + 6, j1);
@@ -28009,7 +28019,7 @@ j2 = UINT64_C(255);
 j1 = j1 & j2;
 j2 = UINT64_C(1);
 j1 = j1 << (j2 & 63);
-p12 = read_at(j1 + UINT64_C(67553), m, 2u);
+p12 = read_at(j1 + UINT64_C(1050593), m, 2u);
 i1 = load16(p12 + 0);
 store16(p1 + 134, i1);
 j0 = UINT64_C(120);
@@ -28037,7 +28047,7 @@ j2 = UINT64_C(255);
 j1 = j1 & j2;
 j2 = UINT64_C(1);
 j1 = j1 << (j2 & 63);
-p13 = read_at(j1 + UINT64_C(67553), m, 2u);
+p13 = read_at(j1 + UINT64_C(1050593), m, 2u);
 i1 = load16(p13 + 0);
 store16(p1 + 134, i1);
 j0 = UINT64_C(119);
@@ -28047,7 +28057,7 @@ v7 = j0;
 l17:;
 j0 = v7;
 j1 = UINT64_C(0);
-p14 = read_at(j1 + UINT64_C(68094), m, 6u);
+p14 = read_at(j1 + UINT64_C(1051134), m, 6u);
 i1 = load16(p14 + 4);
 p15 = write_at(j0, m, 6u);
 store16(p15 + 4, i1);
@@ -28087,7 +28097,7 @@ j2 = UINT64_C(255);
 j1 = j1 & j2;
 j2 = UINT64_C(1);
 j1 = j1 << (j2 & 63);
-p17 = read_at(j1 + UINT64_C(67553), m, 2u);
+p17 = read_at(j1 + UINT64_C(1050593), m, 2u);
 i1 = load16(p17 + 0);
 store16(p1 + 134, i1);
 j0 = UINT64_C(120);
@@ -28115,7 +28125,7 @@ j2 = UINT64_C(255);
 j1 = j1 & j2;
 j2 = UINT64_C(1);
 j1 = j1 << (j2 & 63);
-p18 = read_at(j1 + UINT64_C(67553), m, 2u);
+p18 = read_at(j1 + UINT64_C(1050593), m, 2u);
 i1 = load16(p18 + 0);
 store16(p1 + 134, i1);
 j0 = UINT64_C(119);
@@ -28125,7 +28135,7 @@ v7 = j0;
 l20:;
 j0 = v7;
 j1 = UINT64_C(0);
-p19 = read_at(j1 + UINT64_C(67790), m, 6u);
+p19 = read_at(j1 + UINT64_C(1050830), m, 6u);
 i1 = load16(p19 + 4);
 p20 = write_at(j0, m, 6u);
 store16(p20 + 4, i1);
@@ -28212,7 +28222,7 @@ j1 = v4;
 j0 = j0 + j1;
 v0 = j0;
 j1 = UINT64_C(0);
-p22 = read_at(j1 + UINT64_C(68100), m, 11u);
+p22 = read_at(j1 + UINT64_C(1051140), m, 11u);
 i1 = load32(p22 + 7);
 p23 = write_at(j0, m, 11u);
 store32(p23 + 7, i1);
@@ -28253,7 +28263,7 @@ v11 = i1;
 j1 = (uint64_t)i1;
 j2 = UINT64_C(1);
 j1 = j1 << (j2 & 63);
-p25 = read_at(j1 + UINT64_C(67553), m, 2u);
+p25 = read_at(j1 + UINT64_C(1050593), m, 2u);
 i1 = load16(p25 + 0);
 store16(p1 + 132, i1);
 j0 = v3;
@@ -28267,7 +28277,7 @@ j2 = UINT64_C(65535);
 j1 = j1 & j2;
 j2 = UINT64_C(1);
 j1 = j1 << (j2 & 63);
-p26 = read_at(j1 + UINT64_C(67553), m, 2u);
+p26 = read_at(j1 + UINT64_C(1050593), m, 2u);
 i1 = load16(p26 + 0);
 store16(p1 + 134, i1);
 j0 = UINT64_C(108);
@@ -28304,7 +28314,7 @@ i1 = v9;
 j1 = (uint64_t)i1;
 j2 = UINT64_C(1);
 j1 = j1 << (j2 & 63);
-p28 = read_at(j1 + UINT64_C(67553), m, 2u);
+p28 = read_at(j1 + UINT64_C(1050593), m, 2u);
 i1 = load16(p28 + 0);
 store16(p1 + 134, i1);
 j0 = UINT64_C(111);
@@ -28325,7 +28335,7 @@ j2 = UINT64_C(65535);
 j1 = j1 & j2;
 j2 = UINT64_C(1);
 j1 = j1 << (j2 & 63);
-p29 = read_at(j1 + UINT64_C(67553), m, 2u);
+p29 = read_at(j1 + UINT64_C(1050593), m, 2u);
 i1 = load16(p29 + 0);
 store16(p1 + 134, i1);
 i0 = v9;
@@ -28346,7 +28356,7 @@ i1 = v10;
 j1 = (uint64_t)i1;
 j2 = UINT64_C(1);
 j1 = j1 << (j2 & 63);
-p30 = read_at(j1 + UINT64_C(67553), m, 2u);
+p30 = read_at(j1 + UINT64_C(1050593), m, 2u);
 i1 = load16(p30 + 0);
 store16(p1 + 132, i1);
 j0 = UINT64_C(109);
@@ -28359,7 +28369,7 @@ j1 = v4;
 j0 = j0 + j1;
 v0 = j0;
 j1 = UINT64_C(0);
-p31 = read_at(j1 + UINT64_C(68111), m, 15u);
+p31 = read_at(j1 + UINT64_C(1051151), m, 15u);
 j1 = load64(p31 + 7);
 p32 = write_at(j0, m, 15u);
 store64(p32 + 7, j1);
@@ -28490,7 +28500,7 @@ v4 = j0;
 j1 = UINT64_C(3);
 j0 = j0 << (j1 & 63);
 v1 = j0;
-p1 = read_at(j0 + UINT64_C(68464), m, 8u);
+p1 = read_at(j0 + UINT64_C(1051504), m, 8u);
 j0 = load64(p1 + 0);
 v5 = j0;
 j1 = v2;
@@ -28498,7 +28508,7 @@ i0 = (j0 >= j1);
 if (i0) { goto l3; }
 j0 = v3;
 j1 = v1;
-p2 = read_at(j1 + UINT64_C(68536), m, 8u);
+p2 = read_at(j1 + UINT64_C(1051576), m, 8u);
 j1 = load64(p2 + 0);
 v6 = j1;
 j0 = j0 - j1;
@@ -31487,19 +31497,19 @@ enum { STACK_fio2070_poller_poll = 0 };
 #define TABLE_fio2070_poller_poll NO_TABLE
 #define call_fio2070_poller_poll enter_poller_poll
 enum { STACK_fio2070_show = 752 };
-#define TABLE_fio2070_show table_67482
+#define TABLE_fio2070_show table_1050522
 #define call_fio2070_show enter_show
 enum { STACK_fio2070_content_rule_text = 0 };
-#define TABLE_fio2070_content_rule_text table_67482
+#define TABLE_fio2070_content_rule_text table_1050522
 #define call_fio2070_content_rule_text enter_content_rule_text
 enum { STACK_fio2070_fault_text = 320 };
-#define TABLE_fio2070_fault_text table_67482
+#define TABLE_fio2070_fault_text table_1050522
 #define call_fio2070_fault_text enter_fault_text
 enum { STACK_fio2070_heard_text = 368 };
-#define TABLE_fio2070_heard_text table_67482
+#define TABLE_fio2070_heard_text table_1050522
 #define call_fio2070_heard_text enter_heard_text
 enum { STACK_fio2070_rule_text = 0 };
-#define TABLE_fio2070_rule_text table_67482
+#define TABLE_fio2070_rule_text table_1050522
 #define call_fio2070_rule_text enter_rule_text
 enum { STACK_fio2070_sized_module_answer_other = 0 };
 #define TABLE_fio2070_sized_module_answer_other NO_TABLE
@@ -31511,64 +31521,64 @@ enum { STACK_fio2070_encode_command = 2304 };
 #define TABLE_fio2070_encode_command NO_TABLE
 #define call_fio2070_encode_command enter_encode_command
 #ifndef FIO2070_NO_LOG
-static const uint8_t table_65536[2760] = {
-0,0,1,0,192,10,0,0,204,0,1,0,0,0,0,0,11,0,0,0,0,0,0,0,193,0,1,0,0,0,0,0,
-11,0,0,0,0,0,0,0,182,0,1,0,0,0,0,0,11,0,0,0,0,0,0,0,171,0,1,0,0,0,0,0,
-11,0,0,0,0,0,0,0,160,0,1,0,0,0,0,0,11,0,0,0,0,0,0,0,151,0,1,0,0,0,0,0,
-9,0,0,0,0,0,0,0,146,0,1,0,0,0,0,0,5,0,0,0,0,0,0,0,145,0,1,0,0,0,0,0,
-1,0,0,0,0,0,0,0,144,0,1,0,0,0,0,0,1,0,0,0,0,0,0,0,70,69,104,58,109,58,115,78,
+static const uint8_t table_1048576[2760] = {
+0,0,16,0,192,10,0,0,204,0,16,0,0,0,0,0,11,0,0,0,0,0,0,0,193,0,16,0,0,0,0,0,
+11,0,0,0,0,0,0,0,182,0,16,0,0,0,0,0,11,0,0,0,0,0,0,0,171,0,16,0,0,0,0,0,
+11,0,0,0,0,0,0,0,160,0,16,0,0,0,0,0,11,0,0,0,0,0,0,0,151,0,16,0,0,0,0,0,
+9,0,0,0,0,0,0,0,146,0,16,0,0,0,0,0,5,0,0,0,0,0,0,0,145,0,16,0,0,0,0,0,
+1,0,0,0,0,0,0,0,144,0,16,0,0,0,0,0,1,0,0,0,0,0,0,0,70,69,104,58,109,58,115,78,
 95,68,95,104,58,109,58,115,77,47,68,47,89,95,104,58,109,58,115,68,46,77,46,89,95,104,58,109,58,115,89,46,
 77,46,68,95,104,58,109,58,115,89,47,77,47,68,95,104,58,109,58,115,89,45,77,45,68,95,104,58,109,58,115,0,
-2,0,60,62,0,0,0,0,239,2,1,0,0,0,0,0,2,0,0,0,0,0,0,0,0,0,0,0,0,0,0,0,
-235,2,1,0,0,0,0,0,4,0,0,0,0,0,0,0,0,0,0,0,0,0,0,0,231,2,1,0,0,0,0,0,
-4,0,0,0,0,0,0,0,0,0,0,0,0,0,0,0,228,2,1,0,0,0,0,0,3,0,0,0,0,0,0,0,
-0,0,0,0,0,0,0,0,223,2,1,0,0,0,0,0,5,0,0,0,0,0,0,0,0,0,0,0,0,0,0,0,
-218,2,1,0,0,0,0,0,5,0,0,0,0,0,0,0,0,0,0,0,0,0,0,0,215,2,1,0,0,0,0,0,
-3,0,0,0,0,0,0,0,0,0,0,0,0,0,0,0,207,2,1,0,0,0,0,0,8,0,0,0,0,0,0,0,
-0,0,0,0,0,0,0,0,206,2,1,0,0,0,0,0,1,0,0,0,0,0,0,0,0,0,0,0,0,0,0,0,
-203,2,1,0,0,0,0,0,3,0,0,0,0,0,0,0,0,0,0,0,0,0,0,0,201,2,1,0,0,0,0,0,
-2,0,0,0,0,0,0,0,1,0,0,0,0,0,0,0,193,2,1,0,0,0,0,0,8,0,0,0,0,0,0,0,
-1,0,0,0,0,0,0,0,189,2,1,0,0,0,0,0,4,0,0,0,0,0,0,0,1,0,0,0,0,0,0,0,
-187,2,1,0,0,0,0,0,2,0,0,0,0,0,0,0,1,0,0,0,0,0,0,0,183,2,1,0,0,0,0,0,
-4,0,0,0,0,0,0,0,1,0,0,0,0,0,0,0,180,2,1,0,0,0,0,0,3,0,0,0,0,0,0,0,
-1,0,0,0,0,0,0,0,172,2,1,0,0,0,0,0,8,0,0,0,0,0,0,0,1,0,0,0,0,0,0,0,
-171,2,1,0,0,0,0,0,1,0,0,0,0,0,0,0,1,0,0,0,0,0,0,0,168,2,1,0,0,0,0,0,
+2,0,60,62,0,0,0,0,239,2,16,0,0,0,0,0,2,0,0,0,0,0,0,0,0,0,0,0,0,0,0,0,
+235,2,16,0,0,0,0,0,4,0,0,0,0,0,0,0,0,0,0,0,0,0,0,0,231,2,16,0,0,0,0,0,
+4,0,0,0,0,0,0,0,0,0,0,0,0,0,0,0,228,2,16,0,0,0,0,0,3,0,0,0,0,0,0,0,
+0,0,0,0,0,0,0,0,223,2,16,0,0,0,0,0,5,0,0,0,0,0,0,0,0,0,0,0,0,0,0,0,
+218,2,16,0,0,0,0,0,5,0,0,0,0,0,0,0,0,0,0,0,0,0,0,0,215,2,16,0,0,0,0,0,
+3,0,0,0,0,0,0,0,0,0,0,0,0,0,0,0,207,2,16,0,0,0,0,0,8,0,0,0,0,0,0,0,
+0,0,0,0,0,0,0,0,206,2,16,0,0,0,0,0,1,0,0,0,0,0,0,0,0,0,0,0,0,0,0,0,
+203,2,16,0,0,0,0,0,3,0,0,0,0,0,0,0,0,0,0,0,0,0,0,0,201,2,16,0,0,0,0,0,
+2,0,0,0,0,0,0,0,1,0,0,0,0,0,0,0,193,2,16,0,0,0,0,0,8,0,0,0,0,0,0,0,
+1,0,0,0,0,0,0,0,189,2,16,0,0,0,0,0,4,0,0,0,0,0,0,0,1,0,0,0,0,0,0,0,
+187,2,16,0,0,0,0,0,2,0,0,0,0,0,0,0,1,0,0,0,0,0,0,0,183,2,16,0,0,0,0,0,
+4,0,0,0,0,0,0,0,1,0,0,0,0,0,0,0,180,2,16,0,0,0,0,0,3,0,0,0,0,0,0,0,
+1,0,0,0,0,0,0,0,172,2,16,0,0,0,0,0,8,0,0,0,0,0,0,0,1,0,0,0,0,0,0,0,
+171,2,16,0,0,0,0,0,1,0,0,0,0,0,0,0,1,0,0,0,0,0,0,0,168,2,16,0,0,0,0,0,
 3,0,0,0,0,0,0,0,1,0,0,0,0,0,0,0,226,134,144,60,105,110,99,111,109,105,110,103,102,105,111,114,
 101,97,100,105,110,114,101,99,118,114,101,99,101,105,118,101,100,114,120,226,134,146,62,111,117,116,103,111,105,110,103,99,
 112,117,119,114,111,116,101,119,114,105,116,101,111,117,116,115,101,110,100,115,101,110,116,116,120,0,0,0,0,0,0,0,
-92,0,0,0,0,0,0,0,119,4,1,0,0,0,0,0,3,0,0,0,0,0,0,0,115,4,1,0,0,0,0,0,
-4,0,0,0,0,0,0,0,108,4,1,0,0,0,0,0,7,0,0,0,0,0,0,0,101,4,1,0,0,0,0,0,
-7,0,0,0,0,0,0,0,95,4,1,0,0,0,0,0,6,0,0,0,0,0,0,0,88,4,1,0,0,0,0,0,
-7,0,0,0,0,0,0,0,79,4,1,0,0,0,0,0,9,0,0,0,0,0,0,0,74,4,1,0,0,0,0,0,
-5,0,0,0,0,0,0,0,67,4,1,0,0,0,0,0,7,0,0,0,0,0,0,0,58,4,1,0,0,0,0,0,
-9,0,0,0,0,0,0,0,54,4,1,0,0,0,0,0,4,0,0,0,0,0,0,0,50,4,1,0,0,0,0,0,
-4,0,0,0,0,0,0,0,44,4,1,0,0,0,0,0,6,0,0,0,0,0,0,0,37,4,1,0,0,0,0,0,
-7,0,0,0,0,0,0,0,31,4,1,0,0,0,0,0,6,0,0,0,0,0,0,0,24,4,1,0,0,0,0,0,
-7,0,0,0,0,0,0,0,16,4,1,0,0,0,0,0,8,0,0,0,0,0,0,0,114,115,121,115,108,111,103,100,
+92,0,0,0,0,0,0,0,119,4,16,0,0,0,0,0,3,0,0,0,0,0,0,0,115,4,16,0,0,0,0,0,
+4,0,0,0,0,0,0,0,108,4,16,0,0,0,0,0,7,0,0,0,0,0,0,0,101,4,16,0,0,0,0,0,
+7,0,0,0,0,0,0,0,95,4,16,0,0,0,0,0,6,0,0,0,0,0,0,0,88,4,16,0,0,0,0,0,
+7,0,0,0,0,0,0,0,79,4,16,0,0,0,0,0,9,0,0,0,0,0,0,0,74,4,16,0,0,0,0,0,
+5,0,0,0,0,0,0,0,67,4,16,0,0,0,0,0,7,0,0,0,0,0,0,0,58,4,16,0,0,0,0,0,
+9,0,0,0,0,0,0,0,54,4,16,0,0,0,0,0,4,0,0,0,0,0,0,0,50,4,16,0,0,0,0,0,
+4,0,0,0,0,0,0,0,44,4,16,0,0,0,0,0,6,0,0,0,0,0,0,0,37,4,16,0,0,0,0,0,
+7,0,0,0,0,0,0,0,31,4,16,0,0,0,0,0,6,0,0,0,0,0,0,0,24,4,16,0,0,0,0,0,
+7,0,0,0,0,0,0,0,16,4,16,0,0,0,0,0,8,0,0,0,0,0,0,0,114,115,121,115,108,111,103,100,
 115,121,115,108,111,103,100,115,121,115,108,111,103,106,111,117,114,110,97,108,115,99,114,105,112,116,112,111,114,116,102,105,
 108,101,114,101,99,111,114,100,105,110,103,115,101,115,115,105,111,110,116,114,97,99,101,99,97,112,116,117,114,105,110,103,
 99,97,112,116,117,114,101,108,111,103,103,101,114,108,111,103,103,105,110,103,108,111,103,102,105,108,101,108,111,103,115,108,
-111,103,0,0,0,0,0,0,38,6,1,0,0,0,0,0,7,0,0,0,0,0,0,0,30,6,1,0,0,0,0,0,
-8,0,0,0,0,0,0,0,25,6,1,0,0,0,0,0,5,0,0,0,0,0,0,0,20,6,1,0,0,0,0,0,
-5,0,0,0,0,0,0,0,14,6,1,0,0,0,0,0,6,0,0,0,0,0,0,0,5,6,1,0,0,0,0,0,
-9,0,0,0,0,0,0,0,0,6,1,0,0,0,0,0,5,0,0,0,0,0,0,0,251,5,1,0,0,0,0,0,
-5,0,0,0,0,0,0,0,245,5,1,0,0,0,0,0,6,0,0,0,0,0,0,0,241,5,1,0,0,0,0,0,
-4,0,0,0,0,0,0,0,238,5,1,0,0,0,0,0,3,0,0,0,0,0,0,0,231,5,1,0,0,0,0,0,
-7,0,0,0,0,0,0,0,223,5,1,0,0,0,0,0,8,0,0,0,0,0,0,0,216,5,1,0,0,0,0,0,
-7,0,0,0,0,0,0,0,207,5,1,0,0,0,0,0,9,0,0,0,0,0,0,0,200,5,1,0,0,0,0,0,
-7,0,0,0,0,0,0,0,192,5,1,0,0,0,0,0,8,0,0,0,0,0,0,0,183,5,1,0,0,0,0,0,
-9,0,0,0,0,0,0,0,176,5,1,0,0,0,0,0,7,0,0,0,0,0,0,0,114,101,115,116,97,114,116,114,
+111,103,0,0,0,0,0,0,38,6,16,0,0,0,0,0,7,0,0,0,0,0,0,0,30,6,16,0,0,0,0,0,
+8,0,0,0,0,0,0,0,25,6,16,0,0,0,0,0,5,0,0,0,0,0,0,0,20,6,16,0,0,0,0,0,
+5,0,0,0,0,0,0,0,14,6,16,0,0,0,0,0,6,0,0,0,0,0,0,0,5,6,16,0,0,0,0,0,
+9,0,0,0,0,0,0,0,0,6,16,0,0,0,0,0,5,0,0,0,0,0,0,0,251,5,16,0,0,0,0,0,
+5,0,0,0,0,0,0,0,245,5,16,0,0,0,0,0,6,0,0,0,0,0,0,0,241,5,16,0,0,0,0,0,
+4,0,0,0,0,0,0,0,238,5,16,0,0,0,0,0,3,0,0,0,0,0,0,0,231,5,16,0,0,0,0,0,
+7,0,0,0,0,0,0,0,223,5,16,0,0,0,0,0,8,0,0,0,0,0,0,0,216,5,16,0,0,0,0,0,
+7,0,0,0,0,0,0,0,207,5,16,0,0,0,0,0,9,0,0,0,0,0,0,0,200,5,16,0,0,0,0,0,
+7,0,0,0,0,0,0,0,192,5,16,0,0,0,0,0,8,0,0,0,0,0,0,0,183,5,16,0,0,0,0,0,
+9,0,0,0,0,0,0,0,176,5,16,0,0,0,0,0,7,0,0,0,0,0,0,0,114,101,115,116,97,114,116,114,
 101,115,116,97,114,116,101,100,114,101,111,112,101,110,101,100,99,114,101,97,116,101,100,99,111,110,116,105,110,117,101,100,
 114,101,115,117,109,101,100,114,111,116,97,116,105,110,103,114,111,116,97,116,101,100,110,101,119,111,112,101,110,111,112,101,
 110,101,100,98,101,103,117,110,98,101,103,97,110,98,101,103,105,110,110,105,110,103,98,101,103,105,110,115,98,101,103,105,
-110,115,116,97,114,116,115,116,97,114,116,105,110,103,115,116,97,114,116,101,100,0,0,0,128,7,1,0,0,0,0,0,
-6,0,0,0,0,0,0,0,121,7,1,0,0,0,0,0,7,0,0,0,0,0,0,0,117,7,1,0,0,0,0,0,
-4,0,0,0,0,0,0,0,113,7,1,0,0,0,0,0,4,0,0,0,0,0,0,0,109,7,1,0,0,0,0,0,
-4,0,0,0,0,0,0,0,102,7,1,0,0,0,0,0,7,0,0,0,0,0,0,0,97,7,1,0,0,0,0,0,
-5,0,0,0,0,0,0,0,88,7,1,0,0,0,0,0,9,0,0,0,0,0,0,0,78,7,1,0,0,0,0,0,
-10,0,0,0,0,0,0,0,71,7,1,0,0,0,0,0,7,0,0,0,0,0,0,0,63,7,1,0,0,0,0,0,
-8,0,0,0,0,0,0,0,55,7,1,0,0,0,0,0,8,0,0,0,0,0,0,0,45,7,1,0,0,0,0,0,
-10,0,0,0,0,0,0,0,41,7,1,0,0,0,0,0,4,0,0,0,0,0,0,0,32,7,1,0,0,0,0,0,
+110,115,116,97,114,116,115,116,97,114,116,105,110,103,115,116,97,114,116,101,100,0,0,0,128,7,16,0,0,0,0,0,
+6,0,0,0,0,0,0,0,121,7,16,0,0,0,0,0,7,0,0,0,0,0,0,0,117,7,16,0,0,0,0,0,
+4,0,0,0,0,0,0,0,113,7,16,0,0,0,0,0,4,0,0,0,0,0,0,0,109,7,16,0,0,0,0,0,
+4,0,0,0,0,0,0,0,102,7,16,0,0,0,0,0,7,0,0,0,0,0,0,0,97,7,16,0,0,0,0,0,
+5,0,0,0,0,0,0,0,88,7,16,0,0,0,0,0,9,0,0,0,0,0,0,0,78,7,16,0,0,0,0,0,
+10,0,0,0,0,0,0,0,71,7,16,0,0,0,0,0,7,0,0,0,0,0,0,0,63,7,16,0,0,0,0,0,
+8,0,0,0,0,0,0,0,55,7,16,0,0,0,0,0,8,0,0,0,0,0,0,0,45,7,16,0,0,0,0,0,
+10,0,0,0,0,0,0,0,41,7,16,0,0,0,0,0,4,0,0,0,0,0,0,0,32,7,16,0,0,0,0,0,
 9,0,0,0,0,0,0,0,116,114,117,110,99,97,116,101,100,102,117,108,108,111,118,101,114,102,108,111,119,101,100,111,
 118,101,114,102,108,111,119,111,118,101,114,114,117,110,115,111,118,101,114,114,117,110,115,117,112,112,114,101,115,115,101,100,
 100,105,115,99,97,114,100,101,100,100,114,111,112,115,100,114,111,112,112,101,100,100,114,111,112,108,111,115,115,108,111,115,
@@ -31600,30 +31610,31 @@ static const uint8_t table_65536[2760] = {
 0,0,0,0,0,0,0,0,1,0,0,0,0,0,0,0,0,0,0,0,4,0,0,0,0,0,10,0,1,2,3,4,
 6,7,10,11,13,14,0,0};
 static void fio_log_teller_Teller_tell_heard(struct machine *m, uint64_t v0, uint64_t v1, uint64_t v2, uint64_t v3, uint64_t v4, uint64_t v5, uint64_t v6);
+static void fio_log_by_forms_FormReader_tell(struct machine *m, uint64_t v0, uint64_t v1, uint64_t v2, uint64_t v3, uint64_t v4);
+static uint32_t fio_guess_words_may_begin(struct machine *m, uint64_t v0, uint64_t v1, uint64_t v2);
+static void fio_form_octets_run_in(struct machine *m, uint64_t v0, uint32_t v1, uint32_t v2, uint64_t v3, uint64_t v4, uint64_t v5, uint64_t v6, uint64_t v7);
+static void fio_form_message_size_of(struct machine *m, uint64_t v0, uint64_t v1, uint64_t v2);
+static uint32_t fio_form_message_is_message(struct machine *m, uint64_t v0, uint64_t v1);
+static void fio_log_learning_Learning_look(struct machine *m, uint64_t v0, uint64_t v1);
 static void fio_log_heading_Heading_of(struct machine *m, uint64_t v0, uint64_t v1, uint64_t v2, uint64_t v3);
 static uint32_t core_cmp_slices_groups_equal_i8_31_core_cmp_numbers_U8PartialEq(struct machine *m, uint64_t v0, uint64_t v1, uint64_t v2);
 static uint32_t fio_log_by_forms_take_message(struct machine *m, uint64_t v0, uint64_t v1, uint64_t v2, uint64_t v3, uint64_t v4);
 static uint32_t fio_form_octets_makes_longer(struct machine *m, uint32_t v0, uint64_t v1, uint64_t v2, uint64_t v3);
 static void fio_form_octets_next_in(struct machine *m, uint64_t v0, uint32_t v1, uint32_t v2, uint64_t v3, uint32_t v4, uint32_t v5);
-static void fio_log_second_second_in(struct machine *m, uint64_t v0, uint64_t v1, uint64_t v2, uint64_t v3, uint64_t v4, uint64_t v5, uint64_t v6, uint64_t v7);
-static uint32_t fio_log_own_texts_spells(struct machine *m, uint64_t v0, uint64_t v1);
 static uint32_t fio_log_quiet_held_by_text(struct machine *m, uint64_t v0, uint64_t v1, uint64_t v2, uint64_t v3, uint64_t v4);
 static uint32_t fio_form_wholes_framed_in(struct machine *m, uint64_t v0, uint64_t v1, uint64_t v2);
-static uint32_t fio_form_message_is_message(struct machine *m, uint64_t v0, uint64_t v1);
 static void fio_rows_stream_Stream_divide(struct machine *m, uint64_t v0, uint64_t v1);
 static void fio_form_form_Piece_length_in(struct machine *m, uint64_t v0, uint32_t v1, uint32_t v2, uint64_t v3, uint64_t v4, uint64_t v5, uint64_t v6);
 static uint32_t fio_log_cut_has_message(struct machine *m, uint64_t v0, uint64_t v1, uint64_t v2, uint64_t v3, uint64_t v4, uint64_t v5);
 static uint32_t core_slice_reads_slice_T_contains(struct machine *m, uint64_t v0, uint64_t v1, uint64_t v2);
-static void fio_form_octets_run_in(struct machine *m, uint64_t v0, uint32_t v1, uint32_t v2, uint64_t v3, uint64_t v4, uint64_t v5, uint64_t v6, uint64_t v7);
 static uint32_t core_slice_reads_slice_T_contains_i8_31_core_cmp_numbers_U8PartialEq(struct machine *m, uint64_t v0, uint64_t v1, uint64_t v2);
 static uint32_t fio_log_wordings_is_heading(struct machine *m, uint64_t v0, uint64_t v1);
 static uint64_t fio_log_shapes_sum_of(struct machine *m, uint64_t v0, uint64_t v1);
 static void fio_log_sides_said_by(struct machine *m, uint64_t v0, uint32_t v1, uint64_t v2, uint64_t v3);
 static void fio_form_reading_find(struct machine *m, uint64_t v0, uint64_t v1, uint64_t v2, uint64_t v3, uint64_t v4);
 static void fio_form_reading_find_at(struct machine *m, uint64_t v0, uint64_t v1, uint64_t v2, uint64_t v3, uint64_t v4, uint64_t v5);
-static uint32_t fio_guess_words_may_begin(struct machine *m, uint64_t v0, uint64_t v1, uint64_t v2);
-static void fio_form_message_size_of(struct machine *m, uint64_t v0, uint64_t v1, uint64_t v2);
-static void fio_log_learning_Learning_look(struct machine *m, uint64_t v0, uint64_t v1);
+static void fio_log_second_second_in(struct machine *m, uint64_t v0, uint64_t v1, uint64_t v2, uint64_t v3, uint64_t v4, uint64_t v5, uint64_t v6, uint64_t v7);
+static uint32_t fio_log_own_texts_spells(struct machine *m, uint64_t v0, uint64_t v1);
 static void fio_log_sides_said_at(struct machine *m, uint64_t v0, uint64_t v1, uint64_t v2, uint64_t v3);
 static uint32_t core_cmp_slices_parts_equal_i8_31_core_cmp_numbers_U8PartialEq(struct machine *m, uint64_t v0, uint64_t v1, uint64_t v2, uint64_t v3);
 static uint32_t core_slice_scan_any_in_quarters(struct machine *m, uint64_t v0, uint64_t v1, uint64_t v2);
@@ -31644,7 +31655,7 @@ static void fio_sniff_weighing_Weighing_take(struct machine *m, uint64_t v0, uin
 static void fio_sniff_weighing_Weighing_weigh(struct machine *m, uint64_t v0, uint64_t v1, uint64_t v2, uint64_t v3, uint64_t v4);
 static void fio_sniff_streams_Streams_try_all(struct machine *m, uint64_t v0, uint64_t v1, uint64_t v2, uint64_t v3, uint32_t v4);
 static uint32_t core_cmp_slices_groups_equal(struct machine *m, uint64_t v0, uint64_t v1, uint64_t v2);
-static uint32_t core_cmp_slices_groups_equal_52(struct machine *m, uint64_t v0, uint64_t v1, uint64_t v2);
+static uint32_t core_cmp_slices_groups_equal_53(struct machine *m, uint64_t v0, uint64_t v1, uint64_t v2);
 static void fio_form_form_LineForm_copied(struct machine *m, uint64_t v0, uint64_t v1);
 static void fio_sniff_weighing_Weighing_hear(struct machine *m, uint64_t v0, uint64_t v1, uint64_t v2, uint64_t v3, uint64_t v4, uint64_t v5, uint32_t v6);
 static void fio_sniff_splitting_Values_tell(struct machine *m, uint64_t v0, uint64_t v1, uint64_t v2, uint32_t v3, uint64_t v4, uint64_t v5);
@@ -31671,11 +31682,12 @@ static void fio_sniff_tally_Tally_tell(struct machine *m, uint64_t v0, uint32_t 
 static uint32_t fio_sniff_weighing_Weighing_damage(struct machine *m, uint64_t v0, uint64_t v1);
 static uint32_t fio_sniff_known_Mark_is_paired(struct machine *m, uint64_t v0, uint32_t v1, uint64_t v2);
 static void fio_sniff_streams_Streams_try_forms(struct machine *m, uint64_t v0, uint64_t v1, uint64_t v2, uint64_t v3, uint32_t v4);
+static void arrayvec_array_vec_ArrayVec_T_CAP_new(struct machine *m, uint64_t v0);
 static void fio_rows_stream_Stream_end(struct machine *m, uint64_t v0, uint64_t v1);
 static void fio_sniff_streams_Streams_tell(struct machine *m, uint64_t v0, uint64_t v1, uint64_t v2);
 static uint32_t fio_log_reader_read_line(struct machine *m, uint32_t v0, uint64_t v1, uint64_t v2, uint64_t v3, uint64_t v4, uint64_t v5);
 static uint32_t fio_log_teller_Teller_hear_next(struct machine *m, uint64_t v0, uint64_t v1, uint64_t v2);
-static void fio_log_teller_Teller_know(struct machine *m, uint64_t v0, uint64_t v1);
+static void fio_log_by_forms_FormReader_add(struct machine *m, uint64_t v0, uint64_t v1, uint64_t v2);
 static void fio_log_counts_Counts_add_from(struct machine *m, uint64_t v0, uint64_t v1, uint64_t v2);
 static uint32_t core_cmp_slices_groups_equal_i32_32_core_cmp_numbers_U32PartialEq(struct machine *m, uint64_t v0, uint64_t v1, uint64_t v2);
 static void fio_log_by_forms_FormReader_hear(struct machine *m, uint64_t v0, uint64_t v1, uint64_t v2);
@@ -31726,38 +31738,1751 @@ static void proved_log_forms(struct machine *m, uint64_t v0, uint64_t v1);
 static void fio_log_teller_Teller_tell_heard(struct machine *m, uint64_t v0, uint64_t v1, uint64_t v2, uint64_t v3, uint64_t v4, uint64_t v5, uint64_t v6)
 {
 uint64_t v7 = 0;
+uint64_t v8 = 0;
+uint64_t v9 = 0;
+uint32_t v10 = 0;
+uint32_t v11 = 0;
+uint32_t v12 = 0;
+uint64_t v13 = 0;
+uint64_t v14 = 0;
+uint64_t v15 = 0;
+uint64_t v16 = 0;
+uint64_t v17 = 0;
+uint32_t i0;
+uint32_t i1;
+uint32_t i2;
+uint32_t i3;
+uint64_t j0;
+uint64_t j1;
+uint64_t j2;
+uint64_t j3;
+uint64_t j4;
+uint64_t j5;
+uint64_t j6;
+uint64_t j7;
+uint8_t *p1;
+uint8_t *p2;
+uint8_t *p3;
+uint8_t *p4;
+uint8_t *p5;
+uint8_t *p6;
+uint8_t *p7;
+uint8_t *p8;
+uint8_t *p9;
+uint8_t *p10;
+uint8_t *p11;
+uint8_t *p12;
+uint8_t *p13;
+uint8_t *p14;
+uint8_t *p15;
+uint8_t *p16;
+uint8_t *p17;
+uint8_t *p18;
+uint8_t *p19;
+uint8_t *p20;
+uint8_t *p21;
+uint8_t *p22;
+uint8_t *p23;
+uint8_t *p24;
+uint8_t *p25;
+uint8_t *p26;
+uint8_t *p27;
+uint8_t *p28;
+uint8_t *p29;
+uint8_t *p30;
+uint8_t *p31;
+uint8_t *p32;
+uint8_t *p33;
+uint8_t *p34;
+uint8_t *p35;
+uint8_t *p36;
+uint8_t *p37;
+uint8_t *p38;
+uint8_t *p39;
+uint8_t *p40;
+uint8_t *p41;
+uint8_t *p42;
+uint8_t *p43;
+uint8_t *p44;
+uint8_t *p45;
+uint8_t *p46;
+uint8_t *p47;
+uint8_t *p48;
+uint8_t *p49;
+j0 = m->g0;
+j1 = UINT64_C(25312);
+j0 = j0 - j1;
+p1 = write_at(j0, m, 25312u);
+v7 = j0;
+m->g0 = j0;
+j0 = v7;
+v7 = j0;
+j1 = v5;
+p2 = read_at(j1, m, 48u);
+j1 = load64(p2 + 40);
+store64(p1 + 192, j1);
+j0 = v7;
+j1 = v5;
+j1 = load64(p2 + 32);
+store64(p1 + 184, j1);
+j0 = v7;
+j1 = v5;
+j1 = load64(p2 + 24);
+store64(p1 + 176, j1);
+j0 = v7;
+j1 = v5;
+j1 = load64(p2 + 16);
+store64(p1 + 168, j1);
+j0 = v7;
+j1 = v5;
+j1 = load64(p2 + 8);
+store64(p1 + 160, j1);
+j0 = v7;
+j1 = v5;
+j1 = load64(p2 + 0);
+store64(p1 + 152, j1);
+j0 = v7;
+j1 = UINT64_C(16);
+i0 = (SIGNED64(j0) < SIGNED64(j1));
+if (!i0) {
+j0 = v7;
+j1 = UINT64_C(0);
+store64(p1 + 144, j1);
+j0 = v7;
+j1 = UINT64_C(0);
+store64(p1 + 136, j1);
+j0 = v7;
+j1 = UINT64_C(0);
+store64(p1 + 128, j1);
+j0 = v7;
+j1 = UINT64_C(0);
+store64(p1 + 120, j1);
+j0 = v7;
+j1 = UINT64_C(0);
+store64(p1 + 112, j1);
+j0 = v7;
+j1 = UINT64_C(0);
+store64(p1 + 104, j1);
+j0 = v7;
+j1 = UINT64_C(0);
+store64(p1 + 96, j1);
+j0 = v1;
+j1 = UINT64_C(323960);
+j0 = j0 + j1;
+p3 = read_at(j0, m, 8u);
+j0 = load64(p3 + 0);
+v8 = j0;
+j1 = UINT64_C(18446744073709551615);
+j0 = j0 + j1;
+j1 = UINT64_C(18446744073709551615);
+j2 = v4;
+j3 = UINT64_C(1);
+j2 = j2 + j3;
+v5 = j2;
+j3 = v5;
+i3 = (j3 == 0);
+j1 = i3 ? j1 : j2;
+v5 = j1;
+i0 = (j0 >= j1);
+if (!i0) {
+j0 = v5;
+j1 = v8;
+j0 = j0 - j1;
+v4 = j0;
+j1 = v1;
+j2 = UINT64_C(323968);
+j1 = j1 + j2;
+p4 = read_at(j1, m, 8u);
+j1 = load64(p4 + 0);
+i0 = (j0 >= j1);
+if (!i0) {
+j0 = UINT64_C(1048576);
+v3 = j0;
+j0 = UINT64_C(0);
+v9 = j0;
+j0 = v1;
+j1 = UINT64_C(69640);
+j0 = j0 + j1;
+p5 = read_at(j0, m, 8u);
+j0 = load64(p5 + 0);
+j1 = v4;
+i0 = (j0 > j1);
+if (!i0) {
+j0 = UINT64_C(0);
+v4 = j0;
+goto l5;
+}
+j0 = v1;
+j1 = v4;
+j2 = UINT64_C(2);
+j1 = j1 << (j2 & 63);
+j0 = j0 + j1;
+j1 = UINT64_C(65544);
+j0 = j0 + j1;
+v3 = j0;
+p6 = read_at(j0, m, 4u);
+j0 = load32(p6 + 0);
+v4 = j0;
+j0 = v5;
+j1 = v8;
+i0 = (j0 != j1);
+if (!i0) {
+j0 = v1;
+v3 = j0;
+goto l5;
+}
+j0 = v4;
+j1 = v3;
+j2 = UINT64_C(18446744073709551612);
+j1 = j1 + j2;
+p7 = read_at(j1, m, 4u);
+j1 = load32(p7 + 0);
+v3 = j1;
+j0 = j0 - j1;
+v4 = j0;
+j0 = v1;
+j1 = v3;
+j0 = j0 + j1;
+v3 = j0;
+goto l5;
+}
+}
+j0 = v5;
+j1 = v3;
+i0 = (j0 != j1);
+if (i0) { goto l3; }
+j0 = v2;
+j1 = UINT64_C(65553);
+j0 = j0 + j1;
+p8 = read_at(j0, m, 1u);
+i0 = load8(p8 + 0);
+i0 = (i0 == 0);
+if (i0) { goto l3; }
+j0 = v2;
+j1 = UINT64_C(65544);
+j0 = j0 + j1;
+p9 = read_at(j0 + UINT64_C(18446744073709551608), m, 9u);
+j0 = load8(p9 + 8);
+v9 = j0;
+j0 = v2;
+j1 = UINT64_C(65536);
+j0 = j0 + j1;
+j0 = load64(p9 + 0);
+v4 = j0;
+j0 = v2;
+v3 = j0;
+l5:;
+j0 = v1;
+j1 = UINT64_C(336664);
+j0 = j0 + j1;
+j1 = v1;
+j2 = UINT64_C(254016);
+j1 = j1 + j2;
+p10 = write_at(j1, m, 82649u);
+i1 = load8(p10 + 0);
+i2 = UINT32_C(2);
+i1 = (i1 == i2);
+store8(p10 + 82648, i1);
+j0 = v7;
+j1 = v9;
+store64(p1 + 88, j1);
+j0 = v7;
+j1 = v4;
+store64(p1 + 80, j1);
+j0 = v7;
+j1 = v3;
+store64(p1 + 72, j1);
+j0 = v7;
+j1 = v5;
+store64(p1 + 64, j1);
+j0 = v7;
+j1 = UINT64_C(96);
+j0 = j0 + j1;
+j1 = v1;
+j2 = UINT64_C(238112);
+j1 = j1 + j2;
+v5 = j1;
+j2 = v7;
+j3 = UINT64_C(64);
+j2 = j2 + j3;
+j3 = v7;
+j4 = UINT64_C(152);
+j3 = j3 + j4;
+j4 = v6;
+fio_log_by_forms_FormReader_tell(m, j0, j1, j2, j3, j4);
+j0 = v7;
+i0 = load8(p1 + 104);
+v10 = i0;
+j0 = v1;
+j1 = UINT64_C(336536);
+j0 = j0 + j1;
+i0 = load8(p10 + 82520);
+i1 = UINT32_C(1);
+i0 = (i0 != i1);
+if (!i0) {
+j0 = v1;
+j1 = UINT64_C(323960);
+j0 = j0 + j1;
+j0 = load64(p10 + 69944);
+j1 = UINT64_C(0);
+i0 = (j0 != j1);
+if (!i0) {
+j0 = v2;
+j1 = UINT64_C(65544);
+j0 = j0 + j1;
+p11 = read_at(j0, m, 1u);
+i0 = load8(p11 + 0);
+if (!i0) {
+j0 = v2;
+j1 = UINT64_C(65536);
+j0 = j0 + j1;
+v8 = j0;
+p12 = read_at(j0, m, 8u);
+j0 = load64(p12 + 0);
+v6 = j0;
+i0 = UINT32_C(1);
+v11 = i0;
+i0 = UINT32_C(0);
+v12 = i0;
+i0 = v10;
+switch (i0) {
+case 0:
+goto l11;
+case 1:
+goto l11;
+case 2:
+goto l11;
+case 3:
+goto l10;
+case 4:
+goto l10;
+case 5:
+goto l12;
+default:
+goto l11;
+}
+l12:;
+i0 = UINT32_C(1);
+v12 = i0;
+j0 = v1;
+j1 = UINT64_C(323944);
+j0 = j0 + j1;
+i0 = load8(p10 + 69928);
+if (!i0) {
+j0 = v5;
+p13 = read_at(j0, m, 1u);
+i0 = load8(p13 + 0);
+i1 = UINT32_C(1);
+i0 = (i0 != i1);
+if (!i0) {
+j0 = v1;
+j1 = UINT64_C(250664);
+j0 = j0 + j1;
+p14 = read_at(j0, m, 8u);
+j0 = load64(p14 + 0);
+j1 = UINT64_C(0);
+i0 = (j0 != j1);
+if (i0) { goto l13; }
+}
+j0 = v6;
+i0 = (j0 == 0);
+if (!i0) {
+j0 = v1;
+j1 = UINT64_C(315728);
+j0 = j0 + j1;
+v13 = j0;
+j0 = UINT64_C(0);
+v5 = j0;
+j0 = v2;
+v14 = j0;
+j0 = v6;
+v15 = j0;
+l15:;
+j0 = v2;
+j1 = v6;
+j2 = v5;
+i0 = fio_guess_words_may_begin(m, j0, j1, j2);
+i0 = (i0 == 0);
+if (!i0) {
+j0 = v7;
+j1 = UINT64_C(48);
+j0 = j0 + j1;
+i1 = UINT32_C(0);
+i2 = UINT32_C(0);
+j3 = UINT64_C(1050504);
+j4 = UINT64_C(1);
+j5 = v2;
+j6 = v5;
+j5 = j5 + j6;
+v3 = j5;
+j6 = v6;
+j7 = v5;
+j6 = j6 - j7;
+v4 = j6;
+j7 = v13;
+fio_form_octets_run_in(m, j0, i1, i2, j3, j4, j5, j6, j7);
+j0 = v7;
+i0 = load8(p1 + 48);
+i1 = UINT32_C(1);
+i0 = (i0 != i1);
+if (!i0) {
+j0 = v1;
+j1 = UINT64_C(317776);
+j0 = j0 + j1;
+j0 = load64(p10 + 63760);
+v9 = j0;
+j1 = UINT64_C(2);
+i0 = (j0 < j1);
+if (!i0) {
+j0 = v7;
+j0 = load64(p1 + 56);
+v16 = j0;
+j0 = v7;
+j1 = UINT64_C(32);
+j0 = j0 + j1;
+j1 = v13;
+j2 = v9;
+fio_form_message_size_of(m, j0, j1, j2);
+j0 = v7;
+j0 = load8(p1 + 32);
+i0 = (uint32_t)j0;
+switch (i0) {
+case 0:
+goto l17;
+case 1:
+goto l19;
+case 2:
+goto l18;
+case 3:
+goto l16;
+default:
+goto l17;
+}
+l19:;
+j0 = v7;
+j0 = load64(p1 + 40);
+v17 = j0;
+j1 = UINT64_C(2);
+i0 = (j0 < j1);
+if (!i0) {
+j0 = v17;
+j1 = v9;
+i0 = (j0 > j1);
+if (!i0) {
+j0 = v13;
+j1 = v17;
+i0 = fio_form_message_is_message(m, j0, j1);
+if (i0) { goto l17; }
+goto l16;
+}
+}
+j0 = v17;
+j1 = v9;
+i0 = (j0 <= j1);
+if (i0) { goto l16; }
+goto l17;
+l18:;
+j0 = v13;
+j1 = v9;
+i0 = fio_form_message_is_message(m, j0, j1);
+i0 = (i0 == 0);
+if (i0) { goto l16; }
+l17:;
+i0 = UINT32_C(1);
+v12 = i0;
+j0 = v4;
+j1 = v16;
+i0 = (j0 <= j1);
+if (i0) { goto l11; }
+j0 = v3;
+j1 = v4;
+j2 = v16;
+j3 = v4;
+j4 = v16;
+i3 = (j3 < j4);
+j1 = i3 ? j1 : j2;
+j0 = j0 + j1;
+p15 = read_at(j0, m, 1u);
+i0 = load8(p15 + 0);
+v11 = i0;
+i1 = UINT32_C(95);
+i0 = (i0 == i1);
+if (!i0) {
+i0 = v11;
+i1 = UINT32_C(48);
+i0 = (i0 < i1);
+if (i0) { goto l11; }
+i0 = v11;
+i1 = UINT32_C(58);
+i0 = (i0 < i1);
+if (!i0) {
+i0 = v11;
+i1 = UINT32_C(65);
+i0 = (i0 < i1);
+if (i0) { goto l11; }
+i0 = v11;
+i1 = UINT32_C(91);
+i0 = (i0 < i1);
+if (!i0) {
+i0 = v11;
+i1 = UINT32_C(97);
+i0 = (i0 < i1);
+if (i0) { goto l11; }
+i0 = v11;
+i0 = (uint32_t)extend(i0 & 255, 7);
+i1 = UINT32_C(122);
+i0 = (SIGNED32(i0) > SIGNED32(i1));
+if (i0) { goto l11; }
+}
+}
+}
+j0 = v16;
+i0 = (j0 == 0);
+if (!i0) {
+j0 = v16;
+j1 = v15;
+j2 = v16;
+j3 = v15;
+i2 = (j2 < j3);
+j0 = i2 ? j0 : j1;
+j1 = UINT64_C(18446744073709551615);
+j0 = j0 + j1;
+v4 = j0;
+j0 = UINT64_C(0);
+v9 = j0;
+i0 = UINT32_C(0);
+v11 = i0;
+j0 = v14;
+v3 = j0;
+l22:;
+i0 = UINT32_C(1);
+v12 = i0;
+i0 = v11;
+i1 = UINT32_C(1);
+i0 = i0 & i1;
+if (!i0) {
+j0 = v3;
+p16 = read_at(j0, m, 1u);
+i0 = load8(p16 + 0);
+v11 = i0;
+i1 = UINT32_C(95);
+i0 = (i0 == i1);
+if (i0) { goto l24; }
+i0 = v11;
+i1 = UINT32_C(48);
+i0 = (i0 < i1);
+if (!i0) {
+i0 = v11;
+i1 = UINT32_C(58);
+i0 = (i0 < i1);
+if (i0) { goto l24; }
+i0 = v11;
+i1 = UINT32_C(65);
+i0 = (i0 < i1);
+if (!i0) {
+i0 = v11;
+i1 = UINT32_C(91);
+i0 = (i0 < i1);
+if (i0) { goto l24; }
+i0 = v11;
+i1 = UINT32_C(97);
+i0 = (i0 < i1);
+if (!i0) {
+i0 = v11;
+i0 = (uint32_t)extend(i0 & 255, 7);
+i1 = UINT32_C(123);
+i0 = (SIGNED32(i0) < SIGNED32(i1));
+if (i0) { goto l24; }
+}
+}
+}
+}
+j0 = v4;
+i0 = (j0 == 0);
+if (i0) { goto l11; }
+j0 = v9;
+j1 = UINT64_C(1);
+j0 = j0 + j1;
+v9 = j0;
+i0 = UINT32_C(1);
+v11 = i0;
+goto l23;
+l24:;
+j0 = v4;
+i0 = (j0 == 0);
+if (i0) { goto l16; }
+j0 = v9;
+j1 = UINT64_C(1);
+j0 = j0 + j1;
+v9 = j0;
+i0 = UINT32_C(0);
+v11 = i0;
+l23:;
+j0 = v3;
+j1 = UINT64_C(1);
+j0 = j0 + j1;
+v3 = j0;
+j0 = v4;
+j1 = UINT64_C(18446744073709551615);
+j0 = j0 + j1;
+v4 = j0;
+goto l22;
+}
+}
+}
+}
+l16:;
+j0 = v14;
+j1 = UINT64_C(1);
+j0 = j0 + j1;
+v14 = j0;
+j0 = v15;
+j1 = UINT64_C(18446744073709551615);
+j0 = j0 + j1;
+v15 = j0;
+j0 = v5;
+j1 = UINT64_C(1);
+j0 = j0 + j1;
+v5 = j0;
+j1 = v6;
+i0 = (j0 != j1);
+if (i0) { goto l15; }
+j0 = UINT64_C(0);
+v5 = j0;
+j0 = v2;
+v14 = j0;
+j0 = v6;
+v15 = j0;
+l26:;
+j0 = v2;
+j1 = v6;
+j2 = v5;
+i0 = fio_guess_words_may_begin(m, j0, j1, j2);
+i0 = (i0 == 0);
+if (!i0) {
+j0 = v7;
+j1 = UINT64_C(16);
+j0 = j0 + j1;
+i1 = UINT32_C(0);
+i2 = UINT32_C(0);
+j3 = UINT64_C(1050506);
+j4 = UINT64_C(2);
+j5 = v2;
+j6 = v5;
+j5 = j5 + j6;
+v3 = j5;
+j6 = v6;
+j7 = v5;
+j6 = j6 - j7;
+v4 = j6;
+j7 = v13;
+fio_form_octets_run_in(m, j0, i1, i2, j3, j4, j5, j6, j7);
+j0 = v7;
+i0 = load8(p1 + 16);
+i1 = UINT32_C(1);
+i0 = (i0 != i1);
+if (!i0) {
+j0 = v1;
+j1 = UINT64_C(317776);
+j0 = j0 + j1;
+j0 = load64(p10 + 63760);
+v9 = j0;
+j1 = UINT64_C(2);
+i0 = (j0 < j1);
+if (!i0) {
+j0 = v7;
+j0 = load64(p1 + 24);
+v16 = j0;
+j0 = v7;
+j1 = v13;
+j2 = v9;
+fio_form_message_size_of(m, j0, j1, j2);
+j0 = v7;
+j0 = load8(p1 + 0);
+i0 = (uint32_t)j0;
+switch (i0) {
+case 0:
+goto l28;
+case 1:
+goto l30;
+case 2:
+goto l29;
+case 3:
+goto l27;
+default:
+goto l28;
+}
+l30:;
+j0 = v7;
+j0 = load64(p1 + 8);
+v17 = j0;
+j1 = UINT64_C(2);
+i0 = (j0 < j1);
+if (!i0) {
+j0 = v17;
+j1 = v9;
+i0 = (j0 > j1);
+if (!i0) {
+j0 = v13;
+j1 = v17;
+i0 = fio_form_message_is_message(m, j0, j1);
+if (i0) { goto l28; }
+goto l27;
+}
+}
+j0 = v17;
+j1 = v9;
+i0 = (j0 <= j1);
+if (i0) { goto l27; }
+goto l28;
+l29:;
+j0 = v13;
+j1 = v9;
+i0 = fio_form_message_is_message(m, j0, j1);
+i0 = (i0 == 0);
+if (i0) { goto l27; }
+l28:;
+i0 = UINT32_C(1);
+v12 = i0;
+j0 = v4;
+j1 = v16;
+i0 = (j0 <= j1);
+if (i0) { goto l11; }
+j0 = v3;
+j1 = v4;
+j2 = v16;
+j3 = v4;
+j4 = v16;
+i3 = (j3 < j4);
+j1 = i3 ? j1 : j2;
+j0 = j0 + j1;
+p17 = read_at(j0, m, 1u);
+i0 = load8(p17 + 0);
+v11 = i0;
+i1 = UINT32_C(95);
+i0 = (i0 == i1);
+if (!i0) {
+i0 = v11;
+i1 = UINT32_C(48);
+i0 = (i0 < i1);
+if (i0) { goto l11; }
+i0 = v11;
+i1 = UINT32_C(58);
+i0 = (i0 < i1);
+if (!i0) {
+i0 = v11;
+i1 = UINT32_C(65);
+i0 = (i0 < i1);
+if (i0) { goto l11; }
+i0 = v11;
+i1 = UINT32_C(91);
+i0 = (i0 < i1);
+if (!i0) {
+i0 = v11;
+i1 = UINT32_C(97);
+i0 = (i0 < i1);
+if (i0) { goto l11; }
+i0 = v11;
+i0 = (uint32_t)extend(i0 & 255, 7);
+i1 = UINT32_C(122);
+i0 = (SIGNED32(i0) > SIGNED32(i1));
+if (i0) { goto l11; }
+}
+}
+}
+j0 = v16;
+i0 = (j0 == 0);
+if (!i0) {
+j0 = v16;
+j1 = v15;
+j2 = v16;
+j3 = v15;
+i2 = (j2 < j3);
+j0 = i2 ? j0 : j1;
+j1 = UINT64_C(18446744073709551615);
+j0 = j0 + j1;
+v4 = j0;
+j0 = UINT64_C(0);
+v9 = j0;
+i0 = UINT32_C(0);
+v11 = i0;
+j0 = v14;
+v3 = j0;
+l33:;
+i0 = UINT32_C(1);
+v12 = i0;
+i0 = v11;
+i1 = UINT32_C(1);
+i0 = i0 & i1;
+if (!i0) {
+j0 = v3;
+p18 = read_at(j0, m, 1u);
+i0 = load8(p18 + 0);
+v11 = i0;
+i1 = UINT32_C(95);
+i0 = (i0 == i1);
+if (i0) { goto l35; }
+i0 = v11;
+i1 = UINT32_C(48);
+i0 = (i0 < i1);
+if (!i0) {
+i0 = v11;
+i1 = UINT32_C(58);
+i0 = (i0 < i1);
+if (i0) { goto l35; }
+i0 = v11;
+i1 = UINT32_C(65);
+i0 = (i0 < i1);
+if (!i0) {
+i0 = v11;
+i1 = UINT32_C(91);
+i0 = (i0 < i1);
+if (i0) { goto l35; }
+i0 = v11;
+i1 = UINT32_C(97);
+i0 = (i0 < i1);
+if (!i0) {
+i0 = v11;
+i0 = (uint32_t)extend(i0 & 255, 7);
+i1 = UINT32_C(123);
+i0 = (SIGNED32(i0) < SIGNED32(i1));
+if (i0) { goto l35; }
+}
+}
+}
+}
+j0 = v4;
+i0 = (j0 == 0);
+if (i0) { goto l11; }
+j0 = v9;
+j1 = UINT64_C(1);
+j0 = j0 + j1;
+v9 = j0;
+i0 = UINT32_C(1);
+v11 = i0;
+goto l34;
+l35:;
+j0 = v4;
+i0 = (j0 == 0);
+if (i0) { goto l27; }
+j0 = v9;
+j1 = UINT64_C(1);
+j0 = j0 + j1;
+v9 = j0;
+i0 = UINT32_C(0);
+v11 = i0;
+l34:;
+j0 = v3;
+j1 = UINT64_C(1);
+j0 = j0 + j1;
+v3 = j0;
+j0 = v4;
+j1 = UINT64_C(18446744073709551615);
+j0 = j0 + j1;
+v4 = j0;
+goto l33;
+}
+}
+}
+}
+l27:;
+j0 = v14;
+j1 = UINT64_C(1);
+j0 = j0 + j1;
+v14 = j0;
+j0 = v15;
+j1 = UINT64_C(18446744073709551615);
+j0 = j0 + j1;
+v15 = j0;
+j0 = v5;
+j1 = UINT64_C(1);
+j0 = j0 + j1;
+v5 = j0;
+j1 = v6;
+i0 = (j0 != j1);
+if (i0) { goto l26; }
+}
+l13:;
+i0 = UINT32_C(0);
+v12 = i0;
+}
+l11:;
+j0 = v8;
+j0 = load64(p12 + 0);
+v6 = j0;
+i0 = v12;
+v11 = i0;
+l10:;
+j0 = v1;
+j1 = UINT64_C(238096);
+j0 = j0 + j1;
+v5 = j0;
+p19 = read_at(j0, m, 8u);
+j0 = load64(p19 + 0);
+v4 = j0;
+i0 = (j0 == 0);
+if (!i0) {
+j0 = v5;
+j1 = v4;
+j2 = UINT64_C(18446744073709551615);
+j1 = j1 + j2;
+p20 = write_at(j0, m, 8u);
+store64(p20 + 0, j1);
+goto l9;
+}
+i0 = v11;
+i0 = (i0 == 0);
+if (!i0) {
+j0 = v1;
+j1 = UINT64_C(238089);
+j0 = j0 + j1;
+i1 = UINT32_C(1);
+p21 = write_at(j0 + UINT64_C(18446744073709551615), m, 2u);
+store8(p21 + 1, i1);
+j0 = v1;
+j1 = UINT64_C(238088);
+j0 = j0 + j1;
+i0 = load8(p21 + 0);
+v11 = i0;
+i0 = UINT32_C(64);
+v12 = i0;
+goto l38;
+}
+j0 = v1;
+j1 = UINT64_C(238090);
+j0 = j0 + j1;
+p22 = read_at(j0 + UINT64_C(18446744073709551614), m, 3u);
+i0 = load8(p22 + 2);
+v12 = i0;
+j0 = v1;
+j1 = UINT64_C(238088);
+j0 = j0 + j1;
+i0 = load8(p22 + 0);
+v11 = i0;
+i1 = UINT32_C(1);
+i0 = (i0 != i1);
+if (!i0) {
+i0 = v12;
+i1 = UINT32_C(255);
+i0 = i0 & i1;
+i0 = (i0 == 0);
+if (i0) { goto l9; }
+}
+l38:;
+j0 = v1;
+j1 = UINT64_C(238090);
+j0 = j0 + j1;
+i1 = v12;
+i2 = v12;
+i3 = UINT32_C(255);
+i2 = i2 & i3;
+i3 = UINT32_C(0);
+i2 = (i2 != i3);
+i1 = i1 - i2;
+p23 = write_at(j0 + UINT64_C(18446744073709383166), m, 168451u);
+store8(p23 + 168450, i1);
+j0 = v1;
+j1 = UINT64_C(69640);
+j0 = j0 + j1;
+j0 = load64(p23 + 0);
+v5 = j0;
+j1 = UINT64_C(1023);
+i0 = (j0 > j1);
+if (!i0) {
+j0 = v6;
+j1 = UINT64_C(65536);
+j2 = v1;
+j3 = UINT64_C(65536);
+j2 = j2 + j3;
+p24 = read_at(j2, m, 8u);
+j2 = load64(p24 + 0);
+v14 = j2;
+j1 = j1 - j2;
+i0 = (j0 > j1);
+if (!i0) {
+j0 = v1;
+j1 = v14;
+j0 = j0 + j1;
+v9 = j0;
+j1 = v2;
+j0 = j0 - j1;
+j1 = v6;
+i0 = (j0 >= j1);
+if (!i0) {
+j0 = v6;
+j1 = UINT64_C(3);
+j0 = j0 & j1;
+v8 = j0;
+j0 = UINT64_C(0);
+v4 = j0;
+j0 = v6;
+j1 = UINT64_C(4);
+i0 = (j0 < j1);
+if (!i0) {
+j0 = v6;
+j1 = UINT64_C(18446744073709551612);
+j0 = j0 & j1;
+v15 = j0;
+j0 = UINT64_C(0);
+v4 = j0;
+for (;;) {
+j0 = v9;
+j1 = v4;
+j0 = j0 + j1;
+v5 = j0;
+j1 = v2;
+j2 = v4;
+j1 = j1 + j2;
+v3 = j1;
+p25 = read_at(j1, m, 4u);
+i1 = load8(p25 + 0);
+p26 = write_at(j0, m, 4u);
+store8(p26 + 0, i1);
+j0 = v5;
+j1 = UINT64_C(1);
+j0 = j0 + j1;
+j1 = v3;
+j2 = UINT64_C(1);
+j1 = j1 + j2;
+i1 = load8(p25 + 1);
+store8(p26 + 1, i1);
+j0 = v5;
+j1 = UINT64_C(2);
+j0 = j0 + j1;
+j1 = v3;
+j2 = UINT64_C(2);
+j1 = j1 + j2;
+i1 = load8(p25 + 2);
+store8(p26 + 2, i1);
+j0 = v5;
+j1 = UINT64_C(3);
+j0 = j0 + j1;
+j1 = v3;
+j2 = UINT64_C(3);
+j1 = j1 + j2;
+i1 = load8(p25 + 3);
+store8(p26 + 3, i1);
+j0 = v15;
+j1 = v4;
+j2 = UINT64_C(4);
+j1 = j1 + j2;
+v4 = j1;
+i0 = (j0 != j1);
+if (!i0) break;
+}
+j0 = v8;
+i0 = (j0 == 0);
+if (i0) { goto l42; }
+}
+j0 = v2;
+j1 = v4;
+j0 = j0 + j1;
+v5 = j0;
+j0 = v1;
+j1 = v4;
+j2 = v14;
+j1 = j1 + j2;
+j0 = j0 + j1;
+v2 = j0;
+l46:;
+j0 = v2;
+j1 = v5;
+p27 = read_at(j1, m, 1u);
+i1 = load8(p27 + 0);
+p28 = write_at(j0, m, 1u);
+store8(p28 + 0, i1);
+j0 = v2;
+j1 = UINT64_C(1);
+j0 = j0 + j1;
+v2 = j0;
+j0 = v5;
+j1 = UINT64_C(1);
+j0 = j0 + j1;
+v5 = j0;
+j0 = v8;
+j1 = UINT64_C(18446744073709551615);
+j0 = j0 + j1;
+v8 = j0;
+j1 = UINT64_C(0);
+i0 = (j0 != j1);
+if (i0) { goto l46; }
+goto l42;
+}
+j0 = v6;
+i0 = (j0 == 0);
+if (!i0) {
+j0 = v9;
+j1 = v2;
+j2 = v6;
+copy(m, j0, j1, j2);
+}
+l42:;
+j0 = v1;
+j1 = UINT64_C(65536);
+j0 = j0 + j1;
+j1 = v14;
+j2 = v6;
+j1 = j1 + j2;
+v6 = j1;
+p29 = write_at(j0, m, 8u);
+store64(p29 + 0, j1);
+j0 = v1;
+j1 = UINT64_C(69640);
+j0 = j0 + j1;
+v2 = j0;
+j0 = load64(p23 + 0);
+v5 = j0;
+j1 = UINT64_C(1024);
+i0 = (j0 == j1);
+if (i0) { goto l40; }
+j0 = v1;
+j1 = v5;
+j2 = UINT64_C(2);
+j1 = j1 << (j2 & 63);
+j0 = j0 + j1;
+j1 = UINT64_C(65544);
+j0 = j0 + j1;
+j1 = v6;
+p30 = write_at(j0, m, 4u);
+store32(p30 + 0, j1);
+j0 = v2;
+j1 = v5;
+j2 = UINT64_C(1);
+j1 = j1 + j2;
+store64(p23 + 0, j1);
+goto l40;
+}
+}
+j0 = v1;
+j1 = UINT64_C(238089);
+j0 = j0 + j1;
+i0 = load8(p23 + 168449);
+v12 = i0;
+i0 = v11;
+i1 = UINT32_C(1);
+i0 = i0 & i1;
+if (!i0) {
+i0 = v12;
+i1 = UINT32_C(1);
+i0 = i0 & i1;
+i0 = (i0 == 0);
+if (i0) { goto l49; }
+j0 = v1;
+j1 = UINT64_C(65536);
+j0 = j0 + j1;
+p31 = read_at(j0, m, 8u);
+j0 = load64(p31 + 0);
+v4 = j0;
+i0 = (j0 == 0);
+v12 = i0;
+if (!i0) {
+i0 = v12;
+if (!i0) {
+j0 = v1;
+i1 = UINT32_C(0);
+j2 = v4;
+fill(m, j0, i1, j2);
+}
+j0 = v1;
+j1 = UINT64_C(65536);
+j0 = j0 + j1;
+j1 = UINT64_C(0);
+p32 = write_at(j0, m, 8u);
+store64(p32 + 0, j1);
+j0 = v1;
+j1 = UINT64_C(69640);
+j0 = j0 + j1;
+j0 = load64(p23 + 0);
+v5 = j0;
+}
+j0 = v5;
+i0 = (j0 == 0);
+if (!i0) {
+j0 = v5;
+j1 = UINT64_C(2);
+j0 = j0 << (j1 & 63);
+v5 = j0;
+i0 = (j0 == 0);
+if (!i0) {
+j0 = v1;
+j1 = UINT64_C(65544);
+j0 = j0 + j1;
+i1 = UINT32_C(0);
+j2 = v5;
+fill(m, j0, i1, j2);
+}
+j0 = v1;
+j1 = UINT64_C(69640);
+j0 = j0 + j1;
+j1 = UINT64_C(0);
+store64(p23 + 0, j1);
+}
+j0 = v1;
+j1 = UINT64_C(238064);
+j0 = j0 + j1;
+j0 = load64(p23 + 168424);
+v5 = j0;
+i0 = (j0 == 0);
+if (!i0) {
+j0 = v5;
+j1 = UINT64_C(3);
+j0 = j0 << (j1 & 63);
+v5 = j0;
+i0 = (j0 == 0);
+if (!i0) {
+j0 = v1;
+j1 = UINT64_C(237936);
+j0 = j0 + j1;
+i1 = UINT32_C(0);
+j2 = v5;
+fill(m, j0, i1, j2);
+}
+j0 = v1;
+j1 = UINT64_C(238064);
+j0 = j0 + j1;
+j1 = UINT64_C(0);
+store64(p23 + 168424, j1);
+}
+j0 = v1;
+j1 = UINT64_C(238088);
+j0 = j0 + j1;
+i1 = UINT32_C(257);
+store16(p23 + 168448, i1);
+j0 = v1;
+j1 = UINT64_C(238080);
+j0 = j0 + j1;
+j1 = UINT64_C(0);
+store64(p23 + 168440, j1);
+j0 = v1;
+j1 = UINT64_C(238072);
+j0 = j0 + j1;
+i1 = UINT32_C(0);
+store8(p23 + 168432, i1);
+j0 = v6;
+j1 = UINT64_C(65536);
+i0 = (j0 > j1);
+if (i0) { goto l9; }
+j0 = v1;
+j1 = v2;
+j0 = j0 - j1;
+j1 = v6;
+i0 = (j0 >= j1);
+if (i0) { goto l48; }
+j0 = v6;
+j1 = UINT64_C(3);
+j0 = j0 & j1;
+v8 = j0;
+j0 = UINT64_C(0);
+v4 = j0;
+j0 = v6;
+j1 = UINT64_C(4);
+i0 = (j0 < j1);
+if (!i0) {
+j0 = v6;
+j1 = UINT64_C(131068);
+j0 = j0 & j1;
+v9 = j0;
+j0 = UINT64_C(0);
+v4 = j0;
+for (;;) {
+j0 = v1;
+j1 = v4;
+j0 = j0 + j1;
+v5 = j0;
+j1 = v2;
+j2 = v4;
+j1 = j1 + j2;
+v3 = j1;
+p33 = read_at(j1, m, 4u);
+i1 = load8(p33 + 0);
+p34 = write_at(j0, m, 4u);
+store8(p34 + 0, i1);
+j0 = v5;
+j1 = UINT64_C(1);
+j0 = j0 + j1;
+j1 = v3;
+j2 = UINT64_C(1);
+j1 = j1 + j2;
+i1 = load8(p33 + 1);
+store8(p34 + 1, i1);
+j0 = v5;
+j1 = UINT64_C(2);
+j0 = j0 + j1;
+j1 = v3;
+j2 = UINT64_C(2);
+j1 = j1 + j2;
+i1 = load8(p33 + 2);
+store8(p34 + 2, i1);
+j0 = v5;
+j1 = UINT64_C(3);
+j0 = j0 + j1;
+j1 = v3;
+j2 = UINT64_C(3);
+j1 = j1 + j2;
+i1 = load8(p33 + 3);
+store8(p34 + 3, i1);
+j0 = v9;
+j1 = v4;
+j2 = UINT64_C(4);
+j1 = j1 + j2;
+v4 = j1;
+i0 = (j0 != j1);
+if (!i0) break;
+}
+j0 = v8;
+i0 = (j0 == 0);
+if (i0) { goto l47; }
+}
+j0 = v1;
+j1 = v4;
+j0 = j0 + j1;
+v5 = j0;
+j0 = v2;
+j1 = v4;
+j0 = j0 + j1;
+v2 = j0;
+l59:;
+j0 = v5;
+j1 = v2;
+p35 = read_at(j1, m, 1u);
+i1 = load8(p35 + 0);
+p36 = write_at(j0, m, 1u);
+store8(p36 + 0, i1);
+j0 = v5;
+j1 = UINT64_C(1);
+j0 = j0 + j1;
+v5 = j0;
+j0 = v2;
+j1 = UINT64_C(1);
+j0 = j0 + j1;
+v2 = j0;
+j0 = v8;
+j1 = UINT64_C(18446744073709551615);
+j0 = j0 + j1;
+v8 = j0;
+j1 = UINT64_C(0);
+i0 = (j0 != j1);
+if (i0) { goto l59; }
+goto l47;
+}
+i0 = v12;
+i1 = UINT32_C(1);
+i0 = i0 & i1;
+i0 = (i0 == 0);
+if (!i0) {
+j0 = v1;
+j1 = UINT64_C(238096);
+j0 = j0 + j1;
+j1 = v1;
+j2 = UINT64_C(238104);
+j1 = j1 + j2;
+v2 = j1;
+p37 = write_at(j1 + UINT64_C(18446744073709551608), m, 16u);
+j1 = load64(p37 + 8);
+v6 = j1;
+j2 = UINT64_C(1024);
+j3 = v6;
+j4 = UINT64_C(1024);
+i3 = (j3 > j4);
+j1 = i3 ? j1 : j2;
+v4 = j1;
+store64(p37 + 0, j1);
+j0 = v2;
+j1 = v4;
+j2 = UINT64_C(1);
+j1 = j1 << (j2 & 63);
+j2 = UINT64_C(65536);
+j3 = v6;
+j4 = UINT64_C(65536);
+i3 = (j3 < j4);
+j1 = i3 ? j1 : j2;
+store64(p37 + 8, j1);
+}
+l49:;
+j0 = v1;
+j1 = UINT64_C(65536);
+j0 = j0 + j1;
+p38 = read_at(j0, m, 8u);
+j0 = load64(p38 + 0);
+v6 = j0;
+i0 = (j0 == 0);
+v12 = i0;
+if (!i0) {
+i0 = v12;
+if (!i0) {
+j0 = v1;
+i1 = UINT32_C(0);
+j2 = v6;
+fill(m, j0, i1, j2);
+}
+j0 = v1;
+j1 = UINT64_C(65536);
+j0 = j0 + j1;
+j1 = UINT64_C(0);
+p39 = write_at(j0, m, 8u);
+store64(p39 + 0, j1);
+j0 = v1;
+j1 = UINT64_C(69640);
+j0 = j0 + j1;
+j0 = load64(p23 + 0);
+v5 = j0;
+}
+j0 = v5;
+i0 = (j0 == 0);
+if (!i0) {
+j0 = v5;
+j1 = UINT64_C(2);
+j0 = j0 << (j1 & 63);
+v5 = j0;
+i0 = (j0 == 0);
+if (!i0) {
+j0 = v1;
+j1 = UINT64_C(65544);
+j0 = j0 + j1;
+i1 = UINT32_C(0);
+j2 = v5;
+fill(m, j0, i1, j2);
+}
+j0 = v1;
+j1 = UINT64_C(69640);
+j0 = j0 + j1;
+j1 = UINT64_C(0);
+store64(p23 + 0, j1);
+}
+j0 = v1;
+j1 = UINT64_C(238064);
+j0 = j0 + j1;
+j0 = load64(p23 + 168424);
+v5 = j0;
+i0 = (j0 == 0);
+if (!i0) {
+j0 = v5;
+j1 = UINT64_C(3);
+j0 = j0 << (j1 & 63);
+v5 = j0;
+i0 = (j0 == 0);
+if (!i0) {
+j0 = v1;
+j1 = UINT64_C(237936);
+j0 = j0 + j1;
+i1 = UINT32_C(0);
+j2 = v5;
+fill(m, j0, i1, j2);
+}
+j0 = v1;
+j1 = UINT64_C(238064);
+j0 = j0 + j1;
+j1 = UINT64_C(0);
+store64(p23 + 168424, j1);
+}
+j0 = v1;
+j1 = UINT64_C(238088);
+j0 = j0 + j1;
+i1 = UINT32_C(1);
+store16(p23 + 168448, i1);
+j0 = v1;
+j1 = UINT64_C(238080);
+j0 = j0 + j1;
+j1 = UINT64_C(0);
+store64(p23 + 168440, j1);
+j0 = v1;
+j1 = UINT64_C(238072);
+j0 = j0 + j1;
+i1 = UINT32_C(0);
+store8(p23 + 168432, i1);
+goto l9;
+l48:;
+j0 = v6;
+i0 = (j0 == 0);
+if (!i0) {
+j0 = v1;
+j1 = v2;
+j2 = v6;
+copy(m, j0, j1, j2);
+}
+l47:;
+j0 = v1;
+j1 = UINT64_C(65536);
+j0 = j0 + j1;
+j1 = v6;
+p40 = write_at(j0, m, 8u);
+store64(p40 + 0, j1);
+j0 = v1;
+j1 = UINT64_C(69640);
+j0 = j0 + j1;
+v2 = j0;
+j0 = load64(p23 + 0);
+v5 = j0;
+j1 = UINT64_C(1024);
+i0 = (j0 == j1);
+if (!i0) {
+j0 = v1;
+j1 = v5;
+j2 = UINT64_C(2);
+j1 = j1 << (j2 & 63);
+j0 = j0 + j1;
+j1 = UINT64_C(65544);
+j0 = j0 + j1;
+j1 = v6;
+p41 = write_at(j0, m, 4u);
+store32(p41 + 0, j1);
+j0 = v2;
+j1 = v5;
+j2 = UINT64_C(1);
+j1 = j1 + j2;
+store64(p23 + 0, j1);
+}
+l40:;
+j0 = v1;
+j1 = UINT64_C(238089);
+j0 = j0 + j1;
+i0 = load8(p23 + 168449);
+i1 = UINT32_C(1);
+i0 = (i0 != i1);
+if (!i0) {
+j0 = v7;
+j1 = UINT64_C(12752);
+j0 = j0 + j1;
+i1 = UINT32_C(0);
+j2 = UINT64_C(12560);
+fill(m, j0, i1, j2);
+j0 = v7;
+j1 = UINT64_C(12752);
+j0 = j0 + j1;
+j1 = v1;
+fio_log_learning_Learning_look(m, j0, j1);
+j0 = v7;
+i0 = load8(p1 + 12752);
+i1 = UINT32_C(1);
+i0 = (i0 != i1);
+if (!i0) {
+j0 = v1;
+j1 = UINT64_C(238089);
+j0 = j0 + j1;
+i1 = UINT32_C(0);
+store8(p23 + 168449, i1);
+j0 = v7;
+j1 = UINT64_C(200);
+j0 = j0 + j1;
+j1 = v7;
+j2 = UINT64_C(12760);
+j1 = j1 + j2;
+j2 = UINT64_C(12552);
+copy(m, j0, j1, j2);
+j0 = v1;
+j1 = UINT64_C(323976);
+j0 = j0 + j1;
+j1 = UINT64_C(1);
+store64(p10 + 69960, j1);
+j0 = v1;
+j1 = UINT64_C(323984);
+j0 = j0 + j1;
+j1 = v7;
+j2 = UINT64_C(200);
+j1 = j1 + j2;
+j2 = UINT64_C(12552);
+copy(m, j0, j1, j2);
+}
+}
+}
+}
+}
+l9:;
+j0 = v0;
+j1 = v7;
+i1 = load8(p1 + 105);
+p42 = write_at(j0, m, 56u);
+store8(p42 + 9, i1);
+j0 = v0;
+i1 = v10;
+store8(p42 + 8, i1);
+j0 = v0;
+j1 = v7;
+j1 = load64(p1 + 96);
+store64(p42 + 0, j1);
+j0 = v0;
+j1 = v7;
+j1 = load64(p1 + 106);
+store64(p42 + 10, j1);
+j0 = v0;
+j1 = v7;
+j1 = load64(p1 + 114);
+store64(p42 + 18, j1);
+j0 = v0;
+j1 = v7;
+j1 = load64(p1 + 122);
+store64(p42 + 26, j1);
+j0 = v0;
+j1 = v7;
+j1 = load64(p1 + 130);
+store64(p42 + 34, j1);
+j0 = v0;
+j1 = v7;
+j1 = load64(p1 + 136);
+store64(p42 + 40, j1);
+j0 = v0;
+j1 = v7;
+i1 = load16(p1 + 144);
+store16(p42 + 48, i1);
+j0 = v0;
+j1 = v7;
+i1 = load16(p1 + 150);
+store16(p42 + 54, i1);
+j0 = v0;
+j1 = v7;
+i1 = load32(p1 + 146);
+store32(p42 + 50, i1);
+goto l2;
+}
+fio2070_trap();
+l3:;
+j0 = v6;
+j1 = UINT64_C(16384);
+j0 = j0 + j1;
+p43 = read_at(j0, m, 8u);
+j0 = load64(p43 + 0);
+v1 = j0;
+i0 = (j0 == 0);
+v10 = i0;
+if (!i0) {
+i0 = v10;
+if (!i0) {
+j0 = v6;
+i1 = UINT32_C(0);
+j2 = v1;
+fill(m, j0, i1, j2);
+}
+j0 = v6;
+j1 = UINT64_C(16384);
+j0 = j0 + j1;
+j1 = UINT64_C(0);
+p44 = write_at(j0, m, 8u);
+store64(p44 + 0, j1);
+}
+j0 = v6;
+j1 = UINT64_C(24584);
+j0 = j0 + j1;
+p45 = read_at(j0, m, 8u);
+j0 = load64(p45 + 0);
+v1 = j0;
+i0 = (j0 == 0);
+if (!i0) {
+j0 = v1;
+j1 = UINT64_C(2);
+j0 = j0 << (j1 & 63);
+v1 = j0;
+i0 = (j0 == 0);
+if (!i0) {
+j0 = v6;
+j1 = UINT64_C(16392);
+j0 = j0 + j1;
+i1 = UINT32_C(0);
+j2 = v1;
+fill(m, j0, i1, j2);
+}
+j0 = v6;
+j1 = UINT64_C(24584);
+j0 = j0 + j1;
+j1 = UINT64_C(0);
+p46 = write_at(j0, m, 8u);
+store64(p46 + 0, j1);
+}
+j0 = v6;
+j1 = UINT64_C(49168);
+j0 = j0 + j1;
+p47 = read_at(j0, m, 8u);
+j0 = load64(p47 + 0);
+v1 = j0;
+i0 = (j0 == 0);
+if (!i0) {
+j0 = v1;
+j1 = UINT64_C(24);
+j0 = j0 * j1;
+v1 = j0;
+i0 = (j0 == 0);
+if (!i0) {
+j0 = v6;
+j1 = UINT64_C(24592);
+j0 = j0 + j1;
+i1 = UINT32_C(0);
+j2 = v1;
+fill(m, j0, i1, j2);
+}
+j0 = v6;
+j1 = UINT64_C(49168);
+j0 = j0 + j1;
+j1 = UINT64_C(0);
+p48 = write_at(j0, m, 8u);
+store64(p48 + 0, j1);
+}
+j0 = v0;
+j1 = UINT64_C(0);
+p49 = write_at(j0, m, 56u);
+store64(p49 + 10, j1);
+j0 = v0;
+i1 = UINT32_C(516);
+store16(p49 + 8, i1);
+j0 = v0;
+j1 = v5;
+store64(p49 + 0, j1);
+j0 = v0;
+j1 = UINT64_C(0);
+store64(p49 + 18, j1);
+j0 = v0;
+j1 = UINT64_C(0);
+store64(p49 + 26, j1);
+j0 = v0;
+j1 = UINT64_C(0);
+store64(p49 + 34, j1);
+j0 = v0;
+j1 = UINT64_C(0);
+store64(p49 + 42, j1);
+j0 = v0;
+j1 = UINT64_C(0);
+store64(p49 + 48, j1);
+l2:;
+j0 = v7;
+j1 = UINT64_C(25312);
+j0 = j0 + j1;
+m->g0 = j0;
+}
+static void fio_log_by_forms_FormReader_tell(struct machine *m, uint64_t v0, uint64_t v1, uint64_t v2, uint64_t v3, uint64_t v4)
+{
+uint64_t v5 = 0;
+uint64_t v6 = 0;
+uint32_t v7 = 0;
 uint32_t v8 = 0;
 uint32_t v9 = 0;
-uint32_t v10 = 0;
+uint64_t v10 = 0;
 uint64_t v11 = 0;
 uint64_t v12 = 0;
 uint64_t v13 = 0;
-uint64_t v14 = 0;
+uint32_t v14 = 0;
 uint32_t v15 = 0;
-uint32_t v16 = 0;
+uint64_t v16 = 0;
 uint64_t v17 = 0;
 uint64_t v18 = 0;
-uint32_t v19 = 0;
-uint64_t v20 = 0;
-uint64_t v21 = 0;
+uint64_t v19 = 0;
+uint32_t v20 = 0;
+uint32_t v21 = 0;
 uint32_t v22 = 0;
 uint64_t v23 = 0;
-uint64_t v24 = 0;
+uint32_t v24 = 0;
 uint64_t v25 = 0;
-uint32_t v26 = 0;
-uint32_t v27 = 0;
-uint64_t v28 = 0;
+uint64_t v26 = 0;
+uint64_t v27 = 0;
+uint32_t v28 = 0;
 uint32_t v29 = 0;
 uint64_t v30 = 0;
-uint32_t v31 = 0;
+uint64_t v31 = 0;
 uint32_t v32 = 0;
-uint64_t v33 = 0;
-uint64_t v34 = 0;
+uint32_t v33 = 0;
+uint32_t v34 = 0;
 uint64_t v35 = 0;
-uint32_t v36 = 0;
-uint32_t v37 = 0;
-uint32_t v38 = 0;
-uint64_t v39 = 0;
+uint64_t v36 = 0;
+uint64_t v37 = 0;
+uint64_t v38 = 0;
+uint32_t v39 = 0;
 uint64_t v40 = 0;
 uint64_t v41 = 0;
 uint64_t v42 = 0;
@@ -31766,17 +33491,14 @@ uint64_t v44 = 0;
 uint64_t v45 = 0;
 uint64_t v46 = 0;
 uint64_t v47 = 0;
-uint64_t v48 = 0;
-uint64_t v49 = 0;
+uint32_t v48 = 0;
+uint32_t v49 = 0;
 uint64_t v50 = 0;
 uint32_t v51 = 0;
 uint32_t v52 = 0;
-uint32_t v53 = 0;
-uint32_t v54 = 0;
-uint32_t v55 = 0;
-uint32_t v56 = 0;
-uint64_t v57 = 0;
-uint64_t v58 = 0;
+uint64_t v53 = 0;
+uint64_t v54 = 0;
+uint64_t v55 = 0;
 uint32_t i0;
 uint32_t i1;
 uint32_t i2;
@@ -32131,381 +33853,317 @@ uint8_t *p333;
 uint8_t *p334;
 uint8_t *p335;
 uint8_t *p336;
+uint8_t *p337;
+uint8_t *p338;
+uint8_t *p339;
+uint8_t *p340;
+uint8_t *p341;
+uint8_t *p342;
+uint8_t *p343;
+uint8_t *p344;
+uint8_t *p345;
+uint8_t *p346;
+uint8_t *p347;
+uint8_t *p348;
+uint8_t *p349;
+uint8_t *p350;
+uint8_t *p351;
+uint8_t *p352;
+uint8_t *p353;
+uint8_t *p354;
+uint8_t *p355;
+uint8_t *p356;
+uint8_t *p357;
+uint8_t *p358;
+uint8_t *p359;
+uint8_t *p360;
+uint8_t *p361;
+uint8_t *p362;
+uint8_t *p363;
+uint8_t *p364;
+uint8_t *p365;
+uint8_t *p366;
+uint8_t *p367;
+uint8_t *p368;
+uint8_t *p369;
+uint8_t *p370;
+uint8_t *p371;
+uint8_t *p372;
+uint8_t *p373;
+uint8_t *p374;
+uint8_t *p375;
+uint8_t *p376;
+uint8_t *p377;
+uint8_t *p378;
+uint8_t *p379;
+uint8_t *p380;
+uint8_t *p381;
+uint8_t *p382;
+uint8_t *p383;
+uint8_t *p384;
+uint8_t *p385;
+uint8_t *p386;
+uint8_t *p387;
+uint8_t *p388;
+uint8_t *p389;
+uint8_t *p390;
+uint8_t *p391;
+uint8_t *p392;
+uint8_t *p393;
+uint8_t *p394;
+uint8_t *p395;
 j0 = m->g0;
-j1 = UINT64_C(25536);
+j1 = UINT64_C(2416);
 j0 = j0 - j1;
-p1 = write_at(j0, m, 25536u);
-v7 = j0;
+p1 = write_at(j0, m, 2416u);
+v5 = j0;
 m->g0 = j0;
-j0 = v7;
-v7 = j0;
+j0 = v5;
+v6 = j0;
 j1 = UINT64_C(16);
 i0 = (SIGNED64(j0) < SIGNED64(j1));
 if (!i0) {
-j0 = v5;
+j0 = v3;
 p2 = read_at(j0, m, 43u);
 i0 = load8(p2 + 42);
-v8 = i0;
-j0 = v5;
+v7 = i0;
+j0 = v3;
 i0 = load8(p2 + 41);
-v9 = i0;
-j0 = v5;
+v8 = i0;
+j0 = v3;
 i0 = load8(p2 + 40);
-v10 = i0;
-j0 = v5;
+v9 = i0;
+j0 = v3;
 j0 = load64(p2 + 32);
-v11 = j0;
-j0 = v5;
+v10 = j0;
+j0 = v3;
 j0 = load64(p2 + 24);
-v12 = j0;
-j0 = v5;
+v11 = j0;
+j0 = v3;
 j0 = load64(p2 + 16);
-v13 = j0;
-j0 = v5;
+v12 = j0;
+j0 = v3;
 j0 = load64(p2 + 8);
-v14 = j0;
-j0 = v5;
+v13 = j0;
+j0 = v3;
 i0 = load8(p2 + 1);
-v15 = i0;
-j0 = v5;
+v14 = i0;
+j0 = v3;
 i0 = load8(p2 + 0);
-v16 = i0;
-j0 = v7;
-j1 = UINT64_C(0);
-store64(p1 + 302, j1);
-j0 = v7;
-j1 = UINT64_C(0);
-store64(p1 + 296, j1);
-j0 = v7;
-j1 = UINT64_C(0);
-store64(p1 + 288, j1);
-j0 = v7;
-i1 = UINT32_C(0);
-store32(p1 + 280, i1);
-j0 = v7;
-i1 = UINT32_C(0);
-store16(p1 + 284, i1);
-j0 = v7;
-i1 = UINT32_C(0);
-store32(p1 + 272, i1);
-j0 = v7;
-i1 = UINT32_C(0);
-store16(p1 + 276, i1);
-j0 = v1;
-j1 = UINT64_C(323944);
-j0 = j0 + j1;
-p3 = read_at(j0, m, 8u);
-j0 = load64(p3 + 0);
+v15 = i0;
+j0 = v2;
+p3 = read_at(j0, m, 32u);
+j0 = load64(p3 + 24);
+v16 = j0;
+j0 = v2;
+j0 = load64(p3 + 16);
 v17 = j0;
-j1 = UINT64_C(18446744073709551615);
-j0 = j0 + j1;
-j1 = UINT64_C(18446744073709551615);
-j2 = v4;
-j3 = UINT64_C(1);
-j2 = j2 + j3;
-v5 = j2;
-j3 = v5;
-i3 = (j3 == 0);
-j1 = i3 ? j1 : j2;
-v18 = j1;
-i0 = (j0 >= j1);
-if (!i0) {
-j0 = v18;
-j1 = v17;
-j0 = j0 - j1;
-v5 = j0;
-j1 = v1;
-j2 = UINT64_C(323952);
-j1 = j1 + j2;
-p4 = read_at(j1, m, 8u);
-j1 = load64(p4 + 0);
-i0 = (j0 >= j1);
-if (!i0) {
-i0 = UINT32_C(0);
-v19 = i0;
-j0 = v1;
-j1 = UINT64_C(69640);
-j0 = j0 + j1;
-p5 = read_at(j0, m, 8u);
-j0 = load64(p5 + 0);
-j1 = v5;
-i0 = (j0 > j1);
-if (!i0) {
-j0 = UINT64_C(65536);
-v20 = j0;
-j0 = UINT64_C(0);
-v21 = j0;
-goto l19;
-}
-j0 = v1;
-j1 = v5;
-j2 = UINT64_C(2);
-j1 = j1 << (j2 & 63);
-j0 = j0 + j1;
-j1 = UINT64_C(65544);
-j0 = j0 + j1;
-v5 = j0;
-p6 = read_at(j0, m, 4u);
-j0 = load32(p6 + 0);
-v21 = j0;
-j0 = v18;
-j1 = v17;
-i0 = (j0 != j1);
-if (!i0) {
-j0 = v1;
-v20 = j0;
-goto l19;
-}
-j0 = v21;
-j1 = v5;
-j2 = UINT64_C(18446744073709551612);
-j1 = j1 + j2;
-p7 = read_at(j1, m, 4u);
-j1 = load32(p7 + 0);
-v5 = j1;
-j0 = j0 - j1;
-v21 = j0;
-j0 = v1;
-j1 = v5;
-j0 = j0 + j1;
-v20 = j0;
-goto l19;
-}
-}
-j0 = v18;
-j1 = v3;
-i0 = (j0 != j1);
-if (i0) { goto l18; }
 j0 = v2;
-j1 = UINT64_C(65553);
-j0 = j0 + j1;
-p8 = read_at(j0, m, 1u);
-i0 = load8(p8 + 0);
-i0 = (i0 == 0);
-if (i0) { goto l18; }
+j0 = load64(p3 + 8);
+v18 = j0;
 j0 = v2;
-j1 = UINT64_C(65544);
-j0 = j0 + j1;
-p9 = read_at(j0 + UINT64_C(18446744073709551608), m, 9u);
-i0 = load8(p9 + 8);
-v19 = i0;
-j0 = v2;
-j1 = UINT64_C(65536);
-j0 = j0 + j1;
-j0 = load64(p9 + 0);
-v21 = j0;
-j0 = v2;
-v20 = j0;
-l19:;
-j0 = v1;
-j1 = UINT64_C(336648);
-j0 = j0 + j1;
-j1 = v1;
-j2 = UINT64_C(254000);
-j1 = j1 + j2;
-p10 = write_at(j1, m, 82649u);
-i1 = load8(p10 + 0);
-i2 = UINT32_C(2);
-i1 = (i1 == i2);
-store8(p10 + 82648, i1);
-j0 = v7;
-i1 = UINT32_C(0);
-store32(p1 + 344, i1);
-j0 = v7;
-i1 = UINT32_C(0);
-store16(p1 + 348, i1);
-j0 = v7;
-i1 = UINT32_C(0);
-store32(p1 + 336, i1);
-j0 = v7;
-i1 = UINT32_C(0);
-store16(p1 + 340, i1);
-j0 = v7;
-j1 = UINT64_C(0);
-store64(p1 + 312, j1);
-j0 = v7;
-j1 = UINT64_C(0);
-store64(p1 + 320, j1);
-j0 = v7;
-j1 = UINT64_C(0);
-store64(p1 + 328, j1);
+j0 = load64(p3 + 0);
+v19 = j0;
 j0 = v6;
+i1 = UINT32_C(0);
+store16(p1 + 244, i1);
+j0 = v6;
+i1 = UINT32_C(0);
+store32(p1 + 240, i1);
+j0 = v6;
+i1 = UINT32_C(0);
+store32(p1 + 232, i1);
+j0 = v6;
+i1 = UINT32_C(0);
+store16(p1 + 236, i1);
+j0 = v6;
+j1 = UINT64_C(0);
+store64(p1 + 208, j1);
+j0 = v6;
+j1 = UINT64_C(0);
+store64(p1 + 216, j1);
+j0 = v6;
+j1 = UINT64_C(0);
+store64(p1 + 224, j1);
+j0 = v4;
 j1 = UINT64_C(16384);
 j0 = j0 + j1;
-p11 = read_at(j0, m, 8u);
-j0 = load64(p11 + 0);
-v5 = j0;
+p4 = read_at(j0, m, 8u);
+j0 = load64(p4 + 0);
+v3 = j0;
 i0 = (j0 == 0);
-v22 = i0;
+v20 = i0;
 if (!i0) {
-i0 = v22;
+i0 = v20;
 if (!i0) {
-j0 = v6;
+j0 = v4;
 i1 = UINT32_C(0);
-j2 = v5;
+j2 = v3;
 fill(m, j0, i1, j2);
 }
-j0 = v6;
+j0 = v4;
 j1 = UINT64_C(16384);
 j0 = j0 + j1;
 j1 = UINT64_C(0);
-p12 = write_at(j0, m, 8u);
-store64(p12 + 0, j1);
+p5 = write_at(j0, m, 8u);
+store64(p5 + 0, j1);
 }
-j0 = v6;
+j0 = v4;
 j1 = UINT64_C(24584);
 j0 = j0 + j1;
-p13 = read_at(j0, m, 8u);
-j0 = load64(p13 + 0);
-v5 = j0;
+p6 = read_at(j0, m, 8u);
+j0 = load64(p6 + 0);
+v3 = j0;
 i0 = (j0 == 0);
 if (!i0) {
-j0 = v5;
+j0 = v3;
 j1 = UINT64_C(2);
 j0 = j0 << (j1 & 63);
-v5 = j0;
+v3 = j0;
 i0 = (j0 == 0);
 if (!i0) {
-j0 = v6;
+j0 = v4;
 j1 = UINT64_C(16392);
 j0 = j0 + j1;
 i1 = UINT32_C(0);
-j2 = v5;
+j2 = v3;
 fill(m, j0, i1, j2);
 }
-j0 = v6;
+j0 = v4;
 j1 = UINT64_C(24584);
 j0 = j0 + j1;
 j1 = UINT64_C(0);
-p14 = write_at(j0, m, 8u);
-store64(p14 + 0, j1);
+p7 = write_at(j0, m, 8u);
+store64(p7 + 0, j1);
 }
-j0 = v1;
-j1 = UINT64_C(238104);
-j0 = j0 + j1;
-v23 = j0;
-j0 = v6;
+j0 = v4;
 j1 = UINT64_C(49168);
 j0 = j0 + j1;
-p15 = read_at(j0, m, 8u);
-j0 = load64(p15 + 0);
-v5 = j0;
+p8 = read_at(j0, m, 8u);
+j0 = load64(p8 + 0);
+v3 = j0;
 i0 = (j0 == 0);
 if (!i0) {
-j0 = v5;
+j0 = v3;
 j1 = UINT64_C(24);
 j0 = j0 * j1;
-v5 = j0;
+v3 = j0;
 i0 = (j0 == 0);
 if (!i0) {
-j0 = v6;
+j0 = v4;
 j1 = UINT64_C(24592);
 j0 = j0 + j1;
 i1 = UINT32_C(0);
-j2 = v5;
+j2 = v3;
 fill(m, j0, i1, j2);
 }
-j0 = v6;
+j0 = v4;
 j1 = UINT64_C(49168);
 j0 = j0 + j1;
 j1 = UINT64_C(0);
-p16 = write_at(j0, m, 8u);
-store64(p16 + 0, j1);
+p9 = write_at(j0, m, 8u);
+store64(p9 + 0, j1);
 }
-j0 = v7;
-j1 = UINT64_C(312);
+j0 = v6;
+j1 = UINT64_C(208);
 j0 = j0 + j1;
-j1 = v20;
-j2 = v21;
-j3 = v21;
-j4 = v12;
-i5 = v16;
+j1 = v18;
+j2 = v17;
+j3 = v17;
+j4 = v11;
+i5 = v15;
 i6 = UINT32_C(6);
 i5 = (i5 == i6);
 j3 = i5 ? j3 : j4;
 fio_log_heading_Heading_of(m, j0, j1, j2, j3);
-j0 = v23;
-j1 = v14;
-j2 = UINT64_C(784);
-j1 = j1 * j2;
-v24 = j1;
-j0 = j0 + j1;
-v25 = j0;
-j0 = v7;
-i0 = load8(p1 + 329);
-v26 = i0;
-j0 = v7;
-i0 = load8(p1 + 328);
-v27 = i0;
-j0 = v7;
-j0 = load64(p1 + 320);
-v28 = j0;
-j0 = v7;
-i0 = load8(p1 + 312);
-v29 = i0;
-j0 = v14;
-j1 = v1;
-j2 = UINT64_C(250648);
-j1 = j1 + j2;
-p17 = read_at(j1, m, 8u);
-j1 = load64(p17 + 0);
-i0 = (j0 >= j1);
+j0 = v6;
+i0 = load8(p1 + 225);
+v21 = i0;
+j0 = v6;
+i0 = load8(p1 + 224);
 v22 = i0;
+j0 = v6;
+j0 = load64(p1 + 216);
+v23 = j0;
+j0 = v6;
+i0 = load8(p1 + 208);
+v24 = i0;
+j0 = v1;
+p10 = read_at(j0, m, 1u);
+i0 = load8(p10 + 0);
+i1 = UINT32_C(1);
+i0 = (i0 != i1);
 if (!i0) {
-j0 = v11;
+j0 = v13;
+j1 = v1;
+j2 = UINT64_C(12552);
+j1 = j1 + j2;
+p11 = read_at(j1, m, 8u);
+j1 = load64(p11 + 0);
+i0 = (j0 >= j1);
+v20 = i0;
+if (!i0) {
+j0 = v10;
 i0 = (j0 == 0);
 if (!i0) {
-i0 = v10;
+i0 = v9;
 i1 = UINT32_C(1);
 i0 = i0 & i1;
 if (!i0) {
-j0 = v25;
+j0 = v1;
+j1 = v13;
+j2 = UINT64_C(784);
+j1 = j1 * j2;
+j0 = j0 + j1;
+j1 = UINT64_C(8);
+j0 = j0 + j1;
+v25 = j0;
 j1 = UINT64_C(512);
 j0 = j0 + j1;
-p18 = read_at(j0, m, 8u);
-j0 = load64(p18 + 0);
-v5 = j0;
+p12 = read_at(j0, m, 8u);
+j0 = load64(p12 + 0);
+v3 = j0;
 i0 = (j0 == 0);
 if (!i0) {
 j0 = UINT64_C(0);
 j1 = v25;
-i2 = v22;
+i2 = v20;
 j0 = i2 ? j0 : j1;
-v17 = j0;
-j0 = v5;
+v26 = j0;
+j0 = v3;
 j1 = UINT64_C(1);
 i0 = (j0 != j1);
 if (!i0) {
 j0 = UINT64_C(0);
-v4 = j0;
+v2 = j0;
 i0 = UINT32_C(0);
-v22 = i0;
-goto l33;
+v20 = i0;
+goto l22;
 }
-j0 = v5;
+j0 = v3;
 j1 = UINT64_C(1);
 j0 = j0 & j1;
-v30 = j0;
-j0 = v5;
+v27 = j0;
+j0 = v3;
 j1 = UINT64_C(18446744073709551614);
 j0 = j0 & j1;
-v3 = j0;
-j0 = UINT64_C(0);
-v4 = j0;
-i0 = UINT32_C(0);
-v22 = i0;
-j0 = v17;
 v5 = j0;
-l35:;
-j0 = v5;
-p19 = read_at(j0, m, 1u);
-i0 = load8(p19 + 0);
+j0 = UINT64_C(0);
+v2 = j0;
+i0 = UINT32_C(0);
+v20 = i0;
+j0 = v26;
+v3 = j0;
+l24:;
+j0 = v3;
+p13 = read_at(j0, m, 1u);
+i0 = load8(p13 + 0);
 if (!i0) {
-j0 = v5;
+j0 = v3;
 j1 = UINT64_C(1);
 j0 = j0 + j1;
-p20 = read_at(j0, m, 1u);
-i0 = load8(p20 + 0);
+p14 = read_at(j0, m, 1u);
+i0 = load8(p14 + 0);
 i1 = UINT32_C(223);
 i0 = i0 & i1;
 i1 = UINT32_C(4294967231);
@@ -32514,21 +34172,21 @@ i1 = UINT32_C(255);
 i0 = i0 & i1;
 i1 = UINT32_C(26);
 i0 = (i0 < i1);
-i1 = v22;
+i1 = v20;
 i0 = i0 | i1;
-v22 = i0;
+v20 = i0;
 }
-j0 = v5;
+j0 = v3;
 j1 = UINT64_C(2);
 j0 = j0 + j1;
-p21 = read_at(j0, m, 1u);
-i0 = load8(p21 + 0);
+p15 = read_at(j0, m, 1u);
+i0 = load8(p15 + 0);
 if (!i0) {
-j0 = v5;
+j0 = v3;
 j1 = UINT64_C(3);
 j0 = j0 + j1;
-p22 = read_at(j0, m, 1u);
-i0 = load8(p22 + 0);
+p16 = read_at(j0, m, 1u);
+i0 = load8(p16 + 0);
 i1 = UINT32_C(223);
 i0 = i0 & i1;
 i1 = UINT32_C(4294967231);
@@ -32537,39 +34195,39 @@ i1 = UINT32_C(255);
 i0 = i0 & i1;
 i1 = UINT32_C(26);
 i0 = (i0 < i1);
-i1 = v22;
+i1 = v20;
 i0 = i0 | i1;
-v22 = i0;
+v20 = i0;
 }
-j0 = v5;
+j0 = v3;
 j1 = UINT64_C(4);
 j0 = j0 + j1;
-v5 = j0;
-j0 = v3;
-j1 = v4;
+v3 = j0;
+j0 = v5;
+j1 = v2;
 j2 = UINT64_C(2);
 j1 = j1 + j2;
-v4 = j1;
+v2 = j1;
 i0 = (j0 != j1);
-if (i0) { goto l35; }
-j0 = v30;
+if (i0) { goto l24; }
+j0 = v27;
 i0 = (j0 == 0);
-if (i0) { goto l32; }
-l33:;
-j0 = v17;
-j1 = v4;
+if (i0) { goto l21; }
+l22:;
+j0 = v26;
+j1 = v2;
 j2 = UINT64_C(1);
 j1 = j1 << (j2 & 63);
 j0 = j0 + j1;
-v5 = j0;
-p23 = read_at(j0, m, 1u);
-i0 = load8(p23 + 0);
+v3 = j0;
+p17 = read_at(j0, m, 1u);
+i0 = load8(p17 + 0);
 if (!i0) {
-j0 = v5;
+j0 = v3;
 j1 = UINT64_C(1);
 j0 = j0 + j1;
-p24 = read_at(j0, m, 1u);
-i0 = load8(p24 + 0);
+p18 = read_at(j0, m, 1u);
+i0 = load8(p18 + 0);
 i1 = UINT32_C(223);
 i0 = i0 & i1;
 i1 = UINT32_C(4294967231);
@@ -32578,2672 +34236,2025 @@ i1 = UINT32_C(255);
 i0 = i0 & i1;
 i1 = UINT32_C(26);
 i0 = (i0 < i1);
-i1 = v22;
+i1 = v20;
 i0 = i0 | i1;
-v22 = i0;
+v20 = i0;
 }
-l32:;
+l21:;
 j0 = v25;
 j1 = UINT64_C(772);
 j0 = j0 + j1;
-p25 = read_at(j0, m, 1u);
-i0 = load8(p25 + 0);
+p19 = read_at(j0, m, 1u);
+i0 = load8(p19 + 0);
 if (!i0) {
 i0 = UINT32_C(0);
-v31 = i0;
+v28 = i0;
 i0 = UINT32_C(0);
-v32 = i0;
-i0 = v22;
+v29 = i0;
+i0 = v20;
 i1 = UINT32_C(1);
 i0 = i0 & i1;
-if (i0) { goto l30; }
+if (i0) { goto l19; }
 }
 }
 j0 = v1;
-j1 = UINT64_C(313552);
+j1 = UINT64_C(75456);
 j0 = j0 + j1;
-i0 = load8(p10 + 59552);
+p20 = read_at(j0, m, 1u);
+i0 = load8(p20 + 0);
 i1 = UINT32_C(1);
 i0 = (i0 != i1);
 if (!i0) {
 j0 = v1;
-j1 = UINT64_C(313624);
+j1 = UINT64_C(75528);
 j0 = j0 + j1;
-j0 = load64(p10 + 59624);
-v30 = j0;
-goto l40;
+p21 = read_at(j0, m, 8u);
+j0 = load64(p21 + 0);
+v26 = j0;
+goto l29;
 }
 j0 = v1;
-j1 = UINT64_C(313624);
+j1 = UINT64_C(75528);
 j0 = j0 + j1;
-j0 = load64(p10 + 59624);
-v30 = j0;
+p22 = read_at(j0, m, 8u);
+j0 = load64(p22 + 0);
+v26 = j0;
 i0 = (j0 == 0);
 i0 = (i0 == 0);
 if (!i0) {
 j0 = UINT64_C(0);
-v30 = j0;
+v26 = j0;
 i0 = UINT32_C(0);
-v32 = i0;
+v29 = i0;
 i0 = UINT32_C(0);
-v31 = i0;
-goto l38;
+v28 = i0;
+goto l27;
 }
 i0 = UINT32_C(0);
-v31 = i0;
+v28 = i0;
 j0 = v1;
-j1 = UINT64_C(313544);
+j1 = UINT64_C(75448);
 j0 = j0 + j1;
-j0 = load64(p10 + 59544);
-v3 = j0;
+p23 = read_at(j0, m, 8u);
+j0 = load64(p23 + 0);
+v5 = j0;
 i0 = (j0 == 0);
 i0 = (i0 == 0);
 if (!i0) {
 i0 = UINT32_C(0);
-v32 = i0;
-goto l39;
+v29 = i0;
+goto l28;
 }
 j0 = UINT64_C(0);
-v4 = j0;
+v2 = j0;
 j0 = UINT64_C(0);
-v17 = j0;
-j0 = v30;
+v25 = j0;
+j0 = v26;
 j1 = UINT64_C(1);
 i0 = (j0 == j1);
 if (!i0) {
-j0 = v30;
+j0 = v26;
 j1 = UINT64_C(1);
 j0 = j0 & j1;
-v33 = j0;
+v30 = j0;
 j0 = v1;
-j1 = UINT64_C(313568);
+j1 = UINT64_C(75472);
 j0 = j0 + j1;
-v5 = j0;
-j0 = v30;
+v3 = j0;
+j0 = v26;
 j1 = UINT64_C(18446744073709551614);
 j0 = j0 & j1;
-v34 = j0;
+v27 = j0;
 j0 = UINT64_C(0);
-v4 = j0;
+v2 = j0;
 j0 = UINT64_C(0);
-v17 = j0;
-p26 = read_at(v5 + UINT64_C(18446744073709551608), m, run(16u, 16u, turns(v34, v17, 2u)));
+v25 = j0;
+p24 = read_at(v3 + UINT64_C(18446744073709551608), m, run(16u, 16u, turns(v27, v25, 2u)));
 for (;;) {
 j0 = UINT64_C(1);
 j1 = UINT64_C(2);
 j2 = UINT64_C(1);
 j3 = UINT64_C(2);
-j4 = v4;
+j4 = v2;
 i4 = (j4 == 0);
 j2 = i4 ? j2 : j3;
-j3 = v4;
-j4 = v5;
+j3 = v2;
+j4 = v3;
 j5 = UINT64_C(18446744073709551608);
 j4 = j4 + j5;
-j4 = load64(p26 + 0);
-j5 = v3;
+j4 = load64(p24 + 0);
+j5 = v5;
 i4 = (j4 == j5);
 j2 = i4 ? j2 : j3;
-v4 = j2;
+v2 = j2;
 i2 = (j2 == 0);
 j0 = i2 ? j0 : j1;
-j1 = v4;
-j2 = v5;
-j2 = load64(p26 + 8);
-j3 = v3;
+j1 = v2;
+j2 = v3;
+j2 = load64(p24 + 8);
+j3 = v5;
 i2 = (j2 == j3);
 j0 = i2 ? j0 : j1;
-v4 = j0;
-j0 = v5;
+v2 = j0;
+j0 = v3;
 j1 = UINT64_C(16);
 j0 = j0 + j1;
-v5 = j0;
-j0 = v34;
-j1 = v17;
+v3 = j0;
+j0 = v27;
+j1 = v25;
 j2 = UINT64_C(2);
 j1 = j1 + j2;
-v17 = j1;
+v25 = j1;
 i0 = (j0 != j1);
 if (!i0) break;
-p26 += 16;
+p24 += 16;
 }
-j0 = v33;
+j0 = v30;
 i0 = (j0 == 0);
-if (i0) { goto l44; }
+if (i0) { goto l33; }
 }
 j0 = UINT64_C(1);
 j1 = UINT64_C(2);
-j2 = v4;
+j2 = v2;
 i2 = (j2 == 0);
 j0 = i2 ? j0 : j1;
-j1 = v4;
+j1 = v2;
 j2 = v1;
-j3 = UINT64_C(313560);
+j3 = UINT64_C(75464);
 j2 = j2 + j3;
-j3 = v17;
+j3 = v25;
 j4 = UINT64_C(3);
 j3 = j3 << (j4 & 63);
 j2 = j2 + j3;
-p27 = read_at(j2, m, 8u);
-j2 = load64(p27 + 0);
-j3 = v3;
+p25 = read_at(j2, m, 8u);
+j2 = load64(p25 + 0);
+j3 = v5;
 i2 = (j2 == j3);
 j0 = i2 ? j0 : j1;
-v4 = j0;
-l44:;
+v2 = j0;
+l33:;
 i0 = UINT32_C(0);
-v32 = i0;
-j0 = v4;
+v29 = i0;
+j0 = v2;
 j1 = UINT64_C(2);
 i0 = (j0 < j1);
-if (i0) { goto l39; }
-l40:;
+if (i0) { goto l28; }
+l29:;
 j0 = v1;
-j1 = UINT64_C(313537);
+j1 = UINT64_C(75441);
 j0 = j0 + j1;
-i0 = load8(p10 + 59537);
-v32 = i0;
+p26 = read_at(j0 + UINT64_C(18446744073709551615), m, 2u);
+i0 = load8(p26 + 1);
+v29 = i0;
 j0 = v1;
-j1 = UINT64_C(313536);
+j1 = UINT64_C(75440);
 j0 = j0 + j1;
-i0 = load8(p10 + 59536);
-v31 = i0;
-l39:;
-j0 = v30;
+i0 = load8(p26 + 0);
+v28 = i0;
+l28:;
+j0 = v26;
 j1 = UINT64_C(8);
 i0 = (j0 != j1);
 if (!i0) {
 j0 = v1;
-j1 = UINT64_C(313560);
+j1 = UINT64_C(75464);
 j0 = j0 + j1;
 j1 = v1;
-j2 = UINT64_C(313568);
+j2 = UINT64_C(75472);
 j1 = j1 + j2;
-v5 = j1;
-j1 = load64(p10 + 59568);
-store64(p10 + 59560, j1);
-j0 = v5;
+v3 = j1;
+p27 = write_at(j1 + UINT64_C(18446744073709551608), m, 64u);
+j1 = load64(p27 + 8);
+store64(p27 + 0, j1);
+j0 = v3;
 j1 = v1;
-j2 = UINT64_C(313576);
+j2 = UINT64_C(75480);
 j1 = j1 + j2;
-v4 = j1;
-j1 = load64(p10 + 59576);
-store64(p10 + 59568, j1);
-j0 = v4;
+v2 = j1;
+j1 = load64(p27 + 16);
+store64(p27 + 8, j1);
+j0 = v2;
 j1 = v1;
-j2 = UINT64_C(313584);
+j2 = UINT64_C(75488);
 j1 = j1 + j2;
-v5 = j1;
-j1 = load64(p10 + 59584);
-store64(p10 + 59576, j1);
-j0 = v5;
+v3 = j1;
+j1 = load64(p27 + 24);
+store64(p27 + 16, j1);
+j0 = v3;
 j1 = v1;
-j2 = UINT64_C(313592);
+j2 = UINT64_C(75496);
 j1 = j1 + j2;
-v4 = j1;
-j1 = load64(p10 + 59592);
-store64(p10 + 59584, j1);
-j0 = v4;
+v2 = j1;
+j1 = load64(p27 + 32);
+store64(p27 + 24, j1);
+j0 = v2;
 j1 = v1;
-j2 = UINT64_C(313600);
+j2 = UINT64_C(75504);
 j1 = j1 + j2;
-v5 = j1;
-j1 = load64(p10 + 59600);
-store64(p10 + 59592, j1);
-j0 = v5;
+v3 = j1;
+j1 = load64(p27 + 40);
+store64(p27 + 32, j1);
+j0 = v3;
 j1 = v1;
-j2 = UINT64_C(313608);
+j2 = UINT64_C(75512);
 j1 = j1 + j2;
-v4 = j1;
-j1 = load64(p10 + 59608);
-store64(p10 + 59600, j1);
-j0 = v4;
+v2 = j1;
+j1 = load64(p27 + 48);
+store64(p27 + 40, j1);
+j0 = v2;
 j1 = v1;
-j2 = UINT64_C(313616);
+j2 = UINT64_C(75520);
 j1 = j1 + j2;
-v5 = j1;
-j1 = load64(p10 + 59616);
-store64(p10 + 59608, j1);
-j0 = v5;
+v3 = j1;
+j1 = load64(p27 + 56);
+store64(p27 + 48, j1);
+j0 = v3;
 j1 = UINT64_C(0);
-store64(p10 + 59616, j1);
+store64(p27 + 56, j1);
 j0 = UINT64_C(7);
-v30 = j0;
+v26 = j0;
 }
-l38:;
+l27:;
 j0 = v1;
-j1 = v30;
+j1 = v26;
 j2 = UINT64_C(3);
 j1 = j1 << (j2 & 63);
 j0 = j0 + j1;
-j1 = UINT64_C(313560);
+j1 = UINT64_C(75464);
 j0 = j0 + j1;
 j1 = v1;
-j2 = UINT64_C(313544);
+j2 = UINT64_C(75448);
 j1 = j1 + j2;
-j1 = load64(p10 + 59544);
-p28 = write_at(j0, m, 8u);
-store64(p28 + 0, j1);
+p28 = write_at(j1, m, 88u);
+j1 = load64(p28 + 0);
+p29 = write_at(j0, m, 8u);
+store64(p29 + 0, j1);
 j0 = v1;
-j1 = UINT64_C(313624);
+j1 = UINT64_C(75528);
 j0 = j0 + j1;
-j1 = v30;
+j1 = v26;
 j2 = UINT64_C(1);
 j1 = j1 + j2;
-store64(p10 + 59624, j1);
-l30:;
-j0 = v28;
+store64(p28 + 80, j1);
+l19:;
+j0 = v23;
 j1 = v1;
-j2 = UINT64_C(313528);
+j2 = UINT64_C(75432);
 j1 = j1 + j2;
-j1 = load64(p10 + 59528);
-i2 = v29;
+p30 = read_at(j1 + UINT64_C(18446744073709551608), m, 16u);
+j1 = load64(p30 + 8);
+i2 = v24;
 i3 = UINT32_C(255);
 i2 = i2 & i3;
 i3 = UINT32_C(1);
 i2 = (i2 == i3);
-v22 = i2;
+v20 = i2;
 j0 = i2 ? j0 : j1;
-v28 = j0;
+v23 = j0;
 i0 = UINT32_C(1);
 j1 = v1;
-j2 = UINT64_C(313520);
+j2 = UINT64_C(75424);
 j1 = j1 + j2;
-i1 = load8(p10 + 59520);
-i2 = v22;
+i1 = load8(p30 + 0);
+i2 = v20;
 i0 = i2 ? i0 : i1;
-v29 = i0;
-i0 = v26;
-i1 = v32;
-i2 = v27;
+v24 = i0;
+i0 = v21;
+i1 = v29;
+i2 = v22;
 i3 = UINT32_C(255);
 i2 = i2 & i3;
 i3 = UINT32_C(1);
 i2 = (i2 == i3);
-v22 = i2;
+v20 = i2;
 i0 = i2 ? i0 : i1;
-v26 = i0;
+v21 = i0;
 i0 = UINT32_C(1);
-i1 = v31;
-i2 = v22;
+i1 = v28;
+i2 = v20;
 i0 = i2 ? i0 : i1;
-v27 = i0;
-}
-}
-}
-j0 = v1;
-j1 = UINT64_C(276608);
-j0 = j0 + j1;
-v17 = j0;
-j0 = v1;
-j1 = UINT64_C(278656);
-j0 = j0 + j1;
-j0 = load64(p10 + 24656);
-v4 = j0;
-i0 = (j0 == 0);
 v22 = i0;
+}
+}
+}
+}
+j0 = v1;
+j1 = UINT64_C(38512);
+j0 = j0 + j1;
+v25 = j0;
+j0 = v1;
+j1 = UINT64_C(40560);
+j0 = j0 + j1;
+p31 = read_at(j0, m, 8u);
+j0 = load64(p31 + 0);
+v2 = j0;
+i0 = (j0 == 0);
+v20 = i0;
 if (!i0) {
 j0 = v1;
-j1 = UINT64_C(313512);
+j1 = UINT64_C(75416);
 j0 = j0 + j1;
-j0 = load64(p10 + 59512);
-v5 = j0;
+p32 = read_at(j0 + UINT64_C(18446744073709551608), m, 16u);
+j0 = load64(p32 + 8);
+v3 = j0;
 j1 = v1;
-j2 = UINT64_C(313504);
+j2 = UINT64_C(75408);
 j1 = j1 + j2;
-j1 = load64(p10 + 59504);
+j1 = load64(p32 + 0);
 i0 = (j0 < j1);
 if (!i0) {
 j0 = UINT64_C(0);
-v35 = j0;
+v31 = j0;
 i0 = UINT32_C(0);
-v36 = i0;
+v32 = i0;
 i0 = UINT32_C(0);
-v37 = i0;
+v33 = i0;
 i0 = UINT32_C(0);
-v38 = i0;
-goto l50;
+v34 = i0;
+goto l39;
 }
 j0 = v1;
-j1 = v5;
+j1 = v3;
 j2 = UINT64_C(5);
 j1 = j1 << (j2 & 63);
 j0 = j0 + j1;
-v5 = j0;
-j1 = UINT64_C(280760);
+v3 = j0;
+j1 = UINT64_C(42664);
 j0 = j0 + j1;
-p29 = read_at(j0 + UINT64_C(18446744073709551610), m, 14u);
-j0 = load64(p29 + 6);
+p33 = read_at(j0 + UINT64_C(18446744073709551610), m, 14u);
+j0 = load64(p33 + 6);
 j1 = UINT64_C(0);
-j2 = v5;
-j3 = UINT64_C(280756);
+j2 = v3;
+j3 = UINT64_C(42660);
 j2 = j2 + j3;
-i2 = load8(p29 + 2);
+i2 = load8(p33 + 2);
 i3 = UINT32_C(1);
 i2 = i2 & i3;
-v36 = i2;
+v32 = i2;
 j0 = i2 ? j0 : j1;
-v35 = j0;
-j0 = v5;
-j1 = UINT64_C(280755);
+v31 = j0;
+j0 = v3;
+j1 = UINT64_C(42659);
 j0 = j0 + j1;
-i0 = load8(p29 + 1);
-v38 = i0;
-j0 = v5;
-j1 = UINT64_C(280754);
+i0 = load8(p33 + 1);
+v34 = i0;
+j0 = v3;
+j1 = UINT64_C(42658);
 j0 = j0 + j1;
-i0 = load8(p29 + 0);
-v37 = i0;
-l50:;
-i0 = v9;
-i1 = UINT32_C(1);
-i0 = i0 & i1;
-i0 = (i0 == 0);
-if (i0) { goto l47; }
-j0 = v1;
-j1 = UINT64_C(254000);
-j0 = j0 + j1;
-i1 = UINT32_C(0);
-store8(p10 + 0, i1);
-i0 = v22;
-if (!i0) {
-j0 = v17;
-i1 = UINT32_C(0);
-j2 = v4;
-fill(m, j0, i1, j2);
-}
-j0 = v1;
-j1 = UINT64_C(278656);
-j0 = j0 + j1;
-j1 = UINT64_C(0);
-store64(p10 + 24656, j1);
-goto l48;
-}
-i0 = v26;
-v38 = i0;
-i0 = v27;
-v37 = i0;
-j0 = v28;
-v35 = j0;
-i0 = v29;
-v36 = i0;
-i0 = v9;
-i1 = UINT32_C(1);
-i0 = i0 & i1;
-i0 = (i0 == 0);
-if (i0) { goto l47; }
-j0 = v1;
-j1 = UINT64_C(254000);
-j0 = j0 + j1;
-i1 = UINT32_C(0);
-store8(p10 + 0, i1);
-i0 = v29;
-v36 = i0;
-j0 = v28;
-v35 = j0;
-i0 = v27;
-v37 = i0;
-i0 = v26;
-v38 = i0;
-l48:;
-j0 = v1;
-j1 = UINT64_C(278672);
-j0 = j0 + j1;
-j0 = load64(p10 + 24672);
-v5 = j0;
-i0 = (j0 == 0);
-v22 = i0;
-if (!i0) {
-i0 = v22;
-if (!i0) {
-j0 = v1;
-j1 = UINT64_C(278664);
-j0 = j0 + j1;
-i1 = UINT32_C(0);
-j2 = v5;
-fill(m, j0, i1, j2);
-}
-j0 = v1;
-j1 = UINT64_C(278672);
-j0 = j0 + j1;
-j1 = UINT64_C(0);
-store64(p10 + 24672, j1);
-}
-j0 = v1;
-j1 = UINT64_C(280728);
-j0 = j0 + j1;
-j0 = load64(p10 + 26728);
-v5 = j0;
-i0 = (j0 == 0);
-v22 = i0;
-if (!i0) {
-i0 = v22;
-if (!i0) {
-j0 = v1;
-j1 = UINT64_C(278680);
-j0 = j0 + j1;
-i1 = UINT32_C(0);
-j2 = v5;
-fill(m, j0, i1, j2);
-}
-j0 = v1;
-j1 = UINT64_C(280728);
-j0 = j0 + j1;
-j1 = UINT64_C(0);
-store64(p10 + 26728, j1);
-}
-j0 = v1;
-j1 = UINT64_C(313504);
-j0 = j0 + j1;
-j0 = load64(p10 + 59504);
-v5 = j0;
-i0 = (j0 == 0);
-if (!i0) {
-j0 = v5;
-j1 = UINT64_C(5);
-j0 = j0 << (j1 & 63);
-v5 = j0;
-i0 = (j0 == 0);
-if (!i0) {
-j0 = v1;
-j1 = UINT64_C(280736);
-j0 = j0 + j1;
-i1 = UINT32_C(0);
-j2 = v5;
-fill(m, j0, i1, j2);
-}
-j0 = v1;
-j1 = UINT64_C(313504);
-j0 = j0 + j1;
-j1 = UINT64_C(0);
-store64(p10 + 59504, j1);
-}
-j0 = v1;
-j1 = UINT64_C(313552);
-j0 = j0 + j1;
-i1 = UINT32_C(0);
-store8(p10 + 59552, i1);
-j0 = v1;
-j1 = UINT64_C(313544);
-j0 = j0 + j1;
-j1 = UINT64_C(0);
-store64(p10 + 59544, j1);
-j0 = v1;
-j1 = UINT64_C(313512);
-j0 = j0 + j1;
-j1 = UINT64_C(0);
-store64(p10 + 59512, j1);
-j0 = v1;
-j1 = UINT64_C(313520);
-j0 = j0 + j1;
-j1 = UINT64_C(0);
-store64(p10 + 59520, j1);
-j0 = v1;
-j1 = UINT64_C(313528);
-j0 = j0 + j1;
-j1 = UINT64_C(0);
-store64(p10 + 59528, j1);
-j0 = v1;
-j1 = UINT64_C(313536);
-j0 = j0 + j1;
-i1 = UINT32_C(0);
-store16(p10 + 59536, i1);
-i0 = UINT32_C(4);
-v31 = i0;
-i0 = UINT32_C(5);
-v9 = i0;
-goto l6;
-l47:;
+i0 = load8(p33 + 0);
+v33 = i0;
+l39:;
 i0 = v8;
 i1 = UINT32_C(1);
 i0 = i0 & i1;
+i0 = (i0 == 0);
+if (i0) { goto l36; }
+j0 = v1;
+j1 = UINT64_C(15904);
+j0 = j0 + j1;
+i1 = UINT32_C(0);
+p34 = write_at(j0, m, 1u);
+store8(p34 + 0, i1);
+i0 = v20;
 if (!i0) {
-j0 = v14;
-j1 = v1;
-j2 = UINT64_C(250648);
-j1 = j1 + j2;
-p30 = read_at(j1, m, 8u);
-j1 = load64(p30 + 0);
-v39 = j1;
-i0 = (j0 >= j1);
+j0 = v25;
+i1 = UINT32_C(0);
+j2 = v2;
+fill(m, j0, i1, j2);
+}
+j0 = v1;
+j1 = UINT64_C(40560);
+j0 = j0 + j1;
+j1 = UINT64_C(0);
+p35 = write_at(j0, m, 8u);
+store64(p35 + 0, j1);
+goto l37;
+}
+i0 = v21;
+v34 = i0;
+i0 = v22;
+v33 = i0;
+j0 = v23;
+v31 = j0;
+i0 = v24;
 v32 = i0;
-if (i0) { goto l59; }
-i0 = v16;
+i0 = v8;
+i1 = UINT32_C(1);
+i0 = i0 & i1;
+i0 = (i0 == 0);
+if (i0) { goto l36; }
+j0 = v1;
+j1 = UINT64_C(15904);
+j0 = j0 + j1;
+i1 = UINT32_C(0);
+p36 = write_at(j0, m, 1u);
+store8(p36 + 0, i1);
+i0 = v24;
+v32 = i0;
+j0 = v23;
+v31 = j0;
+i0 = v22;
+v33 = i0;
+i0 = v21;
+v34 = i0;
+l37:;
+j0 = v1;
+j1 = UINT64_C(40576);
+j0 = j0 + j1;
+p37 = read_at(j0, m, 8u);
+j0 = load64(p37 + 0);
+v3 = j0;
+i0 = (j0 == 0);
+v20 = i0;
+if (!i0) {
+i0 = v20;
+if (!i0) {
+j0 = v1;
+j1 = UINT64_C(40568);
+j0 = j0 + j1;
+i1 = UINT32_C(0);
+j2 = v3;
+fill(m, j0, i1, j2);
+}
+j0 = v1;
+j1 = UINT64_C(40576);
+j0 = j0 + j1;
+j1 = UINT64_C(0);
+p38 = write_at(j0, m, 8u);
+store64(p38 + 0, j1);
+}
+j0 = v1;
+j1 = UINT64_C(42632);
+j0 = j0 + j1;
+p39 = read_at(j0, m, 8u);
+j0 = load64(p39 + 0);
+v3 = j0;
+i0 = (j0 == 0);
+v20 = i0;
+if (!i0) {
+i0 = v20;
+if (!i0) {
+j0 = v1;
+j1 = UINT64_C(40584);
+j0 = j0 + j1;
+i1 = UINT32_C(0);
+j2 = v3;
+fill(m, j0, i1, j2);
+}
+j0 = v1;
+j1 = UINT64_C(42632);
+j0 = j0 + j1;
+j1 = UINT64_C(0);
+p40 = write_at(j0, m, 8u);
+store64(p40 + 0, j1);
+}
+j0 = v1;
+j1 = UINT64_C(75408);
+j0 = j0 + j1;
+p41 = read_at(j0, m, 8u);
+j0 = load64(p41 + 0);
+v3 = j0;
+i0 = (j0 == 0);
+if (!i0) {
+j0 = v3;
+j1 = UINT64_C(5);
+j0 = j0 << (j1 & 63);
+v3 = j0;
+i0 = (j0 == 0);
+if (!i0) {
+j0 = v1;
+j1 = UINT64_C(42640);
+j0 = j0 + j1;
+i1 = UINT32_C(0);
+j2 = v3;
+fill(m, j0, i1, j2);
+}
+j0 = v1;
+j1 = UINT64_C(75408);
+j0 = j0 + j1;
+j1 = UINT64_C(0);
+p42 = write_at(j0, m, 8u);
+store64(p42 + 0, j1);
+}
+j0 = v1;
+j1 = UINT64_C(75456);
+j0 = j0 + j1;
+i1 = UINT32_C(0);
+p43 = write_at(j0 + UINT64_C(18446744073709551576), m, 41u);
+store8(p43 + 40, i1);
+j0 = v1;
+j1 = UINT64_C(75448);
+j0 = j0 + j1;
+j1 = UINT64_C(0);
+store64(p43 + 32, j1);
+j0 = v1;
+j1 = UINT64_C(75416);
+j0 = j0 + j1;
+j1 = UINT64_C(0);
+store64(p43 + 0, j1);
+j0 = v1;
+j1 = UINT64_C(75424);
+j0 = j0 + j1;
+j1 = UINT64_C(0);
+store64(p43 + 8, j1);
+j0 = v1;
+j1 = UINT64_C(75432);
+j0 = j0 + j1;
+j1 = UINT64_C(0);
+store64(p43 + 16, j1);
+j0 = v1;
+j1 = UINT64_C(75440);
+j0 = j0 + j1;
+i1 = UINT32_C(0);
+store16(p43 + 24, i1);
+i0 = UINT32_C(4);
+v28 = i0;
+i0 = UINT32_C(5);
+v8 = i0;
+goto l5;
+l36:;
+i0 = v7;
+i1 = UINT32_C(1);
+i0 = i0 & i1;
+if (!i0) {
+j0 = v1;
+p44 = read_at(j0, m, 1u);
+i0 = load8(p44 + 0);
+v29 = i0;
+i1 = UINT32_C(1);
+i0 = (i0 != i1);
+if (i0) { goto l53; }
+j0 = v13;
+j1 = v1;
+j2 = UINT64_C(12552);
+j1 = j1 + j2;
+p45 = read_at(j1, m, 8u);
+j1 = load64(p45 + 0);
+i0 = (j0 >= j1);
+if (i0) { goto l53; }
+i0 = v15;
 i1 = UINT32_C(2);
 i0 = (i0 > i1);
-if (i0) { goto l59; }
-j0 = v21;
-j1 = v11;
+if (i0) { goto l53; }
+j0 = v17;
+j1 = v10;
 i0 = (j0 < j1);
-if (i0) { goto l59; }
+if (i0) { goto l53; }
 j0 = UINT64_C(2);
-v34 = j0;
-j0 = v25;
+v27 = j0;
+j0 = v1;
+j1 = v13;
+j2 = UINT64_C(784);
+j1 = j1 * j2;
+j0 = j0 + j1;
+j1 = UINT64_C(8);
+j0 = j0 + j1;
+v30 = j0;
 j1 = UINT64_C(520);
 j0 = j0 + j1;
-p31 = read_at(j0, m, 1u);
-j0 = load8(p31 + 0);
+p46 = read_at(j0, m, 1u);
+j0 = load8(p46 + 0);
 i0 = (uint32_t)j0;
 switch (i0) {
 case 0:
-goto l61;
+goto l55;
 case 1:
-goto l59;
+goto l53;
 case 2:
-goto l59;
+goto l53;
 case 3:
-goto l59;
+goto l53;
 case 4:
-goto l59;
+goto l53;
 case 5:
-goto l63;
+goto l57;
 case 6:
-goto l62;
+goto l56;
 case 7:
-goto l59;
+goto l53;
 case 8:
-goto l59;
+goto l53;
 case 9:
-goto l59;
+goto l53;
 default:
-goto l61;
+goto l55;
 }
-l63:;
+l57:;
 j0 = UINT64_C(3);
-v34 = j0;
-goto l61;
-l62:;
+v27 = j0;
+goto l55;
+l56:;
 j0 = UINT64_C(8);
-v34 = j0;
-l61:;
-j0 = v21;
-j1 = v11;
+v27 = j0;
+l55:;
+j0 = v17;
+j1 = v10;
 i0 = (j0 == j1);
-if (i0) { goto l59; }
-j0 = v21;
-j1 = v11;
+if (i0) { goto l53; }
+j0 = v17;
+j1 = v10;
 j0 = j0 - j1;
-v30 = j0;
-j0 = v20;
-j1 = v11;
+v26 = j0;
+j0 = v18;
+j1 = v10;
 j0 = j0 + j1;
-v5 = j0;
-j0 = UINT64_C(0);
 v3 = j0;
-l64:;
-j0 = v5;
-p32 = read_at(j0, m, 1u);
-i0 = load8(p32 + 0);
-v9 = i0;
+j0 = UINT64_C(0);
+v5 = j0;
+l58:;
+j0 = v3;
+p47 = read_at(j0, m, 1u);
+i0 = load8(p47 + 0);
+v8 = i0;
 i1 = UINT32_C(95);
 i0 = (i0 == i1);
-if (i0) { goto l59; }
-i0 = v9;
+if (i0) { goto l53; }
+i0 = v8;
 i1 = UINT32_C(48);
 i0 = (i0 < i1);
 if (!i0) {
-i0 = v9;
+i0 = v8;
 i1 = UINT32_C(58);
 i0 = (i0 < i1);
-if (i0) { goto l66; }
-i0 = v9;
+if (i0) { goto l60; }
+i0 = v8;
 i1 = UINT32_C(65);
 i0 = (i0 < i1);
 if (!i0) {
-i0 = v9;
+i0 = v8;
 i1 = UINT32_C(91);
 i0 = (i0 < i1);
-if (i0) { goto l67; }
-i0 = v9;
+if (i0) { goto l61; }
+i0 = v8;
 i1 = UINT32_C(97);
 i0 = (i0 < i1);
 if (!i0) {
-i0 = v9;
+i0 = v8;
 i0 = (uint32_t)extend(i0 & 255, 7);
 i1 = UINT32_C(122);
 i0 = (SIGNED32(i0) > SIGNED32(i1));
 if (!i0) {
-i0 = v9;
+i0 = v8;
 i1 = UINT32_C(102);
 i0 = (i0 > i1);
-if (i0) { goto l59; }
-goto l66;
+if (i0) { goto l53; }
+goto l60;
 }
 }
 }
 }
-j0 = v3;
+j0 = v5;
 i0 = (j0 == 0);
-if (i0) { goto l59; }
-goto l65;
-l67:;
-i0 = v9;
+if (i0) { goto l53; }
+goto l59;
+l61:;
+i0 = v8;
 i1 = UINT32_C(71);
 i0 = (i0 >= i1);
-if (i0) { goto l59; }
-l66:;
+if (i0) { goto l53; }
+l60:;
 j0 = UINT64_C(18446744073709551615);
-j1 = v3;
+j1 = v5;
 j2 = UINT64_C(1);
 j1 = j1 + j2;
-v3 = j1;
-j2 = v3;
+v5 = j1;
+j2 = v5;
 i2 = (j2 == 0);
 j0 = i2 ? j0 : j1;
-v3 = j0;
-j0 = v5;
+v5 = j0;
+j0 = v3;
 j1 = UINT64_C(1);
 j0 = j0 + j1;
-v5 = j0;
-j0 = v30;
+v3 = j0;
+j0 = v26;
 j1 = UINT64_C(18446744073709551615);
 j0 = j0 + j1;
-v30 = j0;
+v26 = j0;
 i0 = (j0 == 0);
 i0 = (i0 == 0);
-if (i0) { goto l64; }
-l65:;
-j0 = v3;
-j1 = v34;
+if (i0) { goto l58; }
+l59:;
+j0 = v5;
+j1 = v27;
 i0 = (j0 < j1);
 if (!i0) {
-j0 = v25;
+j0 = v30;
 j1 = UINT64_C(772);
 j0 = j0 + j1;
-p33 = read_at(j0, m, 1u);
-i0 = load8(p33 + 0);
+p48 = read_at(j0, m, 1u);
+i0 = load8(p48 + 0);
 i0 = (i0 == 0);
-if (i0) { goto l59; }
+if (i0) { goto l53; }
 }
 }
 j0 = v1;
-j1 = UINT64_C(254000);
+j1 = UINT64_C(15904);
 j0 = j0 + j1;
 i1 = UINT32_C(0);
-store8(p10 + 0, i1);
-i0 = v22;
+p49 = write_at(j0, m, 1u);
+store8(p49 + 0, i1);
+i0 = v20;
 if (!i0) {
-i0 = v22;
+i0 = v20;
 if (!i0) {
-j0 = v17;
+j0 = v25;
 i1 = UINT32_C(0);
-j2 = v4;
+j2 = v2;
 fill(m, j0, i1, j2);
 }
 j0 = v1;
-j1 = UINT64_C(278656);
+j1 = UINT64_C(40560);
 j0 = j0 + j1;
 j1 = UINT64_C(0);
-store64(p10 + 24656, j1);
+p50 = write_at(j0, m, 8u);
+store64(p50 + 0, j1);
 }
 j0 = v1;
-j1 = UINT64_C(278672);
+j1 = UINT64_C(40576);
 j0 = j0 + j1;
-j0 = load64(p10 + 24672);
-v5 = j0;
+p51 = read_at(j0, m, 8u);
+j0 = load64(p51 + 0);
+v3 = j0;
 i0 = (j0 == 0);
-v22 = i0;
+v20 = i0;
 if (!i0) {
-i0 = v22;
+i0 = v20;
 if (!i0) {
 j0 = v1;
-j1 = UINT64_C(278664);
+j1 = UINT64_C(40568);
 j0 = j0 + j1;
 i1 = UINT32_C(0);
-j2 = v5;
+j2 = v3;
 fill(m, j0, i1, j2);
 }
 j0 = v1;
-j1 = UINT64_C(278672);
+j1 = UINT64_C(40576);
 j0 = j0 + j1;
 j1 = UINT64_C(0);
-store64(p10 + 24672, j1);
+p52 = write_at(j0, m, 8u);
+store64(p52 + 0, j1);
 }
 j0 = v1;
-j1 = UINT64_C(280728);
+j1 = UINT64_C(42632);
 j0 = j0 + j1;
-j0 = load64(p10 + 26728);
-v5 = j0;
+p53 = read_at(j0, m, 8u);
+j0 = load64(p53 + 0);
+v3 = j0;
 i0 = (j0 == 0);
-v22 = i0;
+v20 = i0;
 if (!i0) {
-i0 = v22;
+i0 = v20;
 if (!i0) {
 j0 = v1;
-j1 = UINT64_C(278680);
+j1 = UINT64_C(40584);
 j0 = j0 + j1;
 i1 = UINT32_C(0);
-j2 = v5;
+j2 = v3;
 fill(m, j0, i1, j2);
 }
 j0 = v1;
-j1 = UINT64_C(280728);
+j1 = UINT64_C(42632);
 j0 = j0 + j1;
 j1 = UINT64_C(0);
-store64(p10 + 26728, j1);
+p54 = write_at(j0, m, 8u);
+store64(p54 + 0, j1);
 }
 j0 = v1;
-j1 = UINT64_C(313504);
+j1 = UINT64_C(75408);
 j0 = j0 + j1;
-j0 = load64(p10 + 59504);
-v5 = j0;
+p55 = read_at(j0, m, 8u);
+j0 = load64(p55 + 0);
+v3 = j0;
 i0 = (j0 == 0);
 if (!i0) {
-j0 = v5;
+j0 = v3;
 j1 = UINT64_C(5);
 j0 = j0 << (j1 & 63);
-v5 = j0;
+v3 = j0;
 i0 = (j0 == 0);
 if (!i0) {
 j0 = v1;
-j1 = UINT64_C(280736);
+j1 = UINT64_C(42640);
 j0 = j0 + j1;
 i1 = UINT32_C(0);
-j2 = v5;
+j2 = v3;
 fill(m, j0, i1, j2);
 }
 j0 = v1;
-j1 = UINT64_C(313504);
+j1 = UINT64_C(75408);
 j0 = j0 + j1;
 j1 = UINT64_C(0);
-store64(p10 + 59504, j1);
+p56 = write_at(j0, m, 8u);
+store64(p56 + 0, j1);
 }
 j0 = v1;
-j1 = UINT64_C(313512);
+j1 = UINT64_C(75416);
 j0 = j0 + j1;
 j1 = UINT64_C(0);
-store64(p10 + 59512, j1);
+p57 = write_at(j0, m, 8u);
+store64(p57 + 0, j1);
 i0 = UINT32_C(2);
-v9 = i0;
-goto l16;
-l59:;
-i0 = v29;
+v8 = i0;
+goto l52;
+l53:;
+i0 = v24;
 j0 = (uint64_t)i0;
 j1 = UINT64_C(255);
 j0 = j0 & j1;
-v5 = j0;
-i0 = UINT32_C(2);
-v9 = i0;
+v3 = j0;
 i0 = UINT32_C(5);
-v31 = i0;
+v28 = i0;
 i0 = UINT32_C(0);
+v7 = i0;
+i0 = UINT32_C(2);
 v8 = i0;
-i0 = v16;
+i0 = v15;
 switch (i0) {
 case 0:
-goto l80;
+goto l76;
 case 1:
-goto l79;
+goto l75;
 case 2:
-goto l78;
+goto l74;
 case 3:
-goto l7;
+goto l6;
 case 4:
-goto l16;
+goto l49;
 case 5:
-goto l16;
+goto l49;
 case 6:
-goto l77;
+goto l73;
 default:
-goto l80;
+goto l76;
 }
-l80:;
-i0 = v32;
+l76:;
+i0 = v29;
+i1 = UINT32_C(1);
+i0 = (i0 != i1);
 if (!i0) {
-j0 = v25;
-j1 = UINT64_C(778);
+j0 = v13;
+j1 = v1;
+j2 = UINT64_C(12552);
+j1 = j1 + j2;
+p58 = read_at(j1, m, 8u);
+j1 = load64(p58 + 0);
+i0 = (j0 >= j1);
+if (!i0) {
+j0 = v1;
+j1 = v13;
+j2 = UINT64_C(784);
+j1 = j1 * j2;
 j0 = j0 + j1;
-p34 = read_at(j0, m, 1u);
-i0 = load8(p34 + 0);
+j1 = UINT64_C(786);
+j0 = j0 + j1;
+p59 = read_at(j0, m, 1u);
+i0 = load8(p59 + 0);
 i1 = UINT32_C(1);
 i0 = (i0 != i1);
 if (!i0) {
 j0 = v1;
-j1 = UINT64_C(258136);
+j1 = UINT64_C(20040);
 j0 = j0 + j1;
-j0 = load64(p10 + 4136);
-v5 = j0;
-j1 = v1;
-j2 = UINT64_C(315704);
-j1 = j1 + j2;
-j1 = load64(p10 + 61704);
-i0 = (j0 != j1);
-if (i0) { goto l16; }
-j0 = v1;
-j1 = UINT64_C(313656);
-j0 = j0 + j1;
-v4 = j0;
-j0 = v1;
-j1 = UINT64_C(256088);
-j0 = j0 + j1;
+p60 = read_at(j0, m, 57576u);
+j0 = load64(p60 + 0);
 v3 = j0;
-j0 = v5;
+j1 = v1;
+j2 = UINT64_C(77608);
+j1 = j1 + j2;
+j1 = load64(p60 + 57568);
+i0 = (j0 != j1);
+if (i0) { goto l7; }
+j0 = v1;
+j1 = UINT64_C(75560);
+j0 = j0 + j1;
+v2 = j0;
+j0 = v1;
+j1 = UINT64_C(17992);
+j0 = j0 + j1;
+v5 = j0;
+j0 = v3;
 j1 = UINT64_C(4);
 i0 = (j0 < j1);
 if (!i0) {
 j0 = v1;
-j1 = UINT64_C(256088);
+j1 = UINT64_C(17992);
 j0 = j0 + j1;
-i0 = load8(p10 + 2088);
+p61 = read_at(j0, m, 1u);
+i0 = load8(p61 + 0);
 j1 = v1;
-j2 = UINT64_C(313656);
+j2 = UINT64_C(75560);
 j1 = j1 + j2;
-i1 = load8(p10 + 59656);
+i1 = load8(p60 + 55520);
 i0 = (i0 != i1);
-if (i0) { goto l16; }
+if (i0) { goto l7; }
 j0 = v1;
-j1 = UINT64_C(256089);
+j1 = UINT64_C(17993);
 j0 = j0 + j1;
-i0 = load8(p10 + 2089);
+p62 = read_at(j0, m, 1u);
+i0 = load8(p62 + 0);
 i1 = UINT32_C(255);
 i0 = i0 & i1;
 j1 = v1;
-j2 = UINT64_C(313657);
+j2 = UINT64_C(75561);
 j1 = j1 + j2;
-i1 = load8(p10 + 59657);
+i1 = load8(p60 + 55521);
 i2 = UINT32_C(255);
 i1 = i1 & i2;
 i0 = (i0 != i1);
-if (i0) { goto l16; }
+if (i0) { goto l7; }
 j0 = v1;
-j1 = UINT64_C(256090);
+j1 = UINT64_C(17994);
 j0 = j0 + j1;
-i0 = load8(p10 + 2090);
+p63 = read_at(j0, m, 1u);
+i0 = load8(p63 + 0);
 i1 = UINT32_C(255);
 i0 = i0 & i1;
 j1 = v1;
-j2 = UINT64_C(313658);
+j2 = UINT64_C(75562);
 j1 = j1 + j2;
-i1 = load8(p10 + 59658);
+i1 = load8(p60 + 55522);
 i2 = UINT32_C(255);
 i1 = i1 & i2;
 i0 = (i0 != i1);
-if (i0) { goto l16; }
+if (i0) { goto l7; }
 j0 = v1;
-j1 = UINT64_C(256091);
+j1 = UINT64_C(17995);
 j0 = j0 + j1;
-i0 = load8(p10 + 2091);
+p64 = read_at(j0, m, 1u);
+i0 = load8(p64 + 0);
 i1 = UINT32_C(255);
 i0 = i0 & i1;
 j1 = v1;
-j2 = UINT64_C(313659);
+j2 = UINT64_C(75563);
 j1 = j1 + j2;
-i1 = load8(p10 + 59659);
+i1 = load8(p60 + 55523);
 i2 = UINT32_C(255);
 i1 = i1 & i2;
 i0 = (i0 != i1);
-if (i0) { goto l16; }
-j0 = v3;
-j1 = v5;
-j2 = v4;
+if (i0) { goto l7; }
+j0 = v5;
+j1 = v3;
+j2 = v2;
 i0 = core_cmp_slices_groups_equal_i8_31_core_cmp_numbers_U8PartialEq(m, j0, j1, j2);
 i0 = (i0 == 0);
-if (i0) { goto l16; }
+if (i0) { goto l7; }
 goto l8;
 }
-j0 = v5;
+j0 = v3;
 i0 = (j0 == 0);
 if (i0) { goto l8; }
 j0 = UINT64_C(0);
-v17 = j0;
-j0 = v3;
-i0 = load8(p10 + 2088);
-j1 = v4;
-i1 = load8(p10 + 59656);
+v25 = j0;
+j0 = v5;
+p65 = read_at(j0, m, 1u);
+i0 = load8(p65 + 0);
+j1 = v2;
+i1 = load8(p60 + 55520);
 i0 = (i0 != i1);
 if (!i0) {
 j0 = UINT64_C(1);
-v17 = j0;
-j0 = v5;
+v25 = j0;
+i0 = UINT32_C(9);
+v8 = i0;
+j0 = v3;
 j1 = UINT64_C(1);
 i0 = (j0 == j1);
-if (i0) { goto l83; }
+if (i0) { goto l50; }
 j0 = v1;
-j1 = UINT64_C(256089);
+j1 = UINT64_C(17993);
 j0 = j0 + j1;
-i0 = load8(p10 + 2089);
+p66 = read_at(j0, m, 1u);
+i0 = load8(p66 + 0);
 j1 = v1;
-j2 = UINT64_C(313657);
+j2 = UINT64_C(75561);
 j1 = j1 + j2;
-i1 = load8(p10 + 59657);
+i1 = load8(p60 + 55521);
 i0 = (i0 != i1);
 if (!i0) {
 j0 = UINT64_C(2);
-v17 = j0;
-j0 = v5;
+v25 = j0;
+j0 = v3;
 j1 = UINT64_C(2);
 i0 = (j0 == j1);
-if (i0) { goto l83; }
+if (i0) { goto l50; }
 j0 = v1;
-j1 = UINT64_C(256090);
+j1 = UINT64_C(17994);
 j0 = j0 + j1;
-i0 = load8(p10 + 2090);
+p67 = read_at(j0, m, 1u);
+i0 = load8(p67 + 0);
 j1 = v1;
-j2 = UINT64_C(313658);
+j2 = UINT64_C(75562);
 j1 = j1 + j2;
-i1 = load8(p10 + 59658);
+i1 = load8(p60 + 55522);
 i0 = (i0 == i1);
-if (i0) { goto l83; }
+if (i0) { goto l50; }
 }
 }
-j0 = v17;
-j1 = v5;
+j0 = v25;
+j1 = v3;
 i0 = (j0 < j1);
-if (i0) { goto l16; }
-l83:;
+if (i0) { goto l7; }
 i0 = UINT32_C(9);
-v9 = i0;
-goto l14;
+v8 = i0;
+goto l50;
+}
 }
 }
 j0 = v1;
-j1 = UINT64_C(276600);
+j1 = UINT64_C(38504);
 j0 = j0 + j1;
-j0 = load64(p10 + 22600);
-v4 = j0;
-i0 = v10;
+p68 = read_at(j0, m, 8u);
+j0 = load64(p68 + 0);
+v2 = j0;
+i0 = v9;
 i1 = UINT32_C(1);
 i0 = i0 & i1;
 if (!i0) {
-j0 = v4;
+j0 = v2;
 i0 = (j0 == 0);
 if (!i0) {
-j0 = v4;
+j0 = v2;
 j1 = UINT64_C(24);
 j0 = j0 * j1;
-v4 = j0;
+v2 = j0;
 i0 = (j0 == 0);
 if (!i0) {
 j0 = v1;
-j1 = UINT64_C(264312);
+j1 = UINT64_C(26216);
 j0 = j0 + j1;
 i1 = UINT32_C(0);
-j2 = v4;
+j2 = v2;
 fill(m, j0, i1, j2);
 }
 }
 j0 = v1;
-j1 = UINT64_C(313649);
+j1 = UINT64_C(75553);
 j0 = j0 + j1;
-i1 = v26;
-store8(p10 + 59649, i1);
+i1 = v21;
+p69 = write_at(j0 + UINT64_C(18446744073709551599), m, 18u);
+store8(p69 + 17, i1);
 j0 = v1;
-j1 = UINT64_C(313648);
+j1 = UINT64_C(75552);
 j0 = j0 + j1;
-i1 = v27;
-store8(p10 + 59648, i1);
+i1 = v22;
+store8(p69 + 16, i1);
 j0 = v1;
-j1 = UINT64_C(313640);
+j1 = UINT64_C(75544);
 j0 = j0 + j1;
-j1 = v28;
-store64(p10 + 59640, j1);
+j1 = v23;
+store64(p69 + 8, j1);
 j0 = v1;
-j1 = UINT64_C(313632);
+j1 = UINT64_C(75536);
 j0 = j0 + j1;
-j1 = v5;
-store64(p10 + 59632, j1);
+j1 = v3;
+store64(p69 + 0, j1);
 j0 = UINT64_C(0);
-v4 = j0;
-goto l87;
+v2 = j0;
+goto l82;
 }
-j0 = v4;
+j0 = v2;
 j1 = UINT64_C(512);
 i0 = (j0 == j1);
-if (i0) { goto l86; }
-l87:;
+if (i0) { goto l81; }
+l82:;
 j0 = v1;
-j1 = UINT64_C(264312);
+j1 = UINT64_C(26216);
 j0 = j0 + j1;
-v3 = j0;
-j1 = v4;
+v5 = j0;
+j1 = v2;
 j2 = UINT64_C(24);
 j1 = j1 * j2;
 j0 = j0 + j1;
-v5 = j0;
+v3 = j0;
+j1 = v10;
+p70 = write_at(j0, m, 24u);
+store64(p70 + 16, j1);
+j0 = v3;
 j1 = v11;
-p35 = write_at(j0, m, 24u);
-store64(p35 + 16, j1);
-j0 = v5;
-j1 = v12;
-store64(p35 + 8, j1);
-j0 = v5;
-j1 = v18;
-store64(p35 + 0, j1);
+store64(p70 + 8, j1);
+j0 = v3;
+j1 = v19;
+store64(p70 + 0, j1);
 j0 = v1;
-j1 = UINT64_C(276600);
+j1 = UINT64_C(38504);
 j0 = j0 + j1;
-j1 = v4;
+j1 = v2;
 j2 = UINT64_C(1);
 j1 = j1 + j2;
-store64(p10 + 22600, j1);
+p71 = write_at(j0 + UINT64_C(18446744073709533152), m, 18472u);
+store64(p71 + 18464, j1);
 j0 = v1;
-j1 = UINT64_C(256088);
+j1 = UINT64_C(17992);
 j0 = j0 + j1;
 j1 = v1;
-j2 = UINT64_C(258136);
+j2 = UINT64_C(20040);
 j1 = j1 + j2;
-j1 = load64(p10 + 4136);
-j2 = v3;
+j1 = load64(p71 + 0);
+j2 = v5;
 j3 = v1;
-j4 = UINT64_C(313656);
+j4 = UINT64_C(75560);
 j3 = j3 + j4;
-v40 = j3;
-j4 = v6;
+v35 = j3;
+j4 = v4;
 i0 = fio_log_by_forms_take_message(m, j0, j1, j2, j3, j4);
-if (i0) { goto l85; }
-l86:;
-j0 = v6;
+if (i0) { goto l80; }
+l81:;
+j0 = v4;
 j1 = UINT64_C(16384);
 j0 = j0 + j1;
-p36 = read_at(j0, m, 8u);
-j0 = load64(p36 + 0);
-v5 = j0;
+p72 = read_at(j0, m, 8u);
+j0 = load64(p72 + 0);
+v3 = j0;
 i0 = (j0 == 0);
-v22 = i0;
+v20 = i0;
 if (!i0) {
-i0 = v22;
+i0 = v20;
 if (!i0) {
-j0 = v6;
+j0 = v4;
 i1 = UINT32_C(0);
-j2 = v5;
+j2 = v3;
 fill(m, j0, i1, j2);
 }
-j0 = v6;
+j0 = v4;
 j1 = UINT64_C(16384);
 j0 = j0 + j1;
 j1 = UINT64_C(0);
-p37 = write_at(j0, m, 8u);
-store64(p37 + 0, j1);
+p73 = write_at(j0, m, 8u);
+store64(p73 + 0, j1);
 }
-j0 = v6;
+j0 = v4;
 j1 = UINT64_C(24584);
 j0 = j0 + j1;
-p38 = read_at(j0, m, 8u);
-j0 = load64(p38 + 0);
-v5 = j0;
+p74 = read_at(j0, m, 8u);
+j0 = load64(p74 + 0);
+v3 = j0;
 i0 = (j0 == 0);
 if (!i0) {
-j0 = v5;
+j0 = v3;
 j1 = UINT64_C(2);
 j0 = j0 << (j1 & 63);
-v5 = j0;
+v3 = j0;
 i0 = (j0 == 0);
 if (!i0) {
-j0 = v6;
+j0 = v4;
 j1 = UINT64_C(16392);
 j0 = j0 + j1;
 i1 = UINT32_C(0);
-j2 = v5;
+j2 = v3;
 fill(m, j0, i1, j2);
 }
-j0 = v6;
+j0 = v4;
 j1 = UINT64_C(24584);
 j0 = j0 + j1;
 j1 = UINT64_C(0);
-p39 = write_at(j0, m, 8u);
-store64(p39 + 0, j1);
+p75 = write_at(j0, m, 8u);
+store64(p75 + 0, j1);
 }
 i0 = UINT32_C(5);
-v9 = i0;
+v8 = i0;
 i0 = UINT32_C(4);
-v31 = i0;
-j0 = v6;
+v28 = i0;
+j0 = v4;
 j1 = UINT64_C(49168);
 j0 = j0 + j1;
-p40 = read_at(j0, m, 8u);
-j0 = load64(p40 + 0);
-v5 = j0;
+p76 = read_at(j0, m, 8u);
+j0 = load64(p76 + 0);
+v3 = j0;
 i0 = (j0 == 0);
-if (i0) { goto l7; }
+i0 = (i0 == 0);
+if (!i0) {
 i0 = UINT32_C(0);
-v8 = i0;
-j0 = v5;
+v7 = i0;
+goto l6;
+}
+i0 = UINT32_C(0);
+v7 = i0;
+j0 = v3;
 j1 = UINT64_C(24);
 j0 = j0 * j1;
-v5 = j0;
+v3 = j0;
 i0 = (j0 == 0);
 if (!i0) {
-j0 = v6;
+j0 = v4;
 j1 = UINT64_C(24592);
 j0 = j0 + j1;
 i1 = UINT32_C(0);
-j2 = v5;
+j2 = v3;
 fill(m, j0, i1, j2);
 }
-j0 = v6;
+j0 = v4;
 j1 = UINT64_C(49168);
 j0 = j0 + j1;
 j1 = UINT64_C(0);
-p41 = write_at(j0, m, 8u);
-store64(p41 + 0, j1);
-goto l7;
-l85:;
+p77 = write_at(j0, m, 8u);
+store64(p77 + 0, j1);
+goto l6;
+l80:;
 i0 = UINT32_C(1);
-v32 = i0;
-j0 = v14;
-j1 = v1;
-j2 = UINT64_C(250648);
-j1 = j1 + j2;
-p42 = read_at(j1, m, 8u);
-j1 = load64(p42 + 0);
-v33 = j1;
-i0 = (j0 >= j1);
-v10 = i0;
+v9 = i0;
+j0 = v1;
+p78 = read_at(j0, m, 1u);
+i0 = load8(p78 + 0);
+i1 = UINT32_C(1);
+i0 = (i0 == i1);
 if (!i0) {
-j0 = v21;
-j1 = v11;
+i0 = UINT32_C(0);
+v8 = i0;
+goto l9;
+}
+j0 = v13;
+j1 = v1;
+j2 = UINT64_C(12552);
+j1 = j1 + j2;
+p79 = read_at(j1, m, 8u);
+j1 = load64(p79 + 0);
+v26 = j1;
 i0 = (j0 < j1);
 if (!i0) {
-j0 = v21;
-j1 = v11;
+i0 = UINT32_C(0);
+v8 = i0;
+goto l9;
+}
+j0 = v13;
+j1 = UINT64_C(784);
+j0 = j0 * j1;
+v27 = j0;
+j0 = v1;
+j1 = UINT64_C(8);
+j0 = j0 + j1;
+v30 = j0;
+j0 = v17;
+j1 = v10;
+i0 = (j0 < j1);
+if (i0) { goto l72; }
+j0 = v17;
+j1 = v10;
 i0 = (j0 == j1);
-if (!i0) {
-j0 = v21;
-j1 = v11;
+if (i0) { goto l72; }
+j0 = v17;
+j1 = v10;
 j0 = j0 - j1;
-v34 = j0;
-j0 = v25;
+v36 = j0;
+j0 = v30;
+j1 = v27;
+j0 = j0 + j1;
+v37 = j0;
 j1 = UINT64_C(656);
 j0 = j0 + j1;
-p43 = read_at(j0, m, 8u);
-j0 = load64(p43 + 0);
-v17 = j0;
+p80 = read_at(j0, m, 8u);
+j0 = load64(p80 + 0);
+v25 = j0;
 i0 = (j0 == 0);
 i0 = (i0 == 0);
 if (!i0) {
 j0 = UINT64_C(0);
-v30 = j0;
-goto l96;
+v16 = j0;
+goto l93;
 }
-j0 = v20;
-j1 = v11;
+j0 = v18;
+j1 = v10;
 j0 = j0 + j1;
-v41 = j0;
-j0 = v24;
+v38 = j0;
+j0 = v27;
 j1 = v1;
 j0 = j0 + j1;
-j1 = UINT64_C(238633);
+j1 = UINT64_C(537);
 j0 = j0 + j1;
-v5 = j0;
-j0 = UINT64_C(0);
-v4 = j0;
-j0 = UINT64_C(0);
 v3 = j0;
-l98:;
-j0 = v5;
+j0 = UINT64_C(0);
+v2 = j0;
+j0 = UINT64_C(0);
+v5 = j0;
+l95:;
+j0 = v3;
 j1 = UINT64_C(18446744073709551615);
 j0 = j0 + j1;
-p44 = read_at(j0, m, 1u);
-j0 = load8(p44 + 0);
+p81 = read_at(j0, m, 1u);
+j0 = load8(p81 + 0);
 i0 = (uint32_t)j0;
 switch (i0) {
 case 0:
-goto l101;
+goto l98;
 case 1:
-goto l100;
+goto l97;
 case 2:
-goto l99;
-default:
-goto l101;
-}
-l101:;
-j0 = UINT64_C(0);
-v3 = j0;
-j0 = v4;
-v30 = j0;
-j0 = v4;
-i0 = (j0 == 0);
-if (i0) { goto l99; }
 goto l96;
-l100:;
+default:
+goto l98;
+}
+l98:;
 j0 = UINT64_C(0);
-v30 = j0;
-j0 = v4;
-j1 = v34;
+v5 = j0;
+j0 = v2;
+v16 = j0;
+j0 = v2;
+i0 = (j0 == 0);
+if (i0) { goto l96; }
+goto l93;
+l97:;
+j0 = UINT64_C(0);
+v16 = j0;
+j0 = v2;
+j1 = v36;
 i0 = (j0 >= j1);
-if (i0) { goto l96; }
-j0 = v41;
-j1 = v4;
+if (i0) { goto l93; }
+j0 = v38;
+j1 = v2;
 j0 = j0 + j1;
-p45 = read_at(j0, m, 1u);
-i0 = load8(p45 + 0);
-j1 = v5;
-p46 = read_at(j1, m, 1u);
-i1 = load8(p46 + 0);
+p82 = read_at(j0, m, 1u);
+i0 = load8(p82 + 0);
+j1 = v3;
+p83 = read_at(j1, m, 1u);
+i1 = load8(p83 + 0);
 i0 = (i0 != i1);
-if (i0) { goto l96; }
-j0 = v4;
+if (i0) { goto l93; }
+j0 = v2;
 j1 = UINT64_C(1);
 j0 = j0 + j1;
-v3 = j0;
-l99:;
-j0 = v5;
+v5 = j0;
+l96:;
+j0 = v3;
 j1 = UINT64_C(2);
 j0 = j0 + j1;
-v5 = j0;
-j0 = v3;
-v4 = j0;
-j0 = v3;
-v30 = j0;
-j0 = v17;
+v3 = j0;
+j0 = v5;
+v2 = j0;
+j0 = v5;
+v16 = j0;
+j0 = v25;
 j1 = UINT64_C(18446744073709551615);
 j0 = j0 + j1;
-v17 = j0;
+v25 = j0;
 i0 = (j0 == 0);
 i0 = (i0 == 0);
-if (i0) { goto l98; }
-l96:;
-j0 = v30;
-j1 = v34;
+if (i0) { goto l95; }
+l93:;
+i0 = UINT32_C(1);
+v9 = i0;
+j0 = v16;
+j1 = v36;
 i0 = (j0 >= j1);
 if (!i0) {
-j0 = v25;
+j0 = v37;
 j1 = UINT64_C(521);
 j0 = j0 + j1;
-p47 = read_at(j0 + UINT64_C(18446744073709551615), m, 2u);
-i0 = load8(p47 + 1);
-v9 = i0;
-j0 = v25;
+p84 = read_at(j0 + UINT64_C(18446744073709551615), m, 2u);
+i0 = load8(p84 + 1);
+v28 = i0;
+j0 = v37;
 j1 = UINT64_C(520);
 j0 = j0 + j1;
-i0 = load8(p47 + 0);
-v22 = i0;
-j0 = v7;
+i0 = load8(p84 + 0);
+v20 = i0;
+j0 = v6;
 i1 = UINT32_C(0);
-store16(p1 + 425, i1);
-j0 = v7;
+store16(p1 + 321, i1);
+j0 = v6;
 i1 = UINT32_C(0);
-store8(p1 + 424, i1);
-j0 = v7;
+store8(p1 + 320, i1);
+j0 = v6;
 i1 = UINT32_C(0);
-store32(p1 + 12976, i1);
-j0 = v7;
+store32(p1 + 352, i1);
+j0 = v6;
 i1 = UINT32_C(0);
-store8(p1 + 12980, i1);
+store8(p1 + 356, i1);
 j0 = UINT64_C(0);
-j1 = v11;
+j1 = v10;
 j0 = j0 - j1;
-v17 = j0;
-j0 = v21;
-j1 = v30;
+v25 = j0;
+j0 = v17;
+j1 = v16;
 j0 = j0 - j1;
-v5 = j0;
-j0 = v20;
-j1 = v30;
+v3 = j0;
+j0 = v18;
+j1 = v16;
 j0 = j0 + j1;
-v4 = j0;
-l103:;
-i0 = v22;
-j1 = v7;
-j2 = UINT64_C(424);
+v2 = j0;
+l101:;
+i0 = v20;
+j1 = v6;
+j2 = UINT64_C(320);
 j1 = j1 + j2;
-j2 = v4;
-j3 = v11;
+j2 = v2;
+j3 = v10;
 j2 = j2 + j3;
-v3 = j2;
+v5 = j2;
 j3 = UINT64_C(1);
 j2 = j2 + j3;
-j3 = v17;
-j4 = v5;
+j3 = v25;
+j4 = v3;
 j3 = j3 + j4;
 j4 = UINT64_C(18446744073709551615);
 j3 = j3 + j4;
 i0 = fio_form_octets_makes_longer(m, i0, j1, j2, j3);
 v8 = i0;
-j0 = v7;
-j1 = UINT64_C(12976);
+j0 = v6;
+j1 = UINT64_C(352);
 j0 = j0 + j1;
-i1 = v22;
-i2 = v9;
-j3 = v7;
-j4 = UINT64_C(424);
+i1 = v20;
+i2 = v28;
+j3 = v6;
+j4 = UINT64_C(320);
 j3 = j3 + j4;
-j4 = v3;
-p48 = read_at(j4, m, 1u);
-i4 = load8(p48 + 0);
+j4 = v5;
+p85 = read_at(j4, m, 1u);
+i4 = load8(p85 + 0);
 i5 = v8;
 fio_form_octets_next_in(m, j0, i1, i2, j3, i4, i5);
-j0 = v7;
-i0 = load8(p1 + 12976);
+j0 = v6;
+i0 = load8(p1 + 352);
 v8 = i0;
-if (i0) { goto l102; }
-j0 = v7;
-j1 = v7;
-i1 = load8(p1 + 12979);
-store8(p1 + 426, i1);
-j0 = v7;
-j1 = v7;
-i1 = load16(p1 + 12977);
-store16(p1 + 424, i1);
-j0 = v4;
+if (i0) { goto l100; }
+j0 = v6;
+j1 = v6;
+i1 = load8(p1 + 355);
+store8(p1 + 322, i1);
+j0 = v6;
+j1 = v6;
+i1 = load16(p1 + 353);
+store16(p1 + 320, i1);
+j0 = v2;
 j1 = UINT64_C(1);
 j0 = j0 + j1;
-v4 = j0;
-j0 = v11;
-j1 = v5;
+v2 = j0;
+j0 = v10;
+j1 = v3;
 j2 = UINT64_C(18446744073709551615);
 j1 = j1 + j2;
-v5 = j1;
+v3 = j1;
 i0 = (j0 != j1);
-if (i0) { goto l103; }
-l102:;
+if (i0) { goto l101; }
+l100:;
 i0 = v8;
 i1 = UINT32_C(0);
 i0 = (i0 != i1);
-v32 = i0;
-}
-}
-}
-}
-j0 = v7;
-j1 = UINT64_C(0);
-store64(p1 + 13024, j1);
-j0 = v7;
-j1 = UINT64_C(0);
-store64(p1 + 13016, j1);
-j0 = v7;
-j1 = UINT64_C(0);
-store64(p1 + 13008, j1);
-j0 = v7;
-j1 = UINT64_C(0);
-store64(p1 + 13000, j1);
-j0 = v7;
-j1 = UINT64_C(0);
-store64(p1 + 12992, j1);
-j0 = v7;
-j1 = UINT64_C(0);
-store64(p1 + 12984, j1);
-j0 = v7;
-j1 = UINT64_C(0);
-store64(p1 + 12976, j1);
-i0 = UINT32_C(0);
-v9 = i0;
-i0 = v10;
-if (!i0) {
-j0 = v25;
-j1 = UINT64_C(768);
-j0 = j0 + j1;
-p49 = read_at(j0, m, 1u);
-i0 = load8(p49 + 0);
-i1 = UINT32_C(1);
-i0 = (i0 != i1);
-if (!i0) {
-j0 = v13;
-j1 = v21;
-i0 = (j0 > j1);
-if (!i0) {
-j0 = v7;
-j1 = UINT64_C(12976);
-j0 = j0 + j1;
-j1 = v23;
-j2 = v33;
-j3 = v20;
-j4 = v13;
-j5 = UINT64_C(0);
-j6 = v1;
-j7 = UINT64_C(315712);
-j6 = j6 + j7;
-j7 = v1;
-j8 = UINT64_C(317768);
-j7 = j7 + j8;
-fio_log_second_second_in(m, j0, j1, j2, j3, j4, j5, j6, j7);
-i0 = UINT32_C(4);
-i1 = UINT32_C(0);
-j2 = v7;
-i2 = load8(p1 + 12976);
-i3 = UINT32_C(255);
-i2 = i2 & i3;
-i3 = UINT32_C(1);
-i2 = (i2 == i3);
-i0 = i2 ? i0 : i1;
 v9 = i0;
 }
-}
-}
-j0 = v7;
+j0 = v6;
 j1 = UINT64_C(0);
-store64(p1 + 13024, j1);
-j0 = v7;
+store64(p1 + 400, j1);
+j0 = v6;
 j1 = UINT64_C(0);
-store64(p1 + 13016, j1);
-j0 = v7;
+store64(p1 + 392, j1);
+j0 = v6;
 j1 = UINT64_C(0);
-store64(p1 + 13008, j1);
-j0 = v7;
+store64(p1 + 384, j1);
+j0 = v6;
 j1 = UINT64_C(0);
-store64(p1 + 13000, j1);
-j0 = v7;
+store64(p1 + 376, j1);
+j0 = v6;
 j1 = UINT64_C(0);
-store64(p1 + 12992, j1);
-j0 = v7;
+store64(p1 + 368, j1);
+j0 = v6;
 j1 = UINT64_C(0);
-store64(p1 + 12984, j1);
-j0 = v7;
+store64(p1 + 360, j1);
+j0 = v6;
 j1 = UINT64_C(0);
-store64(p1 + 12976, j1);
-j0 = v21;
-j1 = v11;
-i0 = (j0 > j1);
-if (!i0) {
-i0 = v32;
-if (i0) { goto l9; }
+store64(p1 + 352, j1);
 goto l10;
-}
+l75:;
 j0 = v1;
-j1 = UINT64_C(313656);
+j1 = UINT64_C(38504);
 j0 = j0 + j1;
-v42 = j0;
-j0 = v1;
-j1 = UINT64_C(315712);
-j0 = j0 + j1;
-v33 = j0;
-j0 = v6;
-j1 = UINT64_C(24592);
-j0 = j0 + j1;
-v43 = j0;
-j0 = v6;
-j1 = UINT64_C(16392);
-j0 = j0 + j1;
-v44 = j0;
-j0 = v1;
-j1 = UINT64_C(317768);
-j0 = j0 + j1;
-v45 = j0;
-i0 = UINT32_C(1);
-v8 = i0;
-j0 = v11;
-v41 = j0;
-l107:;
-j0 = v7;
-j1 = UINT64_C(12976);
-j0 = j0 + j1;
-j1 = v23;
-j2 = v1;
-j3 = UINT64_C(250648);
-j2 = j2 + j3;
-p50 = read_at(j2, m, 8u);
-j2 = load64(p50 + 0);
-j3 = v20;
-j4 = v21;
-j5 = v11;
-j6 = v33;
-j7 = v45;
-fio_log_second_second_in(m, j0, j1, j2, j3, j4, j5, j6, j7);
-j0 = v7;
-i0 = load8(p1 + 12976);
-i1 = UINT32_C(1);
-i0 = (i0 == i1);
-if (!i0) {
-j0 = v11;
-v30 = j0;
-i0 = UINT32_C(1);
-v22 = i0;
-goto l106;
-}
-j0 = v7;
-j0 = load64(p1 + 13016);
-j1 = UINT64_C(0);
-j2 = v7;
-i2 = load8(p1 + 13008);
-i3 = UINT32_C(2);
-i2 = (i2 < i3);
-v22 = i2;
-j0 = i2 ? j0 : j1;
-v25 = j0;
-j1 = v7;
-j1 = load64(p1 + 13024);
-j2 = UINT64_C(0);
-i3 = v22;
-j1 = i3 ? j1 : j2;
-v34 = j1;
-i0 = (j0 >= j1);
-if (i0) { goto l10; }
-j0 = v1;
-j1 = UINT64_C(317760);
-j0 = j0 + j1;
-j0 = load64(p10 + 63760);
-j1 = v34;
-i0 = (j0 < j1);
-if (i0) { goto l10; }
-j0 = v7;
-j0 = load64(p1 + 13000);
-v30 = j0;
-j1 = v11;
-i0 = (j0 <= j1);
-if (i0) { goto l10; }
-j0 = v7;
-j0 = load64(p1 + 12992);
-v46 = j0;
-j0 = v7;
-j0 = load64(p1 + 12984);
-v47 = j0;
-i0 = UINT32_C(0);
-v10 = i0;
-j0 = v33;
-j1 = v25;
-j0 = j0 + j1;
-v24 = j0;
-j1 = v34;
-j2 = v25;
-j1 = j1 - j2;
-v13 = j1;
-i0 = fio_log_own_texts_spells(m, j0, j1);
-i0 = (i0 == 0);
-if (!i0) {
-j0 = v6;
-j1 = UINT64_C(24584);
-j0 = j0 + j1;
-p51 = read_at(j0, m, 8u);
-j0 = load64(p51 + 0);
-j1 = UINT64_C(2047);
-i0 = (j0 > j1);
-if (!i0) {
-j0 = v13;
-j1 = UINT64_C(16384);
-j2 = v6;
-j3 = UINT64_C(16384);
-j2 = j2 + j3;
-p52 = read_at(j2, m, 8u);
-j2 = load64(p52 + 0);
-v48 = j2;
-j1 = j1 - j2;
-i0 = (j0 > j1);
-if (!i0) {
-j0 = v6;
-j1 = v48;
-j0 = j0 + j1;
-v49 = j0;
-j1 = v24;
-j0 = j0 - j1;
-j1 = v13;
-i0 = (j0 >= j1);
-if (!i0) {
-j0 = v13;
-j1 = UINT64_C(3);
-j0 = j0 & j1;
-v17 = j0;
-j0 = UINT64_C(0);
-v4 = j0;
-j0 = v25;
-j1 = v34;
-j0 = j0 - j1;
-j1 = UINT64_C(18446744073709551612);
-i0 = (j0 > j1);
-if (!i0) {
-j0 = v1;
-j1 = v25;
-j0 = j0 + j1;
-v39 = j0;
-j0 = v13;
-j1 = UINT64_C(18446744073709551612);
-j0 = j0 & j1;
-v50 = j0;
-j0 = UINT64_C(0);
-v4 = j0;
-for (;;) {
-j0 = v49;
-j1 = v4;
-j0 = j0 + j1;
-v5 = j0;
-j1 = v39;
-j2 = v4;
-j1 = j1 + j2;
-v3 = j1;
-j2 = UINT64_C(315712);
-j1 = j1 + j2;
-p53 = read_at(j1, m, 4u);
-i1 = load8(p53 + 0);
-p54 = write_at(j0, m, 4u);
-store8(p54 + 0, i1);
-j0 = v5;
-j1 = UINT64_C(1);
-j0 = j0 + j1;
-j1 = v3;
-j2 = UINT64_C(315713);
-j1 = j1 + j2;
-i1 = load8(p53 + 1);
-store8(p54 + 1, i1);
-j0 = v5;
-j1 = UINT64_C(2);
-j0 = j0 + j1;
-j1 = v3;
-j2 = UINT64_C(315714);
-j1 = j1 + j2;
-i1 = load8(p53 + 2);
-store8(p54 + 2, i1);
-j0 = v5;
-j1 = UINT64_C(3);
-j0 = j0 + j1;
-j1 = v3;
-j2 = UINT64_C(315715);
-j1 = j1 + j2;
-i1 = load8(p53 + 3);
-store8(p54 + 3, i1);
-j0 = v50;
-j1 = v4;
-j2 = UINT64_C(4);
-j1 = j1 + j2;
-v4 = j1;
-i0 = (j0 != j1);
-if (!i0) break;
-}
-j0 = v17;
-i0 = (j0 == 0);
-if (i0) { goto l110; }
-}
-j0 = v6;
-j1 = v4;
-j2 = v48;
-j1 = j1 + j2;
-j0 = j0 + j1;
-v5 = j0;
-j0 = v33;
-j1 = v25;
-j2 = v4;
-j1 = j1 + j2;
-j0 = j0 + j1;
-v4 = j0;
-l114:;
-j0 = v5;
-j1 = v4;
-p55 = read_at(j1, m, 1u);
-i1 = load8(p55 + 0);
-p56 = write_at(j0, m, 1u);
-store8(p56 + 0, i1);
-j0 = v5;
-j1 = UINT64_C(1);
-j0 = j0 + j1;
-v5 = j0;
-j0 = v4;
-j1 = UINT64_C(1);
-j0 = j0 + j1;
-v4 = j0;
-j0 = v17;
-j1 = UINT64_C(18446744073709551615);
-j0 = j0 + j1;
-v17 = j0;
-j1 = UINT64_C(0);
-i0 = (j0 != j1);
-if (i0) { goto l114; }
-goto l110;
-}
-j0 = v13;
-i0 = (j0 == 0);
-if (!i0) {
-j0 = v49;
-j1 = v24;
-j2 = v13;
-copy(m, j0, j1, j2);
-}
-l110:;
-j0 = v6;
-j1 = UINT64_C(16384);
-j0 = j0 + j1;
-j1 = v48;
-j2 = v13;
-j1 = j1 + j2;
-v4 = j1;
-p57 = write_at(j0, m, 8u);
-store64(p57 + 0, j1);
-j0 = v6;
-j1 = UINT64_C(24584);
-j0 = j0 + j1;
-v3 = j0;
-j0 = load64(p51 + 0);
-v5 = j0;
-j1 = UINT64_C(2048);
-i0 = (j0 == j1);
-if (!i0) {
-j0 = v44;
-j1 = v5;
-j2 = UINT64_C(2);
-j1 = j1 << (j2 & 63);
-j0 = j0 + j1;
-j1 = v4;
-p58 = write_at(j0, m, 4u);
-store32(p58 + 0, j1);
-j0 = v3;
-j1 = v5;
-j2 = UINT64_C(1);
-j1 = j1 + j2;
-p59 = write_at(j0, m, 8u);
-store64(p59 + 0, j1);
-}
-j0 = v6;
-j1 = UINT64_C(49168);
-j0 = j0 + j1;
-v4 = j0;
-p60 = read_at(j0, m, 8u);
-j0 = load64(p60 + 0);
-v5 = j0;
-j1 = UINT64_C(1024);
-i0 = (j0 == j1);
-if (!i0) {
-j0 = v43;
-j1 = v5;
-j2 = UINT64_C(24);
-j1 = j1 * j2;
-j0 = j0 + j1;
-v3 = j0;
-j1 = v30;
-p61 = write_at(j0, m, 24u);
-store64(p61 + 16, j1);
-j0 = v3;
-j1 = v46;
-store64(p61 + 8, j1);
-j0 = v3;
-j1 = v18;
-store64(p61 + 0, j1);
-j0 = v4;
-j1 = v5;
-j2 = UINT64_C(1);
-j1 = j1 + j2;
-p62 = write_at(j0, m, 8u);
-store64(p62 + 0, j1);
-i0 = UINT32_C(1);
-v10 = i0;
-}
-}
-}
-}
-i0 = UINT32_C(1);
-v22 = i0;
-j0 = v1;
-j1 = UINT64_C(315704);
-j0 = j0 + j1;
-j0 = load64(p10 + 61704);
-v5 = j0;
-i0 = v8;
-i1 = UINT32_C(1);
-i0 = i0 & i1;
-i0 = (i0 == 0);
-if (!i0) {
-j0 = v5;
-i0 = (j0 == 0);
-if (i0) { goto l116; }
-i0 = UINT32_C(0);
-v22 = i0;
-j0 = v24;
-p63 = read_at(j0, m, 1u);
-i0 = (uint32_t)extend(load8(p63 + 0), 7);
-v8 = i0;
-j0 = v40;
-p64 = read_at(j0, m, 1u);
-i0 = (uint32_t)extend(load8(p64 + 0), 7);
-v31 = i0;
-i1 = UINT32_C(0);
-i0 = (SIGNED32(i0) < SIGNED32(i1));
-if (!i0) {
-i0 = UINT32_C(1);
-v22 = i0;
-i0 = v8;
-i1 = UINT32_C(4294967295);
-i0 = (SIGNED32(i0) > SIGNED32(i1));
-if (i0) { goto l117; }
-j0 = v5;
-j1 = UINT64_C(1);
-i0 = (j0 == j1);
-if (!i0) {
-i0 = v31;
-i1 = UINT32_C(54);
-i0 = (i0 != i1);
-if (!i0) {
-i0 = UINT32_C(0);
-v22 = i0;
-j0 = v13;
-j1 = UINT64_C(1);
-i0 = (j0 == j1);
-if (i0) { goto l117; }
-i0 = v8;
-i1 = UINT32_C(4294967222);
-i0 = (i0 != i1);
-if (i0) { goto l120; }
-j0 = v1;
-j1 = UINT64_C(313657);
-j0 = j0 + j1;
-i0 = load8(p10 + 59657);
-j1 = v24;
-j2 = UINT64_C(1);
-j1 = j1 + j2;
-p65 = read_at(j1, m, 1u);
-i1 = load8(p65 + 0);
-i0 = (i0 == i1);
-v22 = i0;
-goto l117;
-}
-}
-i0 = UINT32_C(0);
-v22 = i0;
-j0 = v13;
-j1 = UINT64_C(1);
-i0 = (j0 == j1);
-if (i0) { goto l117; }
-l120:;
-i0 = v31;
-i1 = UINT32_C(54);
-i0 = (i0 != i1);
-i1 = v8;
-i2 = v31;
-i1 = i1 ^ i2;
-i2 = UINT32_C(4294967168);
-i1 = (i1 == i2);
-i0 = i0 & i1;
-v22 = i0;
-goto l117;
-}
-i0 = v8;
-i1 = UINT32_C(0);
-i0 = (SIGNED32(i0) < SIGNED32(i1));
-if (i0) { goto l117; }
-j0 = v13;
-j1 = UINT64_C(1);
-i0 = (j0 == j1);
-if (!i0) {
-i0 = v8;
-i1 = UINT32_C(54);
-i0 = (i0 != i1);
-if (!i0) {
-j0 = v5;
-j1 = UINT64_C(1);
-i0 = (j0 != j1);
-if (!i0) {
-i0 = UINT32_C(0);
-v22 = i0;
-goto l122;
-}
-i0 = v31;
-i1 = UINT32_C(4294967222);
-i0 = (i0 != i1);
-if (i0) { goto l123; }
-j0 = v24;
-j1 = UINT64_C(1);
-j0 = j0 + j1;
-p66 = read_at(j0, m, 1u);
-i0 = load8(p66 + 0);
-j1 = v1;
-j2 = UINT64_C(313657);
-j1 = j1 + j2;
-i1 = load8(p10 + 59657);
-i0 = (i0 == i1);
-v22 = i0;
-goto l122;
-}
-}
-j0 = v5;
-j1 = UINT64_C(1);
-i0 = (j0 != j1);
-if (!i0) {
-i0 = UINT32_C(0);
-v22 = i0;
-goto l122;
-}
-l123:;
-i0 = v8;
-i1 = UINT32_C(54);
-i0 = (i0 != i1);
-i1 = v8;
-i2 = v31;
-i1 = i1 ^ i2;
-i2 = UINT32_C(4294967168);
-i1 = (i1 == i2);
-i0 = i0 & i1;
-v22 = i0;
-l122:;
-i0 = v22;
-i1 = UINT32_C(1);
-i0 = i0 ^ i1;
-v22 = i0;
-goto l117;
-}
-i0 = UINT32_C(0);
-v22 = i0;
-j0 = v5;
-i0 = (j0 == 0);
-if (i0) { goto l116; }
-l117:;
-j0 = v5;
-i0 = (j0 == 0);
-if (!i0) {
-j0 = v40;
-i1 = UINT32_C(0);
-j2 = v5;
-fill(m, j0, i1, j2);
-}
-j0 = v1;
-j1 = UINT64_C(315704);
-j0 = j0 + j1;
-j1 = UINT64_C(0);
-store64(p10 + 61704, j1);
-l116:;
-j0 = v13;
-j1 = UINT64_C(2048);
-i0 = (j0 > j1);
-if (!i0) {
-j0 = UINT64_C(18446744073709549560);
-j1 = v25;
-j0 = j0 - j1;
-j1 = v13;
-i0 = (j0 >= j1);
-if (!i0) {
-j0 = v13;
-j1 = UINT64_C(3);
-j0 = j0 & j1;
-v17 = j0;
-j0 = UINT64_C(0);
-v5 = j0;
-j0 = v25;
-j1 = v34;
-j0 = j0 - j1;
-j1 = UINT64_C(18446744073709551612);
-i0 = (j0 > j1);
-if (!i0) {
-j0 = v1;
-j1 = v25;
-j0 = j0 + j1;
-v34 = j0;
-j0 = v13;
-j1 = UINT64_C(4092);
-j0 = j0 & j1;
-v24 = j0;
-j0 = UINT64_C(0);
-v5 = j0;
-for (;;) {
-j0 = v1;
-j1 = v5;
-j0 = j0 + j1;
-v4 = j0;
-j1 = UINT64_C(313656);
-j0 = j0 + j1;
-j1 = v34;
-j2 = v5;
-j1 = j1 + j2;
-v3 = j1;
-j2 = UINT64_C(315712);
-j1 = j1 + j2;
-p67 = read_at(j1, m, 4u);
-i1 = load8(p67 + 0);
-p68 = write_at(j0, m, 4u);
-store8(p68 + 0, i1);
-j0 = v4;
-j1 = UINT64_C(313657);
-j0 = j0 + j1;
-j1 = v3;
-j2 = UINT64_C(315713);
-j1 = j1 + j2;
-i1 = load8(p67 + 1);
-store8(p68 + 1, i1);
-j0 = v4;
-j1 = UINT64_C(313658);
-j0 = j0 + j1;
-j1 = v3;
-j2 = UINT64_C(315714);
-j1 = j1 + j2;
-i1 = load8(p67 + 2);
-store8(p68 + 2, i1);
-j0 = v4;
-j1 = UINT64_C(313659);
-j0 = j0 + j1;
-j1 = v3;
-j2 = UINT64_C(315715);
-j1 = j1 + j2;
-i1 = load8(p67 + 3);
-store8(p68 + 3, i1);
-j0 = v24;
-j1 = v5;
-j2 = UINT64_C(4);
-j1 = j1 + j2;
-v5 = j1;
-i0 = (j0 != j1);
-if (!i0) break;
-}
-j0 = v17;
-i0 = (j0 == 0);
-if (i0) { goto l128; }
-}
-j0 = v42;
-j1 = v5;
-j0 = j0 + j1;
-v5 = j0;
-l132:;
-j0 = v5;
-j1 = v5;
-j2 = v25;
-j1 = j1 + j2;
-j2 = UINT64_C(2056);
-j1 = j1 + j2;
-p69 = read_at(j1, m, 1u);
-i1 = load8(p69 + 0);
-p70 = write_at(j0, m, 1u);
-store8(p70 + 0, i1);
-j0 = v5;
-j1 = UINT64_C(1);
-j0 = j0 + j1;
-v5 = j0;
-j0 = v17;
-j1 = UINT64_C(18446744073709551615);
-j0 = j0 + j1;
-v17 = j0;
-j1 = UINT64_C(0);
-i0 = (j0 != j1);
-if (i0) { goto l132; }
-goto l128;
-}
-j0 = v13;
-i0 = (j0 == 0);
-if (!i0) {
-j0 = v40;
-j1 = v24;
-j2 = v13;
-copy(m, j0, j1, j2);
-}
-l128:;
-j0 = v1;
-j1 = UINT64_C(315704);
-j0 = j0 + j1;
-j1 = v13;
-store64(p10 + 61704, j1);
-}
-i0 = UINT32_C(0);
-v8 = i0;
-i0 = v10;
-i1 = v22;
-i0 = i0 & i1;
-i1 = UINT32_C(1);
-i0 = (i0 != i1);
-if (!i0) {
-j0 = v47;
-j1 = v11;
-i0 = (j0 > j1);
-if (!i0) {
-i0 = UINT32_C(1);
-v8 = i0;
-goto l133;
-}
-i0 = UINT32_C(1);
-v8 = i0;
-j0 = v21;
-j1 = v47;
-i0 = (j0 < j1);
-if (!i0) {
-j0 = v23;
-j1 = v1;
-j2 = UINT64_C(250648);
-j1 = j1 + j2;
-j1 = load64(p50 + 0);
-j2 = v20;
-j3 = v11;
-j2 = j2 + j3;
-j3 = v47;
-j4 = v11;
-j3 = j3 - j4;
-j4 = v33;
-i0 = fio_log_quiet_held_by_text(m, j0, j1, j2, j3, j4);
-i1 = UINT32_C(255);
-i0 = i0 & i1;
-i0 = (i0 == 0);
-v8 = i0;
-}
-}
-l133:;
-j0 = v21;
-j1 = v30;
-i0 = (j0 > j1);
-v22 = i0;
-j0 = v41;
-j1 = UINT64_C(1);
-j0 = j0 + j1;
-v41 = j0;
-j1 = v21;
-i0 = (j0 >= j1);
-if (i0) { goto l106; }
-j0 = v30;
-v11 = j0;
-j0 = v21;
-j1 = v30;
-i0 = (j0 > j1);
-if (i0) { goto l107; }
-l106:;
-i0 = UINT32_C(1);
-v31 = i0;
-i0 = v8;
-i1 = UINT32_C(1);
-i0 = i0 & i1;
-i0 = (i0 == 0);
-if (!i0) {
-i0 = v22;
-i0 = (i0 == 0);
-if (!i0) {
-i0 = v32;
-j1 = v23;
-j2 = v1;
-j3 = UINT64_C(250648);
-j2 = j2 + j3;
-p71 = read_at(j2, m, 8u);
-j2 = load64(p71 + 0);
-j3 = v20;
-j4 = v30;
-j3 = j3 + j4;
-j4 = v21;
-j5 = v30;
-j4 = j4 - j5;
-j5 = v33;
-i1 = fio_log_quiet_held_by_text(m, j1, j2, j3, j4, j5);
-i2 = UINT32_C(255);
-i1 = i1 & i2;
-i1 = (i1 == 0);
-i0 = i0 & i1;
-if (i0) { goto l9; }
-goto l11;
-}
-}
-i0 = v32;
-i1 = v8;
-i0 = i0 & i1;
-i1 = UINT32_C(1);
-i0 = (i0 != i1);
-if (i0) { goto l11; }
-goto l9;
-l79:;
-j0 = v1;
-j1 = UINT64_C(276600);
-j0 = j0 + j1;
-j0 = load64(p10 + 22600);
-v4 = j0;
-i0 = v10;
+p86 = read_at(j0, m, 8u);
+j0 = load64(p86 + 0);
+v2 = j0;
+i0 = v9;
 i1 = UINT32_C(1);
 i0 = i0 & i1;
 if (!i0) {
-j0 = v4;
+j0 = v2;
 i0 = (j0 == 0);
 if (!i0) {
-j0 = v4;
+j0 = v2;
 j1 = UINT64_C(24);
 j0 = j0 * j1;
-v4 = j0;
+v2 = j0;
 i0 = (j0 == 0);
 if (!i0) {
 j0 = v1;
-j1 = UINT64_C(264312);
+j1 = UINT64_C(26216);
 j0 = j0 + j1;
 i1 = UINT32_C(0);
-j2 = v4;
+j2 = v2;
 fill(m, j0, i1, j2);
 }
 }
 j0 = v1;
-j1 = UINT64_C(313649);
+j1 = UINT64_C(75553);
 j0 = j0 + j1;
-i1 = v26;
-store8(p10 + 59649, i1);
+i1 = v21;
+p87 = write_at(j0 + UINT64_C(18446744073709551599), m, 18u);
+store8(p87 + 17, i1);
 j0 = v1;
-j1 = UINT64_C(313648);
+j1 = UINT64_C(75552);
 j0 = j0 + j1;
-i1 = v27;
-store8(p10 + 59648, i1);
+i1 = v22;
+store8(p87 + 16, i1);
 j0 = v1;
-j1 = UINT64_C(313640);
+j1 = UINT64_C(75544);
 j0 = j0 + j1;
-j1 = v28;
-store64(p10 + 59640, j1);
+j1 = v23;
+store64(p87 + 8, j1);
 j0 = v1;
-j1 = UINT64_C(313632);
+j1 = UINT64_C(75536);
 j0 = j0 + j1;
-j1 = v5;
-store64(p10 + 59632, j1);
+j1 = v3;
+store64(p87 + 0, j1);
 j0 = UINT64_C(0);
-v4 = j0;
-goto l136;
+v2 = j0;
+goto l102;
 }
-j0 = v4;
+j0 = v2;
 j1 = UINT64_C(512);
 i0 = (j0 == j1);
-if (i0) { goto l17; }
-l136:;
+if (i0) { goto l71; }
+l102:;
 j0 = v1;
-j1 = v4;
+j1 = v2;
 j2 = UINT64_C(24);
 j1 = j1 * j2;
 j0 = j0 + j1;
-v5 = j0;
-j1 = UINT64_C(264328);
+v3 = j0;
+j1 = UINT64_C(26232);
+j0 = j0 + j1;
+j1 = v10;
+p88 = write_at(j0 + UINT64_C(18446744073709551600), m, 24u);
+store64(p88 + 16, j1);
+j0 = v3;
+j1 = UINT64_C(26224);
 j0 = j0 + j1;
 j1 = v11;
-p72 = write_at(j0 + UINT64_C(18446744073709551600), m, 24u);
-store64(p72 + 16, j1);
-j0 = v5;
-j1 = UINT64_C(264320);
+store64(p88 + 8, j1);
+j0 = v3;
+j1 = UINT64_C(26216);
 j0 = j0 + j1;
-j1 = v12;
-store64(p72 + 8, j1);
-j0 = v5;
-j1 = UINT64_C(264312);
-j0 = j0 + j1;
-j1 = v18;
-store64(p72 + 0, j1);
+j1 = v19;
+store64(p88 + 0, j1);
 j0 = v1;
-j1 = UINT64_C(276600);
+j1 = UINT64_C(38504);
 j0 = j0 + j1;
-j1 = v4;
+j1 = v2;
 j2 = UINT64_C(1);
 j1 = j1 + j2;
-store64(p10 + 22600, j1);
+p89 = write_at(j0, m, 8u);
+store64(p89 + 0, j1);
+i0 = UINT32_C(0);
+v7 = i0;
+i0 = UINT32_C(2);
+v28 = i0;
 i0 = UINT32_C(0);
 v8 = i0;
-i0 = UINT32_C(2);
-v31 = i0;
-i0 = UINT32_C(0);
-v9 = i0;
-goto l7;
-l78:;
-j0 = v1;
-j1 = UINT64_C(256080);
-j0 = j0 + j1;
-j0 = load64(p10 + 2080);
-v46 = j0;
+goto l6;
+l74:;
 i0 = UINT32_C(1);
-v51 = i0;
-j0 = v21;
-j1 = v11;
+v39 = i0;
+j0 = v1;
+j1 = UINT64_C(17984);
+j0 = j0 + j1;
+v3 = j0;
+i0 = v29;
+i1 = UINT32_C(1);
+i0 = (i0 == i1);
+if (!i0) {
+j0 = UINT64_C(0);
+v2 = j0;
+j0 = v6;
+j1 = UINT64_C(2408);
+j0 = j0 + j1;
+v5 = j0;
+goto l105;
+}
+j0 = v1;
+j1 = UINT64_C(8);
+j0 = j0 + j1;
+v5 = j0;
+j0 = v1;
+j1 = UINT64_C(12552);
+j0 = j0 + j1;
+p90 = read_at(j0, m, 8u);
+j0 = load64(p90 + 0);
+v2 = j0;
+l105:;
+j0 = v3;
+p91 = read_at(j0, m, 8u);
+j0 = load64(p91 + 0);
+v40 = j0;
+j0 = v17;
+j1 = v10;
 i0 = (j0 <= j1);
 if (!i0) {
-j0 = v23;
-j1 = v39;
-j2 = v20;
-j3 = v11;
+j0 = v5;
+j1 = v2;
+j2 = v18;
+j3 = v10;
 j2 = j2 + j3;
-j3 = v21;
-j4 = v11;
+j3 = v17;
+j4 = v10;
 j3 = j3 - j4;
 j4 = v1;
-j5 = UINT64_C(315712);
+j5 = UINT64_C(77616);
 j4 = j4 + j5;
 i0 = fio_log_quiet_held_by_text(m, j0, j1, j2, j3, j4);
 i1 = UINT32_C(255);
 i0 = i0 & i1;
 i0 = (i0 == 0);
-v51 = i0;
+v39 = i0;
 }
 j0 = v1;
-j1 = UINT64_C(280736);
-j0 = j0 + j1;
-v48 = j0;
-j0 = UINT64_C(1024);
-v5 = j0;
-j0 = v1;
-j1 = UINT64_C(313504);
+j1 = UINT64_C(42640);
 j0 = j0 + j1;
 v41 = j0;
-j0 = load64(p10 + 59504);
-v23 = j0;
+j0 = UINT64_C(1024);
+v3 = j0;
+j0 = v1;
+j1 = UINT64_C(75408);
+j0 = j0 + j1;
+v37 = j0;
+p92 = read_at(j0, m, 8u);
+j0 = load64(p92 + 0);
+v30 = j0;
 j1 = UINT64_C(1024);
 i0 = (j0 != j1);
 if (!i0) {
 j0 = UINT64_C(1024);
 j1 = v1;
-j2 = UINT64_C(313512);
+j2 = UINT64_C(75416);
 j1 = j1 + j2;
-j1 = load64(p10 + 59512);
-v4 = j1;
+p93 = read_at(j1, m, 8u);
+j1 = load64(p93 + 0);
+v2 = j1;
 j2 = UINT64_C(1024);
-j3 = v4;
+j3 = v2;
 j4 = UINT64_C(1024);
 i3 = (j3 < j4);
 j1 = i3 ? j1 : j2;
-v47 = j1;
+v35 = j1;
 j0 = j0 - j1;
-v23 = j0;
-j0 = v4;
+v30 = j0;
+j0 = v2;
 j1 = UINT64_C(1023);
 i0 = (j0 > j1);
 if (!i0) {
-j0 = v23;
+j0 = v30;
 j1 = UINT64_C(3);
 j0 = j0 & j1;
-v25 = j0;
+v16 = j0;
 j0 = UINT64_C(0);
-v40 = j0;
-j0 = v4;
+v42 = j0;
+j0 = v2;
 j1 = UINT64_C(1020);
 i0 = (j0 > j1);
 if (!i0) {
-j0 = v23;
+j0 = v30;
 j1 = UINT64_C(18446744073709551612);
 j0 = j0 & j1;
-v40 = j0;
-j0 = v23;
+v42 = j0;
+j0 = v30;
 j1 = UINT64_C(5);
 j0 = j0 << (j1 & 63);
 j1 = UINT64_C(18446744073709551488);
 j0 = j0 & j1;
-v24 = j0;
+v36 = j0;
 j0 = v1;
-j1 = v47;
+j1 = v35;
 j2 = UINT64_C(5);
 j1 = j1 << (j2 & 63);
 j0 = j0 + j1;
-v33 = j0;
+v38 = j0;
 j0 = UINT64_C(0);
-v3 = j0;
-for (;;) {
-j0 = v33;
-j1 = v3;
-j0 = j0 + j1;
 v5 = j0;
-j1 = UINT64_C(280736);
+for (;;) {
+j0 = v38;
+j1 = v5;
 j0 = j0 + j1;
-p73 = read_at(j0, m, 128u);
-j0 = load64(p73 + 0);
-v13 = j0;
-j0 = v5;
-j1 = UINT64_C(280744);
+v3 = j0;
+j1 = UINT64_C(42640);
 j0 = j0 + j1;
-j0 = load64(p73 + 8);
-v30 = j0;
-j0 = v5;
-j1 = UINT64_C(280752);
+p94 = read_at(j0, m, 128u);
+j0 = load64(p94 + 0);
+v12 = j0;
+j0 = v3;
+j1 = UINT64_C(42648);
 j0 = j0 + j1;
-j0 = load64(p73 + 16);
-v34 = j0;
+j0 = load64(p94 + 8);
+v26 = j0;
+j0 = v3;
+j1 = UINT64_C(42656);
+j0 = j0 + j1;
+j0 = load64(p94 + 16);
+v27 = j0;
 j0 = v1;
+j1 = v5;
+j0 = j0 + j1;
+v2 = j0;
+j1 = UINT64_C(42664);
+j0 = j0 + j1;
 j1 = v3;
-j0 = j0 + j1;
-v4 = j0;
-j1 = UINT64_C(280760);
-j0 = j0 + j1;
-j1 = v5;
-j2 = UINT64_C(280760);
+j2 = UINT64_C(42664);
 j1 = j1 + j2;
-j1 = load64(p73 + 24);
-p74 = write_at(j0 + UINT64_C(18446744073709551592), m, 128u);
-store64(p74 + 24, j1);
-j0 = v4;
-j1 = UINT64_C(280752);
+j1 = load64(p94 + 24);
+p95 = write_at(j0 + UINT64_C(18446744073709551592), m, 128u);
+store64(p95 + 24, j1);
+j0 = v2;
+j1 = UINT64_C(42656);
 j0 = j0 + j1;
-j1 = v34;
-store64(p74 + 16, j1);
-j0 = v4;
-j1 = UINT64_C(280744);
+j1 = v27;
+store64(p95 + 16, j1);
+j0 = v2;
+j1 = UINT64_C(42648);
 j0 = j0 + j1;
-j1 = v30;
-store64(p74 + 8, j1);
-j0 = v4;
-j1 = UINT64_C(280736);
+j1 = v26;
+store64(p95 + 8, j1);
+j0 = v2;
+j1 = UINT64_C(42640);
 j0 = j0 + j1;
-j1 = v13;
-store64(p74 + 0, j1);
-j0 = v5;
-j1 = UINT64_C(280776);
+j1 = v12;
+store64(p95 + 0, j1);
+j0 = v3;
+j1 = UINT64_C(42680);
 j0 = j0 + j1;
-j0 = load64(p73 + 40);
-v13 = j0;
-j0 = v5;
-j1 = UINT64_C(280784);
+j0 = load64(p94 + 40);
+v12 = j0;
+j0 = v3;
+j1 = UINT64_C(42688);
 j0 = j0 + j1;
-j0 = load64(p73 + 48);
-v30 = j0;
-j0 = v5;
-j1 = UINT64_C(280792);
+j0 = load64(p94 + 48);
+v26 = j0;
+j0 = v3;
+j1 = UINT64_C(42696);
 j0 = j0 + j1;
-j0 = load64(p73 + 56);
-v34 = j0;
-j0 = v4;
-j1 = UINT64_C(280768);
+j0 = load64(p94 + 56);
+v27 = j0;
+j0 = v2;
+j1 = UINT64_C(42672);
 j0 = j0 + j1;
-j1 = v5;
-j2 = UINT64_C(280768);
-j1 = j1 + j2;
-j1 = load64(p73 + 32);
-store64(p74 + 32, j1);
-j0 = v4;
-j1 = UINT64_C(280792);
-j0 = j0 + j1;
-j1 = v34;
-store64(p74 + 56, j1);
-j0 = v4;
-j1 = UINT64_C(280784);
-j0 = j0 + j1;
-j1 = v30;
-store64(p74 + 48, j1);
-j0 = v4;
-j1 = UINT64_C(280776);
-j0 = j0 + j1;
-j1 = v13;
-store64(p74 + 40, j1);
-j0 = v5;
-j1 = UINT64_C(280800);
-j0 = j0 + j1;
-j0 = load64(p73 + 64);
-v13 = j0;
-j0 = v5;
-j1 = UINT64_C(280808);
-j0 = j0 + j1;
-j0 = load64(p73 + 72);
-v30 = j0;
-j0 = v5;
-j1 = UINT64_C(280816);
-j0 = j0 + j1;
-j0 = load64(p73 + 80);
-v34 = j0;
-j0 = v4;
-j1 = UINT64_C(280824);
-j0 = j0 + j1;
-j1 = v5;
-j2 = UINT64_C(280824);
-j1 = j1 + j2;
-j1 = load64(p73 + 88);
-store64(p74 + 88, j1);
-j0 = v4;
-j1 = UINT64_C(280816);
-j0 = j0 + j1;
-j1 = v34;
-store64(p74 + 80, j1);
-j0 = v4;
-j1 = UINT64_C(280808);
-j0 = j0 + j1;
-j1 = v30;
-store64(p74 + 72, j1);
-j0 = v4;
-j1 = UINT64_C(280800);
-j0 = j0 + j1;
-j1 = v13;
-store64(p74 + 64, j1);
-j0 = v5;
-j1 = UINT64_C(280832);
-j0 = j0 + j1;
-j0 = load64(p73 + 96);
-v13 = j0;
-j0 = v5;
-j1 = UINT64_C(280840);
-j0 = j0 + j1;
-j0 = load64(p73 + 104);
-v30 = j0;
-j0 = v5;
-j1 = UINT64_C(280848);
-j0 = j0 + j1;
-j0 = load64(p73 + 112);
-v34 = j0;
-j0 = v4;
-j1 = UINT64_C(280856);
-j0 = j0 + j1;
-j1 = v5;
-j2 = UINT64_C(280856);
-j1 = j1 + j2;
-j1 = load64(p73 + 120);
-store64(p74 + 120, j1);
-j0 = v4;
-j1 = UINT64_C(280848);
-j0 = j0 + j1;
-j1 = v34;
-store64(p74 + 112, j1);
-j0 = v4;
-j1 = UINT64_C(280840);
-j0 = j0 + j1;
-j1 = v30;
-store64(p74 + 104, j1);
-j0 = v4;
-j1 = UINT64_C(280832);
-j0 = j0 + j1;
-j1 = v13;
-store64(p74 + 96, j1);
-j0 = v24;
 j1 = v3;
+j2 = UINT64_C(42672);
+j1 = j1 + j2;
+j1 = load64(p94 + 32);
+store64(p95 + 32, j1);
+j0 = v2;
+j1 = UINT64_C(42696);
+j0 = j0 + j1;
+j1 = v27;
+store64(p95 + 56, j1);
+j0 = v2;
+j1 = UINT64_C(42688);
+j0 = j0 + j1;
+j1 = v26;
+store64(p95 + 48, j1);
+j0 = v2;
+j1 = UINT64_C(42680);
+j0 = j0 + j1;
+j1 = v12;
+store64(p95 + 40, j1);
+j0 = v3;
+j1 = UINT64_C(42704);
+j0 = j0 + j1;
+j0 = load64(p94 + 64);
+v12 = j0;
+j0 = v3;
+j1 = UINT64_C(42712);
+j0 = j0 + j1;
+j0 = load64(p94 + 72);
+v26 = j0;
+j0 = v3;
+j1 = UINT64_C(42720);
+j0 = j0 + j1;
+j0 = load64(p94 + 80);
+v27 = j0;
+j0 = v2;
+j1 = UINT64_C(42728);
+j0 = j0 + j1;
+j1 = v3;
+j2 = UINT64_C(42728);
+j1 = j1 + j2;
+j1 = load64(p94 + 88);
+store64(p95 + 88, j1);
+j0 = v2;
+j1 = UINT64_C(42720);
+j0 = j0 + j1;
+j1 = v27;
+store64(p95 + 80, j1);
+j0 = v2;
+j1 = UINT64_C(42712);
+j0 = j0 + j1;
+j1 = v26;
+store64(p95 + 72, j1);
+j0 = v2;
+j1 = UINT64_C(42704);
+j0 = j0 + j1;
+j1 = v12;
+store64(p95 + 64, j1);
+j0 = v3;
+j1 = UINT64_C(42736);
+j0 = j0 + j1;
+j0 = load64(p94 + 96);
+v12 = j0;
+j0 = v3;
+j1 = UINT64_C(42744);
+j0 = j0 + j1;
+j0 = load64(p94 + 104);
+v26 = j0;
+j0 = v3;
+j1 = UINT64_C(42752);
+j0 = j0 + j1;
+j0 = load64(p94 + 112);
+v27 = j0;
+j0 = v2;
+j1 = UINT64_C(42760);
+j0 = j0 + j1;
+j1 = v3;
+j2 = UINT64_C(42760);
+j1 = j1 + j2;
+j1 = load64(p94 + 120);
+store64(p95 + 120, j1);
+j0 = v2;
+j1 = UINT64_C(42752);
+j0 = j0 + j1;
+j1 = v27;
+store64(p95 + 112, j1);
+j0 = v2;
+j1 = UINT64_C(42744);
+j0 = j0 + j1;
+j1 = v26;
+store64(p95 + 104, j1);
+j0 = v2;
+j1 = UINT64_C(42736);
+j0 = j0 + j1;
+j1 = v12;
+store64(p95 + 96, j1);
+j0 = v36;
+j1 = v5;
 j2 = UINT64_C(128);
 j1 = j1 + j2;
-v3 = j1;
+v5 = j1;
 i0 = (j0 != j1);
 if (!i0) break;
 }
-j0 = v25;
+j0 = v16;
 i0 = (j0 == 0);
-if (i0) { goto l143; }
+if (i0) { goto l111; }
 }
-j0 = v40;
+j0 = v42;
 j1 = UINT64_C(5);
 j0 = j0 << (j1 & 63);
 j1 = v1;
 j0 = j0 + j1;
-j1 = UINT64_C(280736);
+j1 = UINT64_C(42640);
 j0 = j0 + j1;
-v5 = j0;
-j0 = v40;
-j1 = v47;
-j0 = j0 + j1;
-j1 = UINT64_C(5);
-j0 = j0 << (j1 & 63);
-j1 = v1;
-j0 = j0 + j1;
-j1 = UINT64_C(280736);
-j0 = j0 + j1;
-v4 = j0;
-p76 = write_at(v5 + UINT64_C(0), m, run(32u, 32u, turns(v25, UINT64_C(0), 1u)));
-p75 = read_at(v4 + UINT64_C(0), m, run(32u, 32u, turns(v25, UINT64_C(0), 1u)));
-for (;;) {
-j0 = v4;
-j0 = load64(p75 + 0);
 v3 = j0;
-j0 = v4;
-j0 = load64(p75 + 8);
-v13 = j0;
-j0 = v4;
-j0 = load64(p75 + 16);
-v30 = j0;
-j0 = v5;
-j1 = v4;
-j1 = load64(p75 + 24);
-store64(p76 + 24, j1);
-j0 = v5;
-j1 = v30;
-store64(p76 + 16, j1);
-j0 = v5;
-j1 = v13;
-store64(p76 + 8, j1);
-j0 = v5;
-j1 = v3;
-store64(p76 + 0, j1);
-j0 = v4;
-j1 = UINT64_C(32);
+j0 = v42;
+j1 = v35;
 j0 = j0 + j1;
-v4 = j0;
-j0 = v5;
-j1 = UINT64_C(32);
+j1 = UINT64_C(5);
+j0 = j0 << (j1 & 63);
+j1 = v1;
 j0 = j0 + j1;
+j1 = UINT64_C(42640);
+j0 = j0 + j1;
+v2 = j0;
+p97 = write_at(v3 + UINT64_C(0), m, run(32u, 32u, turns(v16, UINT64_C(0), 1u)));
+p96 = read_at(v2 + UINT64_C(0), m, run(32u, 32u, turns(v16, UINT64_C(0), 1u)));
+for (;;) {
+j0 = v2;
+j0 = load64(p96 + 0);
 v5 = j0;
-j0 = v25;
+j0 = v2;
+j0 = load64(p96 + 8);
+v12 = j0;
+j0 = v2;
+j0 = load64(p96 + 16);
+v26 = j0;
+j0 = v3;
+j1 = v2;
+j1 = load64(p96 + 24);
+store64(p97 + 24, j1);
+j0 = v3;
+j1 = v26;
+store64(p97 + 16, j1);
+j0 = v3;
+j1 = v12;
+store64(p97 + 8, j1);
+j0 = v3;
+j1 = v5;
+store64(p97 + 0, j1);
+j0 = v2;
+j1 = UINT64_C(32);
+j0 = j0 + j1;
+v2 = j0;
+j0 = v3;
+j1 = UINT64_C(32);
+j0 = j0 + j1;
+v3 = j0;
+j0 = v16;
 j1 = UINT64_C(18446744073709551615);
 j0 = j0 + j1;
-v25 = j0;
+v16 = j0;
 j1 = UINT64_C(0);
 i0 = (j0 != j1);
 if (!i0) break;
-p75 += 32;
-p76 += 32;
+p96 += 32;
+p97 += 32;
 }
-l143:;
+l111:;
 j0 = v1;
-j1 = UINT64_C(313504);
+j1 = UINT64_C(75408);
 j0 = j0 + j1;
-j0 = load64(p10 + 59504);
-v5 = j0;
+j0 = load64(p92 + 0);
+v3 = j0;
 }
-j0 = v5;
-j1 = v23;
+j0 = v3;
+j1 = v30;
 i0 = (j0 > j1);
 if (!i0) {
-j0 = v5;
-v23 = j0;
-goto l147;
+j0 = v3;
+v30 = j0;
+goto l115;
 }
-j0 = v5;
-j1 = v23;
+j0 = v3;
+j1 = v30;
 j0 = j0 - j1;
 j1 = UINT64_C(5);
 j0 = j0 << (j1 & 63);
-v5 = j0;
+v3 = j0;
 i0 = (j0 == 0);
 if (!i0) {
-j0 = v48;
-j1 = v23;
+j0 = v41;
+j1 = v30;
 j2 = UINT64_C(5);
 j1 = j1 << (j2 & 63);
 j0 = j0 + j1;
 i1 = UINT32_C(0);
-j2 = v5;
+j2 = v3;
 fill(m, j0, i1, j2);
 }
 j0 = v1;
-j1 = UINT64_C(313504);
+j1 = UINT64_C(75408);
 j0 = j0 + j1;
-j1 = v23;
-store64(p10 + 59504, j1);
-l147:;
+j1 = v30;
+p98 = write_at(j0, m, 8u);
+store64(p98 + 0, j1);
+l115:;
 j0 = v1;
-j1 = UINT64_C(313512);
+j1 = UINT64_C(75416);
 j0 = j0 + j1;
 j1 = UINT64_C(0);
-store64(p10 + 59512, j1);
+p99 = write_at(j0, m, 8u);
+store64(p99 + 0, j1);
 i0 = UINT32_C(0);
-v9 = i0;
-j0 = v23;
+v28 = i0;
+j0 = v30;
 j1 = UINT64_C(1024);
 i0 = (j0 == j1);
-if (i0) { goto l140; }
+if (i0) { goto l108; }
 }
-j0 = v48;
-j1 = v23;
+j0 = v41;
+j1 = v30;
 j2 = UINT64_C(5);
 j1 = j1 << (j2 & 63);
 j0 = j0 + j1;
-v5 = j0;
-j1 = v18;
-p77 = write_at(j0, m, 32u);
-store64(p77 + 0, j1);
-j0 = v5;
+v3 = j0;
+j1 = v19;
+p100 = write_at(j0, m, 32u);
+store64(p100 + 0, j1);
+j0 = v3;
 i1 = UINT32_C(0);
-store16(p77 + 21, i1);
-j0 = v5;
-i1 = v29;
+store16(p100 + 21, i1);
+j0 = v3;
+i1 = v24;
 i2 = UINT32_C(255);
 i1 = i1 & i2;
 i2 = UINT32_C(1);
 i1 = (i1 == i2);
-v22 = i1;
-store8(p77 + 20, i1);
-j0 = v5;
-i1 = v26;
-store8(p77 + 19, i1);
-j0 = v5;
-i1 = v27;
-store8(p77 + 18, i1);
-j0 = v5;
-j1 = v46;
+v20 = i1;
+store8(p100 + 20, i1);
+j0 = v3;
+i1 = v21;
+store8(p100 + 19, i1);
+j0 = v3;
+i1 = v22;
+store8(p100 + 18, i1);
+j0 = v3;
+j1 = v40;
 j2 = UINT64_C(65535);
-j3 = v46;
+j3 = v40;
 j4 = UINT64_C(65535);
 i3 = (j3 < j4);
 j1 = i3 ? j1 : j2;
 i1 = (uint32_t)j1;
-store16(p77 + 16, i1);
-j0 = v5;
+store16(p100 + 16, i1);
+j0 = v3;
+j1 = v10;
+j2 = UINT64_C(4294967295);
+j3 = v10;
+j4 = UINT64_C(4294967295);
+i3 = (j3 < j4);
+j1 = i3 ? j1 : j2;
+i1 = (uint32_t)j1;
+store32(p100 + 12, i1);
+j0 = v3;
 j1 = v11;
 j2 = UINT64_C(4294967295);
 j3 = v11;
@@ -35251,3658 +36262,3736 @@ j4 = UINT64_C(4294967295);
 i3 = (j3 < j4);
 j1 = i3 ? j1 : j2;
 i1 = (uint32_t)j1;
-store32(p77 + 12, i1);
-j0 = v5;
-j1 = v12;
-j2 = UINT64_C(4294967295);
-j3 = v12;
-j4 = UINT64_C(4294967295);
-i3 = (j3 < j4);
-j1 = i3 ? j1 : j2;
-i1 = (uint32_t)j1;
-store32(p77 + 8, i1);
-j0 = v5;
+store32(p100 + 8, i1);
+j0 = v3;
 i1 = UINT32_C(0);
-store8(p77 + 23, i1);
-j0 = v5;
-j1 = v28;
-j2 = UINT64_C(0);
-i3 = v22;
-j1 = i3 ? j1 : j2;
-store64(p77 + 24, j1);
-j0 = v41;
+store8(p100 + 23, i1);
+j0 = v3;
 j1 = v23;
+j2 = UINT64_C(0);
+i3 = v20;
+j1 = i3 ? j1 : j2;
+store64(p100 + 24, j1);
+j0 = v37;
+j1 = v30;
 j2 = UINT64_C(1);
 j1 = j1 + j2;
-p78 = write_at(j0, m, 8u);
-store64(p78 + 0, j1);
-i0 = v51;
-v9 = i0;
-l140:;
+p101 = write_at(j0, m, 8u);
+store64(p101 + 0, j1);
+i0 = v39;
+v28 = i0;
+l108:;
 j0 = v1;
-j1 = UINT64_C(254032);
+p102 = read_at(j0, m, 1u);
+i0 = load8(p102 + 0);
+i1 = UINT32_C(1);
+i0 = (i0 == i1);
+if (!i0) {
+j0 = UINT64_C(0);
+v3 = j0;
+j0 = v6;
+j1 = UINT64_C(2408);
 j0 = j0 + j1;
-v50 = j0;
+v5 = j0;
+goto l118;
+}
 j0 = v1;
-j1 = UINT64_C(238876);
+j1 = UINT64_C(8);
 j0 = j0 + j1;
 v5 = j0;
 j0 = v1;
-j1 = UINT64_C(250648);
+j1 = UINT64_C(12552);
 j0 = j0 + j1;
-p79 = read_at(j0, m, 8u);
-j0 = load64(p79 + 0);
+p103 = read_at(j0, m, 8u);
+j0 = load64(p103 + 0);
+v3 = j0;
+l118:;
+j0 = v1;
+j1 = UINT64_C(15936);
+j0 = j0 + j1;
+v43 = j0;
+j0 = v3;
 j1 = UINT64_C(1);
 j0 = j0 + j1;
-v4 = j0;
-l151:;
-j0 = v4;
+v2 = j0;
+j0 = v5;
+j1 = UINT64_C(772);
+j0 = j0 + j1;
+v3 = j0;
+l121:;
+j0 = v2;
 j1 = UINT64_C(18446744073709551615);
 j0 = j0 + j1;
-v4 = j0;
+v2 = j0;
 i0 = (j0 == 0);
 v8 = i0;
-if (i0) { goto l150; }
-j0 = v5;
-p80 = read_at(j0, m, 1u);
-i0 = load8(p80 + 0);
-v22 = i0;
-j0 = v5;
+if (i0) { goto l120; }
+j0 = v3;
+p104 = read_at(j0, m, 1u);
+i0 = load8(p104 + 0);
+v20 = i0;
+j0 = v3;
 j1 = UINT64_C(784);
 j0 = j0 + j1;
-v5 = j0;
-i0 = v22;
+v3 = j0;
+i0 = v20;
 i1 = UINT32_C(6);
 i0 = (i0 != i1);
-if (i0) { goto l151; }
-l150:;
-j0 = v46;
+if (i0) { goto l121; }
+l120:;
+j0 = v40;
 i0 = (j0 == 0);
 if (!i0) {
 j0 = v1;
-j1 = UINT64_C(278680);
+j1 = UINT64_C(40584);
 j0 = j0 + j1;
-v49 = j0;
+v44 = j0;
 j0 = v1;
-j1 = UINT64_C(280752);
-j0 = j0 + j1;
-v40 = j0;
-j0 = v6;
-j1 = UINT64_C(24592);
-j0 = j0 + j1;
-v47 = j0;
-j0 = v6;
-j1 = UINT64_C(16392);
+j1 = UINT64_C(42656);
 j0 = j0 + j1;
 v42 = j0;
-j0 = v1;
-j1 = UINT64_C(276609);
+j0 = v4;
+j1 = UINT64_C(24592);
 j0 = j0 + j1;
-v41 = j0;
-j0 = v1;
-j1 = UINT64_C(278664);
+v35 = j0;
+j0 = v4;
+j1 = UINT64_C(16392);
 j0 = j0 + j1;
-v39 = j0;
-j0 = UINT64_C(0);
 v45 = j0;
-l153:;
-j0 = v45;
+j0 = v1;
+j1 = UINT64_C(38513);
+j0 = j0 + j1;
+v37 = j0;
+j0 = v1;
+j1 = UINT64_C(40568);
+j0 = j0 + j1;
+v46 = j0;
+j0 = UINT64_C(0);
+v47 = j0;
+l123:;
+j0 = v47;
 j1 = v1;
-j2 = UINT64_C(256080);
+j2 = UINT64_C(17984);
 j1 = j1 + j2;
-j1 = load64(p10 + 2080);
+j1 = load64(p91 + 0);
 i0 = (j0 >= j1);
 if (!i0) {
 i0 = UINT32_C(0);
-v52 = i0;
+v48 = i0;
 j0 = v1;
-j1 = UINT64_C(278656);
+j1 = UINT64_C(40560);
 j0 = j0 + j1;
-v4 = j0;
-j0 = load64(p10 + 24656);
-v5 = j0;
+v2 = j0;
+p105 = read_at(j0, m, 8u);
+j0 = load64(p105 + 0);
+v3 = j0;
 j1 = UINT64_C(2048);
 i0 = (j0 == j1);
 if (!i0) {
-j0 = v17;
-j1 = v5;
+j0 = v25;
+j1 = v3;
 j0 = j0 + j1;
-j1 = v50;
-j2 = v45;
+j1 = v43;
+j2 = v47;
 j1 = j1 + j2;
-p81 = read_at(j1, m, 1u);
-i1 = load8(p81 + 0);
-p82 = write_at(j0, m, 1u);
-store8(p82 + 0, i1);
-j0 = v4;
-j1 = v5;
+p106 = read_at(j1, m, 1u);
+i1 = load8(p106 + 0);
+p107 = write_at(j0, m, 1u);
+store8(p107 + 0, i1);
+j0 = v2;
+j1 = v3;
 j2 = UINT64_C(1);
 j1 = j1 + j2;
-store64(p10 + 24656, j1);
-i0 = v9;
-v52 = i0;
+p108 = write_at(j0, m, 8u);
+store64(p108 + 0, j1);
+i0 = v28;
+v48 = i0;
 }
 j0 = UINT64_C(0);
-v13 = j0;
+v12 = j0;
 i0 = UINT32_C(1);
-v9 = i0;
-l156:;
+v28 = i0;
+l126:;
 i0 = v8;
 if (!i0) {
 i0 = UINT32_C(3);
-v22 = i0;
+v20 = i0;
 j0 = UINT64_C(0);
-v5 = j0;
-j0 = v1;
-j1 = UINT64_C(278656);
-j0 = j0 + j1;
-j0 = load64(p10 + 24656);
-v4 = j0;
-i0 = (j0 == 0);
-if (i0) { goto l157; }
-l160:;
-j0 = v17;
-j1 = v5;
-j0 = j0 + j1;
 v3 = j0;
-p83 = read_at(j0, m, 1u);
-i0 = load8(p83 + 0);
+j0 = v1;
+j1 = UINT64_C(40560);
+j0 = j0 + j1;
+p109 = read_at(j0, m, 8u);
+j0 = load64(p109 + 0);
+v2 = j0;
+i0 = (j0 == 0);
+if (i0) { goto l127; }
+l130:;
+j0 = v25;
+j1 = v3;
+j0 = j0 + j1;
+v5 = j0;
+p110 = read_at(j0, m, 1u);
+i0 = load8(p110 + 0);
 i1 = UINT32_C(126);
 i0 = (i0 == i1);
-if (i0) { goto l159; }
-j0 = v4;
-j1 = v5;
+if (i0) { goto l129; }
+j0 = v2;
+j1 = v3;
 j2 = UINT64_C(1);
 j1 = j1 + j2;
-v5 = j1;
+v3 = j1;
 i0 = (j0 != j1);
-if (i0) { goto l160; }
-j0 = v4;
+if (i0) { goto l130; }
+j0 = v2;
 j1 = UINT64_C(1985);
 i0 = (j0 >= j1);
 if (!i0) {
 j0 = UINT64_C(0);
-v5 = j0;
-goto l157;
+v3 = j0;
+goto l127;
 }
-j0 = v17;
+j0 = v25;
 i1 = UINT32_C(0);
 j2 = UINT64_C(2056);
 fill(m, j0, i1, j2);
 i0 = UINT32_C(1);
-v22 = i0;
+v20 = i0;
 j0 = v1;
-j1 = UINT64_C(278672);
+j1 = UINT64_C(40576);
 j0 = j0 + j1;
-j0 = load64(p10 + 24672);
-v5 = j0;
+p111 = read_at(j0, m, 8u);
+j0 = load64(p111 + 0);
+v3 = j0;
 i0 = (j0 == 0);
-v10 = i0;
+v7 = i0;
 if (!i0) {
-i0 = v10;
+i0 = v7;
 if (!i0) {
-j0 = v39;
+j0 = v46;
 i1 = UINT32_C(0);
-j2 = v5;
+j2 = v3;
 fill(m, j0, i1, j2);
 }
 j0 = v1;
-j1 = UINT64_C(278672);
+j1 = UINT64_C(40576);
 j0 = j0 + j1;
 j1 = UINT64_C(0);
-store64(p10 + 24672, j1);
+p112 = write_at(j0, m, 8u);
+store64(p112 + 0, j1);
 }
-j0 = v4;
-v5 = j0;
-goto l157;
-l159:;
-j0 = v5;
+j0 = v2;
+v3 = j0;
+goto l127;
+l129:;
+j0 = v3;
 j1 = UINT64_C(0);
 i0 = (j0 != j1);
 if (!i0) {
 i0 = UINT32_C(3);
-v22 = i0;
-j0 = v4;
+v20 = i0;
+j0 = v2;
 j1 = UINT64_C(18446744073709551615);
 j0 = j0 + j1;
-v3 = j0;
+v5 = j0;
 i0 = (j0 == 0);
-v10 = i0;
+v7 = i0;
 i0 = (i0 == 0);
 if (!i0) {
 j0 = UINT64_C(0);
-v5 = j0;
-goto l157;
+v3 = j0;
+goto l127;
 }
 j0 = UINT64_C(0);
-v5 = j0;
-l167:;
-j0 = v41;
-j1 = v5;
+v3 = j0;
+l137:;
+j0 = v37;
+j1 = v3;
 j0 = j0 + j1;
-v11 = j0;
-p84 = read_at(j0, m, 1u);
-i0 = load8(p84 + 0);
+v10 = j0;
+p113 = read_at(j0, m, 1u);
+i0 = load8(p113 + 0);
 i1 = UINT32_C(126);
 i0 = (i0 == i1);
-if (i0) { goto l166; }
-j0 = v3;
-j1 = v5;
+if (i0) { goto l136; }
+j0 = v5;
+j1 = v3;
 j2 = UINT64_C(1);
 j1 = j1 + j2;
-v5 = j1;
+v3 = j1;
 i0 = (j0 != j1);
-if (i0) { goto l167; }
+if (i0) { goto l137; }
 j0 = UINT64_C(0);
-v5 = j0;
-j0 = v4;
+v3 = j0;
+j0 = v2;
 j1 = UINT64_C(1985);
 i0 = (j0 < j1);
-if (i0) { goto l157; }
-j0 = v17;
+if (i0) { goto l127; }
+j0 = v25;
 i1 = UINT32_C(0);
 j2 = UINT64_C(2056);
 fill(m, j0, i1, j2);
 i0 = UINT32_C(1);
-v22 = i0;
+v20 = i0;
 j0 = v1;
-j1 = UINT64_C(278672);
+j1 = UINT64_C(40576);
 j0 = j0 + j1;
-j0 = load64(p10 + 24672);
-v5 = j0;
+p114 = read_at(j0, m, 8u);
+j0 = load64(p114 + 0);
+v3 = j0;
 i0 = (j0 == 0);
-v10 = i0;
+v7 = i0;
 i0 = (i0 == 0);
 if (!i0) {
-j0 = v4;
-v5 = j0;
-goto l157;
+j0 = v2;
+v3 = j0;
+goto l127;
 }
-i0 = v10;
+i0 = v7;
 if (!i0) {
-j0 = v39;
+j0 = v46;
 i1 = UINT32_C(0);
-j2 = v5;
+j2 = v3;
 fill(m, j0, i1, j2);
 }
 j0 = v1;
-j1 = UINT64_C(278672);
+j1 = UINT64_C(40576);
 j0 = j0 + j1;
 j1 = UINT64_C(0);
-store64(p10 + 24672, j1);
-j0 = v4;
-v5 = j0;
-goto l157;
-l166:;
-j0 = v5;
+p115 = write_at(j0, m, 8u);
+store64(p115 + 0, j1);
+j0 = v2;
+v3 = j0;
+goto l127;
+l136:;
+j0 = v3;
 j1 = UINT64_C(0);
 i0 = (j0 != j1);
 if (!i0) {
-j0 = v7;
-j1 = UINT64_C(12976);
+j0 = v6;
+j1 = UINT64_C(352);
+j0 = j0 + j1;
+i1 = UINT32_C(0);
+j2 = UINT64_C(2056);
+fill(m, j0, i1, j2);
+j0 = v5;
+j1 = UINT64_C(2048);
+i0 = (j0 > j1);
+if (!i0) {
+i0 = v7;
+if (!i0) {
+j0 = v6;
+j1 = UINT64_C(352);
+j0 = j0 + j1;
+j1 = v37;
+j2 = v5;
+copy(m, j0, j1, j2);
+}
+j0 = v6;
+j1 = v5;
+store64(p1 + 2400, j1);
+}
+j0 = v25;
+j1 = v6;
+j2 = UINT64_C(352);
+j1 = j1 + j2;
+j2 = UINT64_C(2056);
+copy(m, j0, j1, j2);
+j0 = v1;
+j1 = UINT64_C(40576);
+j0 = j0 + j1;
+p116 = read_at(j0, m, 8u);
+j0 = load64(p116 + 0);
+v3 = j0;
+i0 = (j0 == 0);
+v20 = i0;
+if (!i0) {
+i0 = v20;
+if (!i0) {
+j0 = v46;
+i1 = UINT32_C(0);
+j2 = v3;
+fill(m, j0, i1, j2);
+}
+j0 = v1;
+j1 = UINT64_C(40576);
+j0 = j0 + j1;
+j1 = UINT64_C(0);
+p117 = write_at(j0, m, 8u);
+store64(p117 + 0, j1);
+}
+j0 = UINT64_C(1);
+v3 = j0;
+i0 = UINT32_C(2);
+v20 = i0;
+goto l127;
+}
+i0 = UINT32_C(0);
+v20 = i0;
+j0 = v25;
+j1 = v3;
+j2 = UINT64_C(2);
+j1 = j1 + j2;
+j2 = v44;
+i0 = fio_form_wholes_framed_in(m, j0, j1, j2);
+v7 = i0;
+i0 = (i0 == 0);
+if (!i0) {
+j0 = v44;
+j1 = v1;
+j2 = UINT64_C(42632);
+j1 = j1 + j2;
+p118 = read_at(j1, m, 8u);
+j1 = load64(p118 + 0);
+i0 = fio_form_message_is_message(m, j0, j1);
+v20 = i0;
+}
+j0 = v6;
+j1 = UINT64_C(352);
 j0 = j0 + j1;
 i1 = UINT32_C(0);
 j2 = UINT64_C(2056);
 fill(m, j0, i1, j2);
 j0 = v3;
-j1 = UINT64_C(2048);
-i0 = (j0 > j1);
-if (!i0) {
-i0 = v10;
-if (!i0) {
-j0 = v7;
-j1 = UINT64_C(12976);
-j0 = j0 + j1;
-j1 = v41;
-j2 = v3;
-copy(m, j0, j1, j2);
-}
-j0 = v7;
-j1 = v3;
-store64(p1 + 15024, j1);
-}
-j0 = v17;
-j1 = v7;
-j2 = UINT64_C(12976);
-j1 = j1 + j2;
-j2 = UINT64_C(2056);
-copy(m, j0, j1, j2);
-j0 = v1;
-j1 = UINT64_C(278672);
-j0 = j0 + j1;
-j0 = load64(p10 + 24672);
-v5 = j0;
-i0 = (j0 == 0);
-v22 = i0;
-if (!i0) {
-i0 = v22;
-if (!i0) {
-j0 = v39;
-i1 = UINT32_C(0);
-j2 = v5;
-fill(m, j0, i1, j2);
-}
-j0 = v1;
-j1 = UINT64_C(278672);
-j0 = j0 + j1;
-j1 = UINT64_C(0);
-store64(p10 + 24672, j1);
-}
-j0 = UINT64_C(1);
-v5 = j0;
-i0 = UINT32_C(2);
-v22 = i0;
-goto l157;
-}
-i0 = UINT32_C(0);
-v22 = i0;
-j0 = v17;
-j1 = v5;
-j2 = UINT64_C(2);
-j1 = j1 + j2;
-j2 = v49;
-i0 = fio_form_wholes_framed_in(m, j0, j1, j2);
-v10 = i0;
-i0 = (i0 == 0);
-if (!i0) {
-j0 = v49;
-j1 = v1;
-j2 = UINT64_C(280728);
-j1 = j1 + j2;
-j1 = load64(p10 + 26728);
-i0 = fio_form_message_is_message(m, j0, j1);
-v22 = i0;
-}
-j0 = v7;
-j1 = UINT64_C(12976);
-j0 = j0 + j1;
-i1 = UINT32_C(0);
-j2 = UINT64_C(2056);
-fill(m, j0, i1, j2);
-j0 = v5;
 j1 = UINT64_C(18446744073709551615);
 j0 = j0 ^ j1;
 j1 = v1;
-j2 = UINT64_C(278656);
+j2 = UINT64_C(40560);
 j1 = j1 + j2;
-j1 = load64(p10 + 24656);
+j1 = load64(p109 + 0);
 j0 = j0 + j1;
-v4 = j0;
+v2 = j0;
 j1 = UINT64_C(2048);
 i0 = (j0 > j1);
 if (!i0) {
-j0 = v4;
+j0 = v2;
 i0 = (j0 == 0);
 if (!i0) {
-j0 = v7;
-j1 = UINT64_C(12976);
+j0 = v6;
+j1 = UINT64_C(352);
 j0 = j0 + j1;
-j1 = v11;
-j2 = v4;
+j1 = v10;
+j2 = v2;
 copy(m, j0, j1, j2);
 }
-j0 = v7;
-j1 = v4;
-store64(p1 + 15024, j1);
+j0 = v6;
+j1 = v2;
+store64(p1 + 2400, j1);
 }
-j0 = v17;
-j1 = v7;
-j2 = UINT64_C(12976);
+j0 = v25;
+j1 = v6;
+j2 = UINT64_C(352);
 j1 = j1 + j2;
 j2 = UINT64_C(2056);
 copy(m, j0, j1, j2);
 j0 = v1;
-j1 = UINT64_C(278672);
+j1 = UINT64_C(40576);
 j0 = j0 + j1;
-j0 = load64(p10 + 24672);
-v4 = j0;
+p119 = read_at(j0, m, 8u);
+j0 = load64(p119 + 0);
+v2 = j0;
 i0 = (j0 == 0);
-v31 = i0;
+v9 = i0;
 if (!i0) {
-i0 = v31;
+i0 = v9;
 if (!i0) {
-j0 = v39;
+j0 = v46;
 i1 = UINT32_C(0);
-j2 = v4;
+j2 = v2;
 fill(m, j0, i1, j2);
 }
 j0 = v1;
-j1 = UINT64_C(278672);
+j1 = UINT64_C(40576);
 j0 = j0 + j1;
 j1 = UINT64_C(0);
-store64(p10 + 24672, j1);
+p120 = write_at(j0, m, 8u);
+store64(p120 + 0, j1);
 }
-j0 = v5;
+j0 = v3;
 j1 = UINT64_C(1);
 j0 = j0 + j1;
-v5 = j0;
+v3 = j0;
 i0 = UINT32_C(0);
 i1 = UINT32_C(2);
 i2 = UINT32_C(1);
-i3 = v10;
+i3 = v7;
 i1 = i3 ? i1 : i2;
-i2 = v22;
+i2 = v20;
 i0 = i2 ? i0 : i1;
-v22 = i0;
-goto l157;
+v20 = i0;
+goto l127;
 }
-j0 = v7;
-j1 = UINT64_C(12976);
+j0 = v6;
+j1 = UINT64_C(352);
 j0 = j0 + j1;
 i1 = UINT32_C(0);
 j2 = UINT64_C(2056);
 fill(m, j0, i1, j2);
-j0 = v4;
-j1 = v5;
+j0 = v2;
+j1 = v3;
 j0 = j0 - j1;
-v4 = j0;
+v2 = j0;
 j1 = UINT64_C(2048);
 i0 = (j0 > j1);
 if (!i0) {
-j0 = v4;
+j0 = v2;
 i0 = (j0 == 0);
 if (!i0) {
-j0 = v7;
-j1 = UINT64_C(12976);
+j0 = v6;
+j1 = UINT64_C(352);
 j0 = j0 + j1;
-j1 = v3;
-j2 = v4;
+j1 = v5;
+j2 = v2;
 copy(m, j0, j1, j2);
 }
-j0 = v7;
-j1 = v4;
-store64(p1 + 15024, j1);
+j0 = v6;
+j1 = v2;
+store64(p1 + 2400, j1);
 }
-j0 = v17;
-j1 = v7;
-j2 = UINT64_C(12976);
+j0 = v25;
+j1 = v6;
+j2 = UINT64_C(352);
 j1 = j1 + j2;
 j2 = UINT64_C(2056);
 copy(m, j0, j1, j2);
 j0 = v1;
-j1 = UINT64_C(278672);
+j1 = UINT64_C(40576);
 j0 = j0 + j1;
-j0 = load64(p10 + 24672);
-v4 = j0;
+p121 = read_at(j0, m, 8u);
+j0 = load64(p121 + 0);
+v2 = j0;
 i0 = (j0 == 0);
-v22 = i0;
+v20 = i0;
 if (!i0) {
-i0 = v22;
+i0 = v20;
 if (!i0) {
-j0 = v39;
+j0 = v46;
 i1 = UINT32_C(0);
-j2 = v4;
+j2 = v2;
 fill(m, j0, i1, j2);
 }
 j0 = v1;
-j1 = UINT64_C(278672);
+j1 = UINT64_C(40576);
 j0 = j0 + j1;
 j1 = UINT64_C(0);
-store64(p10 + 24672, j1);
+p122 = write_at(j0, m, 8u);
+store64(p122 + 0, j1);
 }
 i0 = UINT32_C(1);
-v22 = i0;
-goto l157;
+v20 = i0;
+goto l127;
 }
-j0 = v7;
-j1 = UINT64_C(72);
+j0 = v6;
+j1 = UINT64_C(8);
 j0 = j0 + j1;
-j1 = v17;
+j1 = v25;
 fio_rows_stream_Stream_divide(m, j0, j1);
-j0 = v7;
-j0 = load64(p1 + 80);
-v5 = j0;
-j0 = v7;
-i0 = load8(p1 + 72);
-v22 = i0;
-l157:;
-i0 = v22;
+j0 = v6;
+j0 = load64(p1 + 16);
+v3 = j0;
+j0 = v6;
+i0 = load8(p1 + 8);
+v20 = i0;
+l127:;
+i0 = v20;
 j0 = (uint64_t)i0;
 j1 = UINT64_C(255);
 j0 = j0 & j1;
 i0 = (uint32_t)j0;
 switch (i0) {
 case 0:
-goto l188;
+goto l158;
 case 1:
-goto l187;
+goto l157;
 case 2:
-goto l186;
+goto l156;
 case 3:
-goto l184;
+goto l154;
 default:
-goto l188;
+goto l158;
 }
-l188:;
+l158:;
 i0 = UINT32_C(0);
-v10 = i0;
+v7 = i0;
 j0 = v1;
-j1 = UINT64_C(280728);
+j1 = UINT64_C(42632);
 j0 = j0 + j1;
-j0 = load64(p10 + 26728);
-v4 = j0;
+p123 = read_at(j0, m, 8u);
+j0 = load64(p123 + 0);
+v2 = j0;
 i0 = (j0 == 0);
-v32 = i0;
+v29 = i0;
 if (!i0) {
-j0 = v49;
-i0 = (uint32_t)extend(load8(p10 + 24680), 7);
-v31 = i0;
+j0 = v44;
+p124 = read_at(j0, m, 1u);
+i0 = (uint32_t)extend(load8(p124 + 0), 7);
+v9 = i0;
 i1 = UINT32_C(255);
 i0 = i0 & i1;
-v22 = i0;
-i0 = v31;
+v20 = i0;
+i0 = v9;
 i1 = UINT32_C(4294967295);
 i0 = (SIGNED32(i0) > SIGNED32(i1));
 if (!i0) {
 j0 = UINT64_C(8);
-v3 = j0;
-i0 = v22;
+v5 = j0;
+i0 = v20;
 i1 = UINT32_C(4294967119);
 i0 = i0 + i1;
 switch (i0) {
 case 0:
-goto l193;
+goto l163;
 case 1:
-goto l195;
+goto l165;
 case 2:
-goto l195;
+goto l165;
 case 3:
-goto l195;
+goto l165;
 case 4:
-goto l195;
+goto l165;
 case 5:
-goto l196;
+goto l166;
 case 6:
-goto l195;
+goto l165;
 case 7:
-goto l195;
+goto l165;
 case 8:
-goto l195;
+goto l165;
 case 9:
-goto l194;
+goto l164;
 default:
-goto l195;
+goto l165;
 }
-l196:;
+l166:;
 j0 = UINT64_C(8);
-v3 = j0;
-j0 = v4;
+v5 = j0;
+j0 = v2;
 j1 = UINT64_C(3);
 i0 = (j0 < j1);
-if (i0) { goto l192; }
+if (i0) { goto l162; }
 j0 = v1;
-j1 = UINT64_C(278682);
+j1 = UINT64_C(40586);
 j0 = j0 + j1;
-j0 = load8(p10 + 24682);
+p125 = read_at(j0, m, 1u);
+j0 = load8(p125 + 0);
 j1 = UINT64_C(3);
 j0 = j0 * j1;
 j1 = UINT64_C(8);
 j0 = j0 + j1;
-v3 = j0;
-goto l193;
-l195:;
-i0 = v31;
+v5 = j0;
+goto l163;
+l165:;
+i0 = v9;
 i1 = UINT32_C(4294967217);
 i0 = (i0 < i1);
-if (i0) { goto l189; }
-i0 = v31;
+if (i0) { goto l159; }
+i0 = v9;
 i1 = UINT32_C(4294967220);
 i0 = (i0 < i1);
 if (!i0) {
-i0 = v31;
+i0 = v9;
 i1 = UINT32_C(4294967222);
 i0 = (i0 >= i1);
 if (!i0) {
 j0 = UINT64_C(13);
-v3 = j0;
-goto l193;
+v5 = j0;
+goto l163;
 }
-j0 = v4;
-v3 = j0;
-i0 = v31;
+j0 = v2;
+v5 = j0;
+i0 = v9;
 i1 = UINT32_C(4294967229);
 i0 = (i0 < i1);
-if (i0) { goto l193; }
-goto l189;
+if (i0) { goto l163; }
+goto l159;
 }
-l194:;
+l164:;
 j0 = UINT64_C(2);
-v3 = j0;
-l193:;
-j0 = v4;
+v5 = j0;
+l163:;
+j0 = v2;
 j1 = UINT64_C(773);
 i0 = (j0 > j1);
-if (i0) { goto l189; }
-l192:;
-j0 = v3;
-j1 = v4;
+if (i0) { goto l159; }
+l162:;
+j0 = v5;
+j1 = v2;
 i0 = (j0 != j1);
-if (i0) { goto l189; }
+if (i0) { goto l159; }
 i0 = UINT32_C(1);
-i1 = v22;
+i1 = v20;
 i2 = UINT32_C(4294967119);
 i1 = i1 + i2;
-v22 = i1;
+v20 = i1;
 i0 = i0 << (i1 & 31);
 i1 = UINT32_C(4071);
 i0 = i0 & i1;
-if (i0) { goto l190; }
-i0 = v22;
+if (i0) { goto l160; }
+i0 = v20;
 i1 = UINT32_C(3);
 i0 = (i0 != i1);
 if (!i0) {
-j0 = v4;
+j0 = v2;
 j1 = UINT64_C(8);
 i0 = (j0 > j1);
-if (i0) { goto l190; }
-goto l12;
+if (i0) { goto l160; }
+goto l11;
 }
-j0 = v4;
+j0 = v2;
 j1 = UINT64_C(8);
 i0 = (j0 <= j1);
-if (i0) { goto l12; }
-goto l190;
+if (i0) { goto l11; }
+goto l160;
 }
 j0 = UINT64_C(2);
-v3 = j0;
+v5 = j0;
 i0 = UINT32_C(1);
-v19 = i0;
-i0 = v22;
+v49 = i0;
+i0 = v20;
 i1 = UINT32_C(4294967247);
 i0 = i0 + i1;
 switch (i0) {
 case 0:
-goto l200;
+goto l170;
 case 1:
-goto l207;
+goto l177;
 case 2:
-goto l206;
+goto l176;
 case 3:
-goto l204;
+goto l174;
 case 4:
-goto l204;
+goto l174;
 case 5:
-goto l200;
+goto l170;
 case 6:
-goto l205;
+goto l175;
 case 7:
-goto l204;
+goto l174;
 case 8:
-goto l204;
+goto l174;
 case 9:
-goto l200;
+goto l170;
 case 10:
-goto l203;
+goto l173;
 case 11:
-goto l202;
+goto l172;
 default:
-goto l204;
+goto l174;
 }
-l207:;
+l177:;
 j0 = UINT64_C(5);
-v3 = j0;
-goto l201;
-l206:;
-j0 = v4;
+v5 = j0;
+goto l171;
+l176:;
+j0 = v2;
 j1 = UINT64_C(1);
 i0 = (j0 != j1);
 if (!i0) {
 j0 = UINT64_C(0);
-v11 = j0;
+v10 = j0;
 j0 = UINT64_C(2);
-v3 = j0;
-goto l199;
+v5 = j0;
+goto l169;
 }
 j0 = v1;
-j1 = UINT64_C(278681);
+j1 = UINT64_C(40585);
 j0 = j0 + j1;
-j0 = load8(p10 + 24681);
+p126 = read_at(j0, m, 1u);
+j0 = load8(p126 + 0);
 j1 = UINT64_C(3);
 j0 = j0 * j1;
 j1 = UINT64_C(2);
 j0 = j0 + j1;
-v3 = j0;
-goto l201;
-l205:;
+v5 = j0;
+goto l171;
+l175:;
 j0 = UINT64_C(17);
-v3 = j0;
-goto l201;
-l204:;
+v5 = j0;
+goto l171;
+l174:;
 i0 = UINT32_C(0);
-v19 = i0;
+v49 = i0;
 j0 = UINT64_C(0);
-v3 = j0;
-i0 = v31;
+v5 = j0;
+i0 = v9;
 i1 = UINT32_C(49);
 i0 = (i0 < i1);
-if (i0) { goto l200; }
-i0 = v31;
+if (i0) { goto l170; }
+i0 = v9;
 i1 = UINT32_C(54);
 i0 = (i0 < i1);
-if (i0) { goto l202; }
-i0 = v31;
+if (i0) { goto l172; }
+i0 = v9;
 i1 = UINT32_C(57);
 i0 = (i0 > i1);
-if (i0) { goto l200; }
-l203:;
-j0 = v4;
-v3 = j0;
-goto l201;
-l202:;
+if (i0) { goto l170; }
+l173:;
+j0 = v2;
+v5 = j0;
+goto l171;
+l172:;
 j0 = UINT64_C(1);
-v3 = j0;
-l201:;
+v5 = j0;
+l171:;
 i0 = UINT32_C(1);
-v19 = i0;
-l200:;
-j0 = v4;
+v49 = i0;
+l170:;
+j0 = v2;
 j1 = UINT64_C(773);
 i0 = (j0 > j1);
-if (i0) { goto l189; }
-i0 = v19;
+if (i0) { goto l159; }
+i0 = v49;
 i0 = (i0 == 0);
-if (i0) { goto l189; }
-j0 = v4;
+if (i0) { goto l159; }
+j0 = v2;
 j1 = UINT64_C(18446744073709551615);
 j0 = j0 + j1;
-v11 = j0;
-l199:;
-j0 = v3;
-j1 = v4;
+v10 = j0;
+l169:;
+j0 = v5;
+j1 = v2;
 i0 = (j0 != j1);
-if (i0) { goto l189; }
-i0 = v22;
+if (i0) { goto l159; }
+i0 = v20;
 i1 = UINT32_C(60);
 i0 = (i0 > i1);
-if (i0) { goto l12; }
+if (i0) { goto l11; }
 j0 = UINT64_C(1);
-i1 = v22;
+i1 = v20;
 j1 = (uint64_t)i1;
-v3 = j1;
+v5 = j1;
 j0 = j0 << (j1 & 63);
 j1 = UINT64_C(2269251262241308672);
 j0 = j0 & j1;
 j1 = UINT64_C(0);
 i0 = (j0 != j1);
 if (!i0) {
-j0 = v3;
+j0 = v5;
 j1 = UINT64_C(55);
 i0 = (j0 != j1);
-if (i0) { goto l12; }
-j0 = v11;
+if (i0) { goto l11; }
+j0 = v10;
 j1 = UINT64_C(7);
 i0 = (j0 <= j1);
-if (i0) { goto l12; }
-j0 = v11;
+if (i0) { goto l11; }
+j0 = v10;
 j1 = UINT64_C(15);
 i0 = (j0 <= j1);
-if (i0) { goto l12; }
+if (i0) { goto l11; }
 }
-l190:;
-j0 = v6;
+l160:;
+j0 = v4;
 j1 = UINT64_C(24584);
 j0 = j0 + j1;
-p85 = read_at(j0, m, 8u);
-j0 = load64(p85 + 0);
+p127 = read_at(j0, m, 8u);
+j0 = load64(p127 + 0);
 j1 = UINT64_C(2047);
 i0 = (j0 > j1);
 if (!i0) {
-j0 = v4;
+j0 = v2;
 j1 = UINT64_C(16384);
-j2 = v6;
+j2 = v4;
 j3 = UINT64_C(16384);
 j2 = j2 + j3;
-p86 = read_at(j2, m, 8u);
-j2 = load64(p86 + 0);
-v24 = j2;
+p128 = read_at(j2, m, 8u);
+j2 = load64(p128 + 0);
+v36 = j2;
 j1 = j1 - j2;
 i0 = (j0 > j1);
 if (!i0) {
-j0 = v6;
-j1 = v24;
+j0 = v4;
+j1 = v36;
 j0 = j0 + j1;
-v34 = j0;
-j1 = v49;
+v27 = j0;
+j1 = v44;
 j0 = j0 - j1;
-j1 = v4;
+j1 = v2;
 i0 = (j0 >= j1);
 if (!i0) {
-j0 = v4;
+j0 = v2;
 j1 = UINT64_C(3);
 j0 = j0 & j1;
-v30 = j0;
+v26 = j0;
 j0 = UINT64_C(0);
-v11 = j0;
-j0 = v4;
+v10 = j0;
+j0 = v2;
 j1 = UINT64_C(4);
 i0 = (j0 < j1);
 if (!i0) {
-j0 = v4;
+j0 = v2;
 j1 = UINT64_C(18446744073709551612);
 j0 = j0 & j1;
-v23 = j0;
+v30 = j0;
 j0 = UINT64_C(0);
-v11 = j0;
+v10 = j0;
 for (;;) {
-j0 = v34;
-j1 = v11;
+j0 = v27;
+j1 = v10;
 j0 = j0 + j1;
-v3 = j0;
+v5 = j0;
 j1 = v1;
-j2 = v11;
+j2 = v10;
 j1 = j1 + j2;
-v25 = j1;
-j2 = UINT64_C(278680);
+v16 = j1;
+j2 = UINT64_C(40584);
 j1 = j1 + j2;
-p87 = read_at(j1, m, 4u);
-i1 = load8(p87 + 0);
-p88 = write_at(j0, m, 4u);
-store8(p88 + 0, i1);
-j0 = v3;
+p129 = read_at(j1, m, 4u);
+i1 = load8(p129 + 0);
+p130 = write_at(j0, m, 4u);
+store8(p130 + 0, i1);
+j0 = v5;
 j1 = UINT64_C(1);
 j0 = j0 + j1;
-j1 = v25;
-j2 = UINT64_C(278681);
+j1 = v16;
+j2 = UINT64_C(40585);
 j1 = j1 + j2;
-i1 = load8(p87 + 1);
-store8(p88 + 1, i1);
-j0 = v3;
+i1 = load8(p129 + 1);
+store8(p130 + 1, i1);
+j0 = v5;
 j1 = UINT64_C(2);
 j0 = j0 + j1;
-j1 = v25;
-j2 = UINT64_C(278682);
+j1 = v16;
+j2 = UINT64_C(40586);
 j1 = j1 + j2;
-i1 = load8(p87 + 2);
-store8(p88 + 2, i1);
-j0 = v3;
+i1 = load8(p129 + 2);
+store8(p130 + 2, i1);
+j0 = v5;
 j1 = UINT64_C(3);
 j0 = j0 + j1;
-j1 = v25;
-j2 = UINT64_C(278683);
+j1 = v16;
+j2 = UINT64_C(40587);
 j1 = j1 + j2;
-i1 = load8(p87 + 3);
-store8(p88 + 3, i1);
-j0 = v23;
-j1 = v11;
+i1 = load8(p129 + 3);
+store8(p130 + 3, i1);
+j0 = v30;
+j1 = v10;
 j2 = UINT64_C(4);
 j1 = j1 + j2;
-v11 = j1;
+v10 = j1;
 i0 = (j0 != j1);
 if (!i0) break;
 }
-j0 = v30;
+j0 = v26;
 i0 = (j0 == 0);
-if (i0) { goto l209; }
+if (i0) { goto l179; }
 }
-j0 = v49;
-j1 = v11;
+j0 = v44;
+j1 = v10;
 j0 = j0 + j1;
-v3 = j0;
-j0 = v6;
-j1 = v11;
-j2 = v24;
+v5 = j0;
+j0 = v4;
+j1 = v10;
+j2 = v36;
 j1 = j1 + j2;
 j0 = j0 + j1;
-v11 = j0;
-l213:;
-j0 = v11;
-j1 = v3;
-p89 = read_at(j1, m, 1u);
-i1 = load8(p89 + 0);
-p90 = write_at(j0, m, 1u);
-store8(p90 + 0, i1);
-j0 = v11;
+v10 = j0;
+l183:;
+j0 = v10;
+j1 = v5;
+p131 = read_at(j1, m, 1u);
+i1 = load8(p131 + 0);
+p132 = write_at(j0, m, 1u);
+store8(p132 + 0, i1);
+j0 = v10;
 j1 = UINT64_C(1);
 j0 = j0 + j1;
-v11 = j0;
-j0 = v3;
+v10 = j0;
+j0 = v5;
 j1 = UINT64_C(1);
 j0 = j0 + j1;
-v3 = j0;
-j0 = v30;
+v5 = j0;
+j0 = v26;
 j1 = UINT64_C(18446744073709551615);
 j0 = j0 + j1;
-v30 = j0;
+v26 = j0;
 j1 = UINT64_C(0);
 i0 = (j0 != j1);
-if (i0) { goto l213; }
-goto l209;
+if (i0) { goto l183; }
+goto l179;
 }
-i0 = v32;
+i0 = v29;
 if (!i0) {
-j0 = v34;
-j1 = v49;
-j2 = v4;
+j0 = v27;
+j1 = v44;
+j2 = v2;
 copy(m, j0, j1, j2);
 }
-l209:;
-j0 = v6;
+l179:;
+j0 = v4;
 j1 = UINT64_C(16384);
 j0 = j0 + j1;
-j1 = v24;
-j2 = v4;
+j1 = v36;
+j2 = v2;
 j1 = j1 + j2;
-v3 = j1;
-p91 = write_at(j0, m, 8u);
-store64(p91 + 0, j1);
-j0 = v6;
+v5 = j1;
+p133 = write_at(j0, m, 8u);
+store64(p133 + 0, j1);
+j0 = v4;
 j1 = UINT64_C(24584);
 j0 = j0 + j1;
-v11 = j0;
-j0 = load64(p85 + 0);
-v4 = j0;
+v10 = j0;
+j0 = load64(p127 + 0);
+v2 = j0;
 j1 = UINT64_C(2048);
 i0 = (j0 == j1);
 if (!i0) {
-j0 = v42;
-j1 = v4;
+j0 = v45;
+j1 = v2;
 j2 = UINT64_C(2);
 j1 = j1 << (j2 & 63);
 j0 = j0 + j1;
-j1 = v3;
-p92 = write_at(j0, m, 4u);
-store32(p92 + 0, j1);
-j0 = v11;
-j1 = v4;
+j1 = v5;
+p134 = write_at(j0, m, 4u);
+store32(p134 + 0, j1);
+j0 = v10;
+j1 = v2;
 j2 = UINT64_C(1);
 j1 = j1 + j2;
-p93 = write_at(j0, m, 8u);
-store64(p93 + 0, j1);
+p135 = write_at(j0, m, 8u);
+store64(p135 + 0, j1);
 }
-i0 = v9;
-v10 = i0;
+i0 = v28;
+v7 = i0;
 }
 }
 }
-l189:;
-j0 = v5;
+l159:;
+j0 = v3;
 i0 = (j0 == 0);
 i0 = (i0 == 0);
 if (!i0) {
-i0 = v10;
-v9 = i0;
-goto l185;
+i0 = v7;
+v28 = i0;
+goto l155;
 }
 j0 = v1;
-j1 = UINT64_C(313512);
+j1 = UINT64_C(75416);
 j0 = j0 + j1;
-j0 = load64(p10 + 59512);
-v4 = j0;
+p136 = read_at(j0 + UINT64_C(18446744073709551608), m, 16u);
+j0 = load64(p136 + 8);
+v2 = j0;
 j1 = v1;
-j2 = UINT64_C(313504);
+j2 = UINT64_C(75408);
 j1 = j1 + j2;
-j1 = load64(p10 + 59504);
-v30 = j1;
+j1 = load64(p136 + 0);
+v26 = j1;
 i0 = (j0 < j1);
 if (!i0) {
-i0 = v10;
-v9 = i0;
-goto l185;
+i0 = v7;
+v28 = i0;
+goto l155;
 }
 j0 = v1;
-j1 = v4;
+j1 = v2;
 j2 = UINT64_C(5);
 j1 = j1 << (j2 & 63);
 j0 = j0 + j1;
-v3 = j0;
+v5 = j0;
 i0 = UINT32_C(1);
-v9 = i0;
-l219:;
+v28 = i0;
+l189:;
 j0 = v1;
-j1 = UINT64_C(313504);
+j1 = UINT64_C(75408);
 j0 = j0 + j1;
-j0 = load64(p10 + 59504);
-j1 = v4;
+p137 = read_at(j0, m, 8u);
+j0 = load64(p137 + 0);
+j1 = v2;
 i0 = (j0 <= j1);
-if (i0) { goto l218; }
-j0 = v3;
-j1 = UINT64_C(280752);
+if (i0) { goto l188; }
+j0 = v5;
+j1 = UINT64_C(42656);
 j0 = j0 + j1;
-p94 = read_at(j0, m, 2u);
-i0 = load16(p94 + 0);
-v22 = i0;
+p138 = read_at(j0, m, 2u);
+i0 = load16(p138 + 0);
+v20 = i0;
 j0 = (uint64_t)i0;
-v11 = j0;
-i0 = v22;
+v10 = j0;
+i0 = v20;
 i0 = (i0 == 0);
 if (!i0) {
-j0 = v6;
+j0 = v4;
 j1 = UINT64_C(49168);
 j0 = j0 + j1;
-v34 = j0;
-p95 = read_at(j0, m, 8u);
-j0 = load64(p95 + 0);
-v25 = j0;
+v27 = j0;
+p139 = read_at(j0, m, 8u);
+j0 = load64(p139 + 0);
+v16 = j0;
 j1 = UINT64_C(1024);
 i0 = (j0 == j1);
-if (i0) { goto l221; }
-j0 = v3;
-j1 = UINT64_C(280736);
+if (i0) { goto l191; }
+j0 = v5;
+j1 = UINT64_C(42640);
 j0 = j0 + j1;
-p96 = read_at(j0, m, 16u);
-j0 = load64(p96 + 0);
-v24 = j0;
-j0 = v3;
-j1 = UINT64_C(280744);
+p140 = read_at(j0, m, 16u);
+j0 = load64(p140 + 0);
+v36 = j0;
+j0 = v5;
+j1 = UINT64_C(42648);
 j0 = j0 + j1;
-j0 = load32(p96 + 8);
-v33 = j0;
-j0 = v47;
-j1 = v25;
+j0 = load32(p140 + 8);
+v38 = j0;
+j0 = v35;
+j1 = v16;
 j2 = UINT64_C(24);
 j1 = j1 * j2;
 j0 = j0 + j1;
-v23 = j0;
-j1 = v3;
-j2 = UINT64_C(280748);
+v30 = j0;
+j1 = v5;
+j2 = UINT64_C(42652);
 j1 = j1 + j2;
-j1 = load32(p96 + 12);
-p97 = write_at(j0, m, 24u);
-store64(p97 + 16, j1);
-j0 = v23;
-j1 = v33;
-store64(p97 + 8, j1);
-j0 = v23;
-j1 = v24;
-store64(p97 + 0, j1);
-j0 = v34;
-j1 = v25;
+j1 = load32(p140 + 12);
+p141 = write_at(j0, m, 24u);
+store64(p141 + 16, j1);
+j0 = v30;
+j1 = v38;
+store64(p141 + 8, j1);
+j0 = v30;
+j1 = v36;
+store64(p141 + 0, j1);
+j0 = v27;
+j1 = v16;
 j2 = UINT64_C(1);
 j1 = j1 + j2;
-p98 = write_at(j0, m, 8u);
-store64(p98 + 0, j1);
+p142 = write_at(j0, m, 8u);
+store64(p142 + 0, j1);
 }
-j0 = v5;
-j1 = v11;
-i0 = (j0 >= j1);
-if (i0) { goto l220; }
 j0 = v3;
-j1 = UINT64_C(280752);
+j1 = v10;
+i0 = (j0 >= j1);
+if (i0) { goto l190; }
+j0 = v5;
+j1 = UINT64_C(42656);
 j0 = j0 + j1;
-i1 = v22;
-j2 = v5;
+i1 = v20;
+j2 = v3;
 i2 = (uint32_t)j2;
 i1 = i1 - i2;
-p99 = write_at(j0, m, 2u);
-store16(p99 + 0, i1);
-i0 = v9;
+p143 = write_at(j0, m, 2u);
+store16(p143 + 0, i1);
+i0 = v28;
 i1 = UINT32_C(1);
 i0 = i0 & i1;
-if (i0) { goto l217; }
+if (i0) { goto l187; }
 i0 = UINT32_C(0);
-v9 = i0;
-goto l185;
-l221:;
+v28 = i0;
+goto l155;
+l191:;
 i0 = UINT32_C(0);
-v9 = i0;
-j0 = v5;
-j1 = v11;
+v28 = i0;
+j0 = v3;
+j1 = v10;
 i0 = (j0 >= j1);
 if (!i0) {
-j0 = v3;
-j1 = UINT64_C(280752);
+j0 = v5;
+j1 = UINT64_C(42656);
 j0 = j0 + j1;
-i1 = v22;
-j2 = v5;
+i1 = v20;
+j2 = v3;
 i2 = (uint32_t)j2;
 i1 = i1 - i2;
-p100 = write_at(j0, m, 2u);
-store16(p100 + 0, i1);
+p144 = write_at(j0, m, 2u);
+store16(p144 + 0, i1);
 i0 = UINT32_C(0);
-v9 = i0;
-goto l185;
+v28 = i0;
+goto l155;
 }
-l220:;
+l190:;
 j0 = v1;
-j1 = UINT64_C(313512);
+j1 = UINT64_C(75416);
 j0 = j0 + j1;
-j1 = v4;
+j1 = v2;
 j2 = UINT64_C(1);
 j1 = j1 + j2;
-v4 = j1;
-store64(p10 + 59512, j1);
-j0 = v4;
-j1 = v30;
+v2 = j1;
+p145 = write_at(j0, m, 8u);
+store64(p145 + 0, j1);
+j0 = v2;
+j1 = v26;
 i0 = (j0 >= j1);
-if (i0) { goto l218; }
-j0 = v3;
+if (i0) { goto l188; }
+j0 = v5;
 j1 = UINT64_C(32);
 j0 = j0 + j1;
-v3 = j0;
-j0 = v5;
-j1 = v11;
-j0 = j0 - j1;
 v5 = j0;
+j0 = v3;
+j1 = v10;
+j0 = j0 - j1;
+v3 = j0;
 j1 = UINT64_C(0);
 i0 = (j0 != j1);
-if (i0) { goto l219; }
-l218:;
-i0 = v9;
+if (i0) { goto l189; }
+l188:;
+i0 = v28;
 i1 = UINT32_C(1);
 i0 = i0 & i1;
 if (!i0) {
 i0 = UINT32_C(0);
-v9 = i0;
-goto l185;
+v28 = i0;
+goto l155;
 }
-l217:;
-i0 = v10;
-v9 = i0;
-goto l185;
 l187:;
+i0 = v7;
+v28 = i0;
+goto l155;
+l157:;
 i0 = UINT32_C(0);
-v9 = i0;
-j0 = v5;
-i0 = (j0 == 0);
-if (i0) { goto l185; }
-j0 = v1;
-j1 = UINT64_C(313512);
-j0 = j0 + j1;
-j0 = load64(p10 + 59512);
-v3 = j0;
-j1 = v1;
-j2 = UINT64_C(313504);
-j1 = j1 + j2;
-j1 = load64(p10 + 59504);
-v25 = j1;
-i0 = (j0 >= j1);
-if (i0) { goto l185; }
+v28 = i0;
 j0 = v3;
+i0 = (j0 == 0);
+if (i0) { goto l155; }
+j0 = v1;
+j1 = UINT64_C(75416);
+j0 = j0 + j1;
+p146 = read_at(j0 + UINT64_C(18446744073709551608), m, 16u);
+j0 = load64(p146 + 8);
+v5 = j0;
+j1 = v1;
+j2 = UINT64_C(75408);
+j1 = j1 + j2;
+j1 = load64(p146 + 0);
+v16 = j1;
+i0 = (j0 >= j1);
+if (i0) { goto l155; }
+j0 = v5;
 j1 = UINT64_C(1);
 j0 = j0 + j1;
-v4 = j0;
-j0 = v40;
-j1 = v3;
+v2 = j0;
+j0 = v42;
+j1 = v5;
 j2 = UINT64_C(5);
 j1 = j1 << (j2 & 63);
 j0 = j0 + j1;
-v3 = j0;
-l224:;
-j0 = v5;
-j1 = v3;
-p101 = read_at(j1, m, 2u);
-i1 = load16(p101 + 0);
-v22 = i1;
+v5 = j0;
+l194:;
+j0 = v3;
+j1 = v5;
+p147 = read_at(j1, m, 2u);
+i1 = load16(p147 + 0);
+v20 = i1;
 j1 = (uint64_t)i1;
 j2 = UINT64_C(65535);
 j1 = j1 & j2;
-v11 = j1;
+v10 = j1;
 i0 = (j0 < j1);
-if (i0) { goto l223; }
+if (i0) { goto l193; }
 j0 = v1;
-j1 = UINT64_C(313512);
+j1 = UINT64_C(75416);
 j0 = j0 + j1;
-j1 = v4;
-store64(p10 + 59512, j1);
-j0 = v4;
-j1 = v25;
+j1 = v2;
+p148 = write_at(j0, m, 8u);
+store64(p148 + 0, j1);
+j0 = v2;
+j1 = v16;
 i0 = (j0 >= j1);
-if (i0) { goto l185; }
-j0 = v3;
+if (i0) { goto l155; }
+j0 = v5;
 j1 = UINT64_C(32);
 j0 = j0 + j1;
-v3 = j0;
-j0 = v4;
+v5 = j0;
+j0 = v2;
 j1 = UINT64_C(1);
 j0 = j0 + j1;
-v4 = j0;
-j0 = v5;
-j1 = v11;
+v2 = j0;
+j0 = v3;
+j1 = v10;
 j0 = j0 - j1;
-v5 = j0;
+v3 = j0;
 i0 = (j0 == 0);
 i0 = (i0 == 0);
-if (i0) { goto l224; }
-goto l185;
-l223:;
-j0 = v3;
-i1 = v22;
-j2 = v5;
+if (i0) { goto l194; }
+goto l155;
+l193:;
+j0 = v5;
+i1 = v20;
+j2 = v3;
 i2 = (uint32_t)j2;
 i1 = i1 - i2;
-p102 = write_at(j0, m, 2u);
-store16(p102 + 0, i1);
-goto l185;
-l186:;
-j0 = v5;
+p149 = write_at(j0, m, 2u);
+store16(p149 + 0, i1);
+goto l155;
+l156:;
+j0 = v3;
 i0 = (j0 == 0);
 if (!i0) {
 j0 = v1;
-j1 = UINT64_C(313512);
+j1 = UINT64_C(75416);
 j0 = j0 + j1;
-j0 = load64(p10 + 59512);
-v3 = j0;
+p150 = read_at(j0 + UINT64_C(18446744073709551608), m, 16u);
+j0 = load64(p150 + 8);
+v5 = j0;
 j1 = v1;
-j2 = UINT64_C(313504);
+j2 = UINT64_C(75408);
 j1 = j1 + j2;
-j1 = load64(p10 + 59504);
-v25 = j1;
+j1 = load64(p150 + 0);
+v16 = j1;
 i0 = (j0 >= j1);
 if (!i0) {
-j0 = v3;
+j0 = v5;
 j1 = UINT64_C(1);
 j0 = j0 + j1;
-v4 = j0;
-j0 = v40;
-j1 = v3;
+v2 = j0;
+j0 = v42;
+j1 = v5;
 j2 = UINT64_C(5);
 j1 = j1 << (j2 & 63);
 j0 = j0 + j1;
-v3 = j0;
-l226:;
-j0 = v5;
-j1 = v3;
-p103 = read_at(j1, m, 2u);
-i1 = load16(p103 + 0);
-v22 = i1;
+v5 = j0;
+l196:;
+j0 = v3;
+j1 = v5;
+p151 = read_at(j1, m, 2u);
+i1 = load16(p151 + 0);
+v20 = i1;
 j1 = (uint64_t)i1;
 j2 = UINT64_C(65535);
 j1 = j1 & j2;
-v11 = j1;
+v10 = j1;
 i0 = (j0 < j1);
-if (i0) { goto l225; }
+if (i0) { goto l195; }
 j0 = v1;
-j1 = UINT64_C(313512);
+j1 = UINT64_C(75416);
 j0 = j0 + j1;
-j1 = v4;
-store64(p10 + 59512, j1);
-j0 = v4;
-j1 = v25;
+j1 = v2;
+p152 = write_at(j0, m, 8u);
+store64(p152 + 0, j1);
+j0 = v2;
+j1 = v16;
 i0 = (j0 >= j1);
-if (i0) { goto l185; }
-j0 = v3;
+if (i0) { goto l155; }
+j0 = v5;
 j1 = UINT64_C(32);
 j0 = j0 + j1;
-v3 = j0;
-j0 = v4;
+v5 = j0;
+j0 = v2;
 j1 = UINT64_C(1);
 j0 = j0 + j1;
-v4 = j0;
-j0 = v5;
-j1 = v11;
+v2 = j0;
+j0 = v3;
+j1 = v10;
 j0 = j0 - j1;
-v5 = j0;
+v3 = j0;
 i0 = (j0 == 0);
 i0 = (i0 == 0);
-if (i0) { goto l226; }
-goto l185;
-l225:;
-j0 = v3;
-i1 = v22;
-j2 = v5;
+if (i0) { goto l196; }
+goto l155;
+l195:;
+j0 = v5;
+i1 = v20;
+j2 = v3;
 i2 = (uint32_t)j2;
 i1 = i1 - i2;
-p104 = write_at(j0, m, 2u);
-store16(p104 + 0, i1);
+p153 = write_at(j0, m, 2u);
+store16(p153 + 0, i1);
 }
 }
-l185:;
-j0 = v13;
+l155:;
+j0 = v12;
 j1 = UINT64_C(1);
 j0 = j0 + j1;
-v13 = j0;
+v12 = j0;
 j1 = UINT64_C(2048);
 i0 = (j0 != j1);
-if (i0) { goto l156; }
-l184:;
-i0 = v9;
-i1 = v52;
+if (i0) { goto l126; }
+l154:;
+i0 = v28;
+i1 = v48;
 i0 = i0 & i1;
-v9 = i0;
+v28 = i0;
 }
-j0 = v45;
+j0 = v47;
 j1 = UINT64_C(1);
 j0 = j0 + j1;
-v45 = j0;
-j1 = v46;
+v47 = j0;
+j1 = v40;
 i0 = (j0 != j1);
-if (i0) { goto l153; }
+if (i0) { goto l123; }
 }
-i0 = v51;
+i0 = v39;
 if (!i0) {
 j0 = v1;
-j1 = UINT64_C(254000);
+j1 = UINT64_C(15904);
 j0 = j0 + j1;
 i1 = UINT32_C(0);
-store8(p10 + 0, i1);
+p154 = write_at(j0, m, 24664u);
+store8(p154 + 0, i1);
 j0 = v1;
-j1 = UINT64_C(278656);
+j1 = UINT64_C(40560);
 j0 = j0 + j1;
-j0 = load64(p10 + 24656);
-v5 = j0;
+j0 = load64(p154 + 24656);
+v3 = j0;
 i0 = (j0 == 0);
-v22 = i0;
+v20 = i0;
 if (!i0) {
-i0 = v22;
+i0 = v20;
 if (!i0) {
-j0 = v17;
+j0 = v25;
 i1 = UINT32_C(0);
-j2 = v5;
+j2 = v3;
 fill(m, j0, i1, j2);
 }
 j0 = v1;
-j1 = UINT64_C(278656);
+j1 = UINT64_C(40560);
 j0 = j0 + j1;
 j1 = UINT64_C(0);
-store64(p10 + 24656, j1);
+store64(p154 + 24656, j1);
 }
 j0 = v1;
-j1 = UINT64_C(278672);
+j1 = UINT64_C(40576);
 j0 = j0 + j1;
-j0 = load64(p10 + 24672);
-v5 = j0;
+p155 = read_at(j0, m, 8u);
+j0 = load64(p155 + 0);
+v3 = j0;
 i0 = (j0 == 0);
-v22 = i0;
+v20 = i0;
 if (!i0) {
-i0 = v22;
+i0 = v20;
 if (!i0) {
 j0 = v1;
-j1 = UINT64_C(278664);
+j1 = UINT64_C(40568);
 j0 = j0 + j1;
 i1 = UINT32_C(0);
-j2 = v5;
+j2 = v3;
 fill(m, j0, i1, j2);
 }
 j0 = v1;
-j1 = UINT64_C(278672);
+j1 = UINT64_C(40576);
 j0 = j0 + j1;
 j1 = UINT64_C(0);
-store64(p10 + 24672, j1);
+p156 = write_at(j0, m, 8u);
+store64(p156 + 0, j1);
 }
 j0 = v1;
-j1 = UINT64_C(280728);
+j1 = UINT64_C(42632);
 j0 = j0 + j1;
-j0 = load64(p10 + 26728);
-v5 = j0;
+p157 = read_at(j0, m, 8u);
+j0 = load64(p157 + 0);
+v3 = j0;
 i0 = (j0 == 0);
-v22 = i0;
+v20 = i0;
 if (!i0) {
-i0 = v22;
+i0 = v20;
 if (!i0) {
 j0 = v1;
-j1 = UINT64_C(278680);
+j1 = UINT64_C(40584);
 j0 = j0 + j1;
 i1 = UINT32_C(0);
-j2 = v5;
+j2 = v3;
 fill(m, j0, i1, j2);
 }
 j0 = v1;
-j1 = UINT64_C(280728);
+j1 = UINT64_C(42632);
 j0 = j0 + j1;
 j1 = UINT64_C(0);
-store64(p10 + 26728, j1);
+p158 = write_at(j0, m, 8u);
+store64(p158 + 0, j1);
 }
 j0 = v1;
-j1 = UINT64_C(313504);
+j1 = UINT64_C(75408);
 j0 = j0 + j1;
-j0 = load64(p10 + 59504);
-v5 = j0;
+p159 = read_at(j0, m, 8u);
+j0 = load64(p159 + 0);
+v3 = j0;
 i0 = (j0 == 0);
 if (!i0) {
-j0 = v5;
+j0 = v3;
 j1 = UINT64_C(5);
 j0 = j0 << (j1 & 63);
-v5 = j0;
+v3 = j0;
 i0 = (j0 == 0);
 if (!i0) {
-j0 = v48;
+j0 = v41;
 i1 = UINT32_C(0);
-j2 = v5;
+j2 = v3;
 fill(m, j0, i1, j2);
 }
 j0 = v1;
-j1 = UINT64_C(313504);
+j1 = UINT64_C(75408);
 j0 = j0 + j1;
 j1 = UINT64_C(0);
-store64(p10 + 59504, j1);
+p160 = write_at(j0, m, 8u);
+store64(p160 + 0, j1);
 }
 j0 = v1;
-j1 = UINT64_C(313512);
+j1 = UINT64_C(75416);
 j0 = j0 + j1;
 j1 = UINT64_C(0);
-store64(p10 + 59512, j1);
+p161 = write_at(j0, m, 8u);
+store64(p161 + 0, j1);
 }
 i0 = UINT32_C(2);
 i1 = UINT32_C(1);
-j2 = v6;
+j2 = v4;
 j3 = UINT64_C(24584);
 j2 = j2 + j3;
-p105 = read_at(j2, m, 8u);
-j2 = load64(p105 + 0);
+p162 = read_at(j2, m, 8u);
+j2 = load64(p162 + 0);
 i2 = (j2 == 0);
-v22 = i2;
+v20 = i2;
 i0 = i2 ? i0 : i1;
 i1 = UINT32_C(4);
 i2 = UINT32_C(1);
-i3 = v22;
+i3 = v20;
 i1 = i3 ? i1 : i2;
-i2 = v9;
+i2 = v28;
 i3 = UINT32_C(1);
 i2 = i2 & i3;
-v9 = i2;
+v8 = i2;
 i0 = i2 ? i0 : i1;
-v31 = i0;
+v28 = i0;
 i0 = UINT32_C(0);
-v8 = i0;
+v7 = i0;
 i0 = UINT32_C(0);
 i1 = UINT32_C(2);
 i2 = UINT32_C(10);
-i3 = v22;
+i3 = v20;
 i1 = i3 ? i1 : i2;
-i2 = v9;
+i2 = v8;
 i0 = i2 ? i0 : i1;
-v9 = i0;
-goto l7;
-l77:;
-i0 = v19;
+v8 = i0;
+goto l6;
+l73:;
+j0 = v16;
+i0 = (uint32_t)j0;
 i1 = UINT32_C(1);
 i0 = i0 & i1;
 if (!i0) {
-j0 = v21;
+j0 = v17;
 i0 = (j0 == 0);
 if (!i0) {
-j0 = v20;
-v5 = j0;
-j0 = v21;
-v4 = j0;
-l238:;
-j0 = v5;
-p106 = read_at(j0, m, 1u);
-j0 = load8(p106 + 0);
+j0 = v18;
 v3 = j0;
+j0 = v17;
+v2 = j0;
+l208:;
+j0 = v3;
+p163 = read_at(j0, m, 1u);
+j0 = load8(p163 + 0);
+v5 = j0;
 j1 = UINT64_C(32);
 i0 = (j0 > j1);
-if (i0) { goto l236; }
+if (i0) { goto l206; }
 j0 = UINT64_C(1);
-j1 = v3;
+j1 = v5;
 j0 = j0 << (j1 & 63);
 j1 = UINT64_C(4294981120);
 j0 = j0 & j1;
 j1 = UINT64_C(0);
 i0 = (j0 == j1);
-if (i0) { goto l236; }
-j0 = v5;
+if (i0) { goto l206; }
+j0 = v3;
 j1 = UINT64_C(1);
 j0 = j0 + j1;
-v5 = j0;
-j0 = v4;
+v3 = j0;
+j0 = v2;
 j1 = UINT64_C(18446744073709551615);
 j0 = j0 + j1;
-v4 = j0;
+v2 = j0;
 j1 = UINT64_C(0);
 i0 = (j0 != j1);
-if (i0) { goto l238; }
+if (i0) { goto l208; }
 }
 j0 = v1;
-j1 = UINT64_C(313624);
+j1 = UINT64_C(75528);
 j0 = j0 + j1;
-j0 = load64(p10 + 59624);
-v11 = j0;
+p164 = read_at(j0, m, 8u);
+j0 = load64(p164 + 0);
+v10 = j0;
 i0 = (j0 == 0);
-if (i0) { goto l13; }
+if (i0) { goto l48; }
 j0 = v1;
-j1 = UINT64_C(313544);
+j1 = UINT64_C(75448);
 j0 = j0 + j1;
-j0 = load64(p10 + 59544);
-v3 = j0;
+p165 = read_at(j0, m, 8u);
+j0 = load64(p165 + 0);
+v5 = j0;
 i0 = (j0 == 0);
-if (i0) { goto l13; }
+if (i0) { goto l48; }
 j0 = UINT64_C(0);
-v4 = j0;
+v2 = j0;
 j0 = UINT64_C(0);
-v17 = j0;
-j0 = v11;
+v25 = j0;
+j0 = v10;
 j1 = UINT64_C(1);
 i0 = (j0 == j1);
 if (!i0) {
-j0 = v11;
+j0 = v10;
 j1 = UINT64_C(1);
 j0 = j0 & j1;
-v6 = j0;
+v16 = j0;
 j0 = v1;
-j1 = UINT64_C(313568);
+j1 = UINT64_C(75472);
 j0 = j0 + j1;
-v5 = j0;
-j0 = v11;
+v3 = j0;
+j0 = v10;
 j1 = UINT64_C(18446744073709551614);
 j0 = j0 & j1;
-v11 = j0;
+v10 = j0;
 j0 = UINT64_C(0);
-v4 = j0;
+v2 = j0;
 j0 = UINT64_C(0);
-v17 = j0;
-p107 = read_at(v5 + UINT64_C(18446744073709551608), m, run(16u, 16u, turns(v11, v17, 2u)));
+v25 = j0;
+p166 = read_at(v3 + UINT64_C(18446744073709551608), m, run(16u, 16u, turns(v10, v25, 2u)));
 for (;;) {
 j0 = UINT64_C(1);
 j1 = UINT64_C(2);
 j2 = UINT64_C(1);
 j3 = UINT64_C(2);
-j4 = v4;
+j4 = v2;
 i4 = (j4 == 0);
 j2 = i4 ? j2 : j3;
-j3 = v4;
-j4 = v5;
+j3 = v2;
+j4 = v3;
 j5 = UINT64_C(18446744073709551608);
 j4 = j4 + j5;
-j4 = load64(p107 + 0);
-j5 = v3;
+j4 = load64(p166 + 0);
+j5 = v5;
 i4 = (j4 == j5);
 j2 = i4 ? j2 : j3;
-v4 = j2;
+v2 = j2;
 i2 = (j2 == 0);
 j0 = i2 ? j0 : j1;
-j1 = v4;
-j2 = v5;
-j2 = load64(p107 + 8);
-j3 = v3;
+j1 = v2;
+j2 = v3;
+j2 = load64(p166 + 8);
+j3 = v5;
 i2 = (j2 == j3);
 j0 = i2 ? j0 : j1;
-v4 = j0;
-j0 = v5;
+v2 = j0;
+j0 = v3;
 j1 = UINT64_C(16);
 j0 = j0 + j1;
-v5 = j0;
-j0 = v11;
-j1 = v17;
+v3 = j0;
+j0 = v10;
+j1 = v25;
 j2 = UINT64_C(2);
 j1 = j1 + j2;
-v17 = j1;
+v25 = j1;
 i0 = (j0 != j1);
 if (!i0) break;
-p107 += 16;
+p166 += 16;
 }
-j0 = v6;
+j0 = v16;
 i0 = (j0 == 0);
-if (i0) { goto l239; }
+if (i0) { goto l209; }
 }
 j0 = UINT64_C(1);
 j1 = UINT64_C(2);
-j2 = v4;
+j2 = v2;
 i2 = (j2 == 0);
 j0 = i2 ? j0 : j1;
-j1 = v4;
+j1 = v2;
 j2 = v1;
-j3 = UINT64_C(313560);
+j3 = UINT64_C(75464);
 j2 = j2 + j3;
-j3 = v17;
+j3 = v25;
 j4 = UINT64_C(3);
 j3 = j3 << (j4 & 63);
 j2 = j2 + j3;
-p108 = read_at(j2, m, 8u);
-j2 = load64(p108 + 0);
-j3 = v3;
+p167 = read_at(j2, m, 8u);
+j2 = load64(p167 + 0);
+j3 = v5;
 i2 = (j2 == j3);
 j0 = i2 ? j0 : j1;
-v4 = j0;
-l239:;
+v2 = j0;
+l209:;
 i0 = UINT32_C(0);
-v31 = i0;
-j0 = v4;
-j1 = UINT64_C(2);
-i0 = (j0 >= j1);
-if (!i0) {
+v7 = i0;
+i0 = UINT32_C(0);
+v28 = i0;
 i0 = UINT32_C(0);
 v8 = i0;
-i0 = UINT32_C(0);
-v9 = i0;
-goto l7;
+j0 = v2;
+j1 = UINT64_C(2);
+i0 = (j0 < j1);
+if (i0) { goto l6; }
 }
-}
-l236:;
+l206:;
 j0 = v1;
-j1 = UINT64_C(313624);
+j1 = UINT64_C(75528);
 j0 = j0 + j1;
-j0 = load64(p10 + 59624);
-v11 = j0;
+p168 = read_at(j0, m, 8u);
+j0 = load64(p168 + 0);
+v10 = j0;
 i0 = (j0 == 0);
 if (!i0) {
 j0 = v1;
-j1 = UINT64_C(313544);
+j1 = UINT64_C(75448);
 j0 = j0 + j1;
-j0 = load64(p10 + 59544);
-v3 = j0;
+p169 = read_at(j0, m, 8u);
+j0 = load64(p169 + 0);
+v5 = j0;
 i0 = (j0 == 0);
 if (!i0) {
 j0 = UINT64_C(0);
-v4 = j0;
+v2 = j0;
 j0 = UINT64_C(0);
-v17 = j0;
-j0 = v11;
+v25 = j0;
+j0 = v10;
 j1 = UINT64_C(1);
 i0 = (j0 == j1);
 if (!i0) {
-j0 = v11;
+j0 = v10;
 j1 = UINT64_C(1);
 j0 = j0 & j1;
-v6 = j0;
+v16 = j0;
 j0 = v1;
-j1 = UINT64_C(313568);
+j1 = UINT64_C(75472);
 j0 = j0 + j1;
-v5 = j0;
-j0 = v11;
+v3 = j0;
+j0 = v10;
 j1 = UINT64_C(18446744073709551614);
 j0 = j0 & j1;
-v11 = j0;
+v10 = j0;
 j0 = UINT64_C(0);
-v4 = j0;
+v2 = j0;
 j0 = UINT64_C(0);
-v17 = j0;
-p109 = read_at(v5 + UINT64_C(18446744073709551608), m, run(16u, 16u, turns(v11, v17, 2u)));
+v25 = j0;
+p170 = read_at(v3 + UINT64_C(18446744073709551608), m, run(16u, 16u, turns(v10, v25, 2u)));
 for (;;) {
 j0 = UINT64_C(1);
 j1 = UINT64_C(2);
 j2 = UINT64_C(1);
 j3 = UINT64_C(2);
-j4 = v4;
+j4 = v2;
 i4 = (j4 == 0);
 j2 = i4 ? j2 : j3;
-j3 = v4;
-j4 = v5;
+j3 = v2;
+j4 = v3;
 j5 = UINT64_C(18446744073709551608);
 j4 = j4 + j5;
-j4 = load64(p109 + 0);
-j5 = v3;
+j4 = load64(p170 + 0);
+j5 = v5;
 i4 = (j4 == j5);
 j2 = i4 ? j2 : j3;
-v4 = j2;
+v2 = j2;
 i2 = (j2 == 0);
 j0 = i2 ? j0 : j1;
-j1 = v4;
-j2 = v5;
-j2 = load64(p109 + 8);
-j3 = v3;
+j1 = v2;
+j2 = v3;
+j2 = load64(p170 + 8);
+j3 = v5;
 i2 = (j2 == j3);
 j0 = i2 ? j0 : j1;
-v4 = j0;
-j0 = v5;
+v2 = j0;
+j0 = v3;
 j1 = UINT64_C(16);
 j0 = j0 + j1;
-v5 = j0;
-j0 = v11;
-j1 = v17;
+v3 = j0;
+j0 = v10;
+j1 = v25;
 j2 = UINT64_C(2);
 j1 = j1 + j2;
-v17 = j1;
+v25 = j1;
 i0 = (j0 != j1);
 if (!i0) break;
-p109 += 16;
+p170 += 16;
 }
-j0 = v6;
+j0 = v16;
 i0 = (j0 == 0);
-if (i0) { goto l243; }
+if (i0) { goto l213; }
 }
 j0 = UINT64_C(1);
 j1 = UINT64_C(2);
-j2 = v4;
+j2 = v2;
 i2 = (j2 == 0);
 j0 = i2 ? j0 : j1;
-j1 = v4;
+j1 = v2;
 j2 = v1;
-j3 = UINT64_C(313560);
+j3 = UINT64_C(75464);
 j2 = j2 + j3;
-j3 = v17;
+j3 = v25;
 j4 = UINT64_C(3);
 j3 = j3 << (j4 & 63);
 j2 = j2 + j3;
-p110 = read_at(j2, m, 8u);
-j2 = load64(p110 + 0);
-j3 = v3;
+p171 = read_at(j2, m, 8u);
+j2 = load64(p171 + 0);
+j3 = v5;
 i2 = (j2 == j3);
 j0 = i2 ? j0 : j1;
-v4 = j0;
-l243:;
-j0 = v4;
+v2 = j0;
+l213:;
+j0 = v2;
 j1 = UINT64_C(1);
 i0 = (j0 > j1);
-if (i0) { goto l16; }
+if (i0) { goto l49; }
 }
 }
+i0 = v29;
+i1 = UINT32_C(1);
+i0 = (i0 == i1);
+if (!i0) {
 j0 = v1;
-j1 = UINT64_C(317768);
+j1 = UINT64_C(79672);
 j0 = j0 + j1;
-v41 = j0;
+v38 = j0;
 j0 = v1;
-j1 = UINT64_C(315712);
+j1 = UINT64_C(77616);
 j0 = j0 + j1;
-v33 = j0;
-j0 = v39;
+v36 = j0;
+j0 = UINT64_C(0);
+v3 = j0;
+j0 = v6;
+j1 = UINT64_C(2408);
+j0 = j0 + j1;
+v40 = j0;
+goto l216;
+}
+j0 = v1;
+j1 = UINT64_C(79672);
+j0 = j0 + j1;
+v38 = j0;
+j0 = v1;
+j1 = UINT64_C(77616);
+j0 = j0 + j1;
+v36 = j0;
+j0 = v1;
+j1 = UINT64_C(8);
+j0 = j0 + j1;
+v40 = j0;
+j0 = v1;
+j1 = UINT64_C(12552);
+j0 = j0 + j1;
+p172 = read_at(j0, m, 8u);
+j0 = load64(p172 + 0);
+v46 = j0;
 i0 = (j0 == 0);
 i0 = (i0 == 0);
 if (!i0) {
 j0 = UINT64_C(0);
-v5 = j0;
-goto l246;
+v3 = j0;
+goto l216;
 }
-j0 = v21;
+j0 = v17;
 j1 = UINT64_C(10);
-j2 = v21;
+j2 = v17;
 j3 = UINT64_C(10);
 i2 = (j2 < j3);
 j0 = i2 ? j0 : j1;
-v43 = j0;
-j0 = v20;
-j1 = UINT64_C(18446744073709551615);
-j0 = j0 + j1;
 v50 = j0;
-j0 = v1;
-j1 = UINT64_C(238633);
-j0 = j0 + j1;
-v46 = j0;
-j0 = v1;
-j1 = UINT64_C(238106);
-j0 = j0 + j1;
-v49 = j0;
-j0 = v21;
+j0 = v18;
 j1 = UINT64_C(18446744073709551615);
 j0 = j0 + j1;
-v48 = j0;
+v43 = j0;
 j0 = v1;
-j1 = UINT64_C(238105);
+j1 = UINT64_C(537);
 j0 = j0 + j1;
-v45 = j0;
+v44 = j0;
+j0 = v1;
+j1 = UINT64_C(10);
+j0 = j0 + j1;
+v47 = j0;
+j0 = v17;
+j1 = UINT64_C(18446744073709551615);
+j0 = j0 + j1;
+v41 = j0;
+j0 = v1;
+j1 = UINT64_C(9);
+j0 = j0 + j1;
+v42 = j0;
 j0 = UINT64_C(0);
-v40 = j0;
-l248:;
-j0 = v23;
-j1 = v40;
+v35 = j0;
+l219:;
+j0 = v40;
+j1 = v35;
 j2 = UINT64_C(784);
 j1 = j1 * j2;
 j0 = j0 + j1;
-v34 = j0;
-j0 = v21;
+v27 = j0;
+j0 = v17;
 i0 = (j0 == 0);
-v32 = i0;
+v7 = i0;
 if (!i0) {
 j0 = UINT64_C(0);
-v4 = j0;
-l268:;
-j0 = v21;
-j1 = v4;
-v5 = j1;
+v2 = j0;
+l239:;
+j0 = v17;
+j1 = v2;
+v3 = j1;
 i0 = (j0 == j1);
-if (i0) { goto l267; }
-j0 = v5;
+if (i0) { goto l238; }
+j0 = v3;
 j1 = UINT64_C(1);
 j0 = j0 + j1;
-v4 = j0;
-j0 = v20;
-j1 = v5;
+v2 = j0;
+j0 = v18;
+j1 = v3;
 j0 = j0 + j1;
-p111 = read_at(j0, m, 1u);
-i0 = load8(p111 + 0);
+p173 = read_at(j0, m, 1u);
+i0 = load8(p173 + 0);
 i1 = UINT32_C(48);
 i0 = (i0 == i1);
-if (i0) { goto l268; }
-l267:;
-j0 = v34;
+if (i0) { goto l239; }
+l238:;
+j0 = v27;
 j1 = UINT64_C(512);
 j0 = j0 + j1;
-v24 = j0;
-p112 = read_at(j0, m, 8u);
-j0 = load64(p112 + 0);
-v25 = j0;
-i0 = (j0 == 0);
-v19 = i0;
-if (!i0) {
-j0 = v20;
+v30 = j0;
+p174 = read_at(j0, m, 8u);
+j0 = load64(p174 + 0);
 v4 = j0;
-j0 = v21;
-v3 = j0;
-l275:;
-j0 = v4;
-p113 = read_at(j0, m, 1u);
-i0 = load8(p113 + 0);
-v22 = i0;
+i0 = (j0 == 0);
+v9 = i0;
+if (!i0) {
+j0 = v18;
+v2 = j0;
+j0 = v17;
+v5 = j0;
+l246:;
+j0 = v2;
+p175 = read_at(j0, m, 1u);
+i0 = load8(p175 + 0);
+v20 = i0;
 i1 = UINT32_C(48);
 i0 = (i0 < i1);
-if (i0) { goto l274; }
-i0 = v22;
+if (i0) { goto l245; }
+i0 = v20;
 i1 = UINT32_C(58);
 i0 = (i0 < i1);
 if (!i0) {
-i0 = v22;
+i0 = v20;
 i1 = UINT32_C(65);
 i0 = (i0 < i1);
-if (i0) { goto l274; }
-i0 = v22;
+if (i0) { goto l245; }
+i0 = v20;
 i1 = UINT32_C(71);
 i0 = (i0 < i1);
 if (!i0) {
-i0 = v22;
+i0 = v20;
 i1 = UINT32_C(4294967199);
 i0 = i0 + i1;
 i1 = UINT32_C(255);
 i0 = i0 & i1;
 i1 = UINT32_C(5);
 i0 = (i0 > i1);
-if (i0) { goto l274; }
+if (i0) { goto l245; }
 }
 }
-j0 = v4;
+j0 = v2;
 j1 = UINT64_C(1);
 j0 = j0 + j1;
-v4 = j0;
-j0 = v3;
+v2 = j0;
+j0 = v5;
 j1 = UINT64_C(18446744073709551615);
 j0 = j0 + j1;
-v3 = j0;
+v5 = j0;
 j1 = UINT64_C(0);
 i0 = (j0 != j1);
-if (i0) { goto l275; }
-j0 = v21;
-j1 = v5;
+if (i0) { goto l246; }
+j0 = v17;
+j1 = v3;
 i0 = (j0 != j1);
-if (i0) { goto l264; }
-l274:;
-j0 = v34;
+if (i0) { goto l235; }
+l245:;
+j0 = v27;
 j1 = UINT64_C(772);
 j0 = j0 + j1;
-p114 = read_at(j0, m, 1u);
-i0 = load8(p114 + 0);
+p176 = read_at(j0, m, 1u);
+i0 = load8(p176 + 0);
 i1 = UINT32_C(1);
 i0 = (i0 == i1);
-if (i0) { goto l272; }
-goto l271;
+if (i0) { goto l243; }
+goto l242;
 }
 j0 = UINT64_C(0);
-v5 = j0;
-j0 = v34;
+v3 = j0;
+j0 = v27;
 j1 = UINT64_C(772);
 j0 = j0 + j1;
-p115 = read_at(j0, m, 1u);
-i0 = load8(p115 + 0);
+p177 = read_at(j0, m, 1u);
+i0 = load8(p177 + 0);
 i1 = UINT32_C(1);
 i0 = (i0 != i1);
-if (i0) { goto l270; }
-l272:;
-j0 = v20;
-v4 = j0;
-j0 = v21;
-v3 = j0;
-l277:;
-j0 = v4;
-p116 = read_at(j0, m, 1u);
-i0 = load8(p116 + 0);
-v22 = i0;
+if (i0) { goto l241; }
+l243:;
+j0 = v18;
+v2 = j0;
+j0 = v17;
+v5 = j0;
+l248:;
+j0 = v2;
+p178 = read_at(j0, m, 1u);
+i0 = load8(p178 + 0);
+v20 = i0;
 i1 = UINT32_C(48);
 i0 = (i0 < i1);
-if (i0) { goto l264; }
-i0 = v22;
+if (i0) { goto l235; }
+i0 = v20;
 i1 = UINT32_C(58);
 i0 = (i0 < i1);
 if (!i0) {
-i0 = v22;
+i0 = v20;
 i1 = UINT32_C(65);
 i0 = (i0 < i1);
-if (i0) { goto l264; }
-i0 = v22;
+if (i0) { goto l235; }
+i0 = v20;
 i1 = UINT32_C(71);
 i0 = (i0 < i1);
 if (!i0) {
-i0 = v22;
+i0 = v20;
 i1 = UINT32_C(4294967199);
 i0 = i0 + i1;
 i1 = UINT32_C(255);
 i0 = i0 & i1;
 i1 = UINT32_C(5);
 i0 = (i0 > i1);
-if (i0) { goto l264; }
+if (i0) { goto l235; }
 }
 }
-j0 = v4;
+j0 = v2;
 j1 = UINT64_C(1);
 j0 = j0 + j1;
-v4 = j0;
+v2 = j0;
 j0 = UINT64_C(0);
-v5 = j0;
-j0 = v3;
+v3 = j0;
+j0 = v5;
 j1 = UINT64_C(18446744073709551615);
 j0 = j0 + j1;
-v3 = j0;
+v5 = j0;
 j1 = UINT64_C(0);
 i0 = (j0 != j1);
-if (i0) { goto l277; }
-i0 = v19;
-if (i0) { goto l270; }
-l271:;
-j0 = v34;
+if (i0) { goto l248; }
+i0 = v9;
+if (i0) { goto l241; }
+l242:;
+j0 = v27;
 j1 = UINT64_C(664);
 j0 = j0 + j1;
-v6 = j0;
-j0 = v34;
+v16 = j0;
+j0 = v27;
 j1 = UINT64_C(760);
 j0 = j0 + j1;
-p117 = read_at(j0, m, 8u);
-j0 = load64(p117 + 0);
-v13 = j0;
+p179 = read_at(j0, m, 8u);
+j0 = load64(p179 + 0);
+v12 = j0;
 j0 = UINT64_C(0);
-v5 = j0;
-j0 = v45;
-v4 = j0;
-j0 = v25;
 v3 = j0;
-l279:;
-j0 = v21;
-j1 = v5;
+j0 = v42;
+v2 = j0;
+j0 = v4;
+v5 = j0;
+l250:;
+j0 = v17;
+j1 = v3;
 i0 = (j0 <= j1);
-if (i0) { goto l250; }
-j0 = v7;
-j1 = UINT64_C(256);
+if (i0) { goto l221; }
+j0 = v6;
+j1 = UINT64_C(192);
 j0 = j0 + j1;
-j1 = v4;
+j1 = v2;
 j2 = UINT64_C(18446744073709551615);
 j1 = j1 + j2;
-p118 = read_at(j1, m, 2u);
-i1 = load8(p118 + 0);
-v22 = i1;
-j2 = v4;
-i2 = load8(p118 + 1);
-j3 = v6;
-j4 = v13;
-j5 = v20;
-j6 = v5;
+p180 = read_at(j1, m, 2u);
+i1 = load8(p180 + 0);
+v20 = i1;
+j2 = v2;
+i2 = load8(p180 + 1);
+j3 = v16;
+j4 = v12;
+j5 = v18;
+j6 = v3;
 j5 = j5 + j6;
-v17 = j5;
-j6 = v21;
-j7 = v5;
+v25 = j5;
+j6 = v17;
+j7 = v3;
 j6 = j6 - j7;
-v11 = j6;
+v10 = j6;
 fio_form_form_Piece_length_in(m, j0, i1, i2, j3, j4, j5, j6);
-j0 = v7;
-i0 = load8(p1 + 256);
+j0 = v6;
+i0 = load8(p1 + 192);
 i1 = UINT32_C(1);
 i0 = (i0 != i1);
-if (i0) { goto l269; }
-j0 = v4;
+if (i0) { goto l240; }
+j0 = v2;
 j1 = UINT64_C(2);
 j0 = j0 + j1;
-v4 = j0;
-j0 = v7;
-j0 = load64(p1 + 264);
-j1 = v5;
-j0 = j0 + j1;
-v5 = j0;
-j0 = v3;
-j1 = UINT64_C(18446744073709551615);
+v2 = j0;
+j0 = v6;
+j0 = load64(p1 + 200);
+j1 = v3;
 j0 = j0 + j1;
 v3 = j0;
+j0 = v5;
+j1 = UINT64_C(18446744073709551615);
+j0 = j0 + j1;
+v5 = j0;
 i0 = (j0 == 0);
 i0 = (i0 == 0);
-if (i0) { goto l279; }
-l270:;
-j0 = v34;
+if (i0) { goto l250; }
+l241:;
+j0 = v27;
 j1 = UINT64_C(521);
 j0 = j0 + j1;
-p119 = read_at(j0 + UINT64_C(18446744073709551615), m, 2u);
-i0 = load8(p119 + 1);
-v31 = i0;
-j0 = v34;
+p181 = read_at(j0 + UINT64_C(18446744073709551615), m, 2u);
+i0 = load8(p181 + 1);
+v28 = i0;
+j0 = v27;
 j1 = UINT64_C(520);
 j0 = j0 + j1;
-i0 = load8(p119 + 0);
-v22 = i0;
+i0 = load8(p181 + 0);
+v20 = i0;
 i1 = UINT32_C(7);
 i0 = (i0 != i1);
 if (!i0) {
-j0 = v5;
+j0 = v3;
 i0 = (j0 == 0);
 if (!i0) {
-i0 = v31;
+i0 = v28;
 i1 = UINT32_C(255);
 i0 = i0 & i1;
 if (!i0) {
-j0 = v20;
-j1 = v5;
+j0 = v18;
+j1 = v3;
 j0 = j0 + j1;
 j1 = UINT64_C(18446744073709551615);
 j0 = j0 + j1;
-p120 = read_at(j0, m, 1u);
-i0 = load8(p120 + 0);
-v31 = i0;
+p182 = read_at(j0, m, 1u);
+i0 = load8(p182 + 0);
+v28 = i0;
 }
 }
 }
-j0 = v7;
+j0 = v6;
 i1 = UINT32_C(0);
-store16(p1 + 425, i1);
-j0 = v7;
+store16(p1 + 321, i1);
+j0 = v6;
 i1 = UINT32_C(0);
-store8(p1 + 424, i1);
-j0 = v7;
+store8(p1 + 320, i1);
+j0 = v6;
 i1 = UINT32_C(0);
-store32(p1 + 12976, i1);
-j0 = v7;
+store32(p1 + 352, i1);
+j0 = v6;
 i1 = UINT32_C(0);
-store8(p1 + 12980, i1);
-j0 = v21;
-j1 = v5;
+store8(p1 + 356, i1);
+j0 = v17;
+j1 = v3;
 i0 = (j0 == j1);
-if (i0) { goto l250; }
-j0 = v20;
-j1 = v5;
+if (i0) { goto l221; }
+j0 = v18;
+j1 = v3;
 j0 = j0 + j1;
-v4 = j0;
-j0 = v48;
-j1 = v5;
+v2 = j0;
+j0 = v41;
+j1 = v3;
 j0 = j0 - j1;
-v5 = j0;
-l281:;
-i0 = v22;
-j1 = v7;
-j2 = UINT64_C(424);
+v3 = j0;
+l252:;
+i0 = v20;
+j1 = v6;
+j2 = UINT64_C(320);
 j1 = j1 + j2;
-j2 = v4;
+j2 = v2;
 j3 = UINT64_C(1);
 j2 = j2 + j3;
-v3 = j2;
-j3 = v5;
+v5 = j2;
+j3 = v3;
 i0 = fio_form_octets_makes_longer(m, i0, j1, j2, j3);
-v10 = i0;
-j0 = v7;
-j1 = UINT64_C(12976);
+v8 = i0;
+j0 = v6;
+j1 = UINT64_C(352);
 j0 = j0 + j1;
-i1 = v22;
-i2 = v31;
-j3 = v7;
-j4 = UINT64_C(424);
+i1 = v20;
+i2 = v28;
+j3 = v6;
+j4 = UINT64_C(320);
 j3 = j3 + j4;
-j4 = v4;
-p121 = read_at(j4, m, 1u);
-i4 = load8(p121 + 0);
-i5 = v10;
+j4 = v2;
+p183 = read_at(j4, m, 1u);
+i4 = load8(p183 + 0);
+i5 = v8;
 fio_form_octets_next_in(m, j0, i1, i2, j3, i4, i5);
-j0 = v7;
-i0 = load8(p1 + 12976);
-if (i0) { goto l264; }
-j0 = v7;
-j1 = v7;
-i1 = load8(p1 + 12979);
-store8(p1 + 426, i1);
-j0 = v7;
-j1 = v7;
-i1 = load16(p1 + 12977);
-store16(p1 + 424, i1);
-j0 = v3;
-v4 = j0;
+j0 = v6;
+i0 = load8(p1 + 352);
+if (i0) { goto l235; }
+j0 = v6;
+j1 = v6;
+i1 = load8(p1 + 355);
+store8(p1 + 322, i1);
+j0 = v6;
+j1 = v6;
+i1 = load16(p1 + 353);
+store16(p1 + 320, i1);
 j0 = v5;
+v2 = j0;
+j0 = v3;
 j1 = UINT64_C(18446744073709551615);
 j0 = j0 + j1;
-v5 = j0;
+v3 = j0;
 j1 = UINT64_C(18446744073709551615);
 i0 = (j0 != j1);
-if (i0) { goto l281; }
-goto l250;
-l269:;
+if (i0) { goto l252; }
+goto l221;
+l240:;
 j0 = UINT64_C(0);
-v4 = j0;
-i0 = v22;
+v2 = j0;
+i0 = v20;
 switch (i0) {
 case 0:
-goto l282;
+goto l253;
 case 1:
-goto l285;
+goto l256;
 case 2:
-goto l284;
+goto l255;
 case 3:
-goto l283;
+goto l254;
 case 4:
-goto l286;
+goto l257;
 case 5:
-goto l282;
+goto l253;
 case 6:
-goto l284;
+goto l255;
 default:
-goto l282;
+goto l253;
 }
-l286:;
-l288:;
-j0 = v17;
-p122 = read_at(j0, m, 1u);
-i0 = load8(p122 + 0);
-v22 = i0;
+l257:;
+l259:;
+j0 = v25;
+p184 = read_at(j0, m, 1u);
+i0 = load8(p184 + 0);
+v20 = i0;
 i1 = UINT32_C(32);
 i0 = (i0 == i1);
 if (!i0) {
-i0 = v22;
+i0 = v20;
 i1 = UINT32_C(9);
 i0 = (i0 != i1);
-if (i0) { goto l287; }
+if (i0) { goto l258; }
 }
-j0 = v17;
+j0 = v25;
 j1 = UINT64_C(1);
 j0 = j0 + j1;
-v17 = j0;
-j0 = v11;
+v25 = j0;
+j0 = v10;
 j1 = UINT64_C(18446744073709551615);
 j0 = j0 + j1;
-v11 = j0;
+v10 = j0;
 i0 = (j0 == 0);
 i0 = (i0 == 0);
-if (i0) { goto l288; }
-goto l250;
-l287:;
-j0 = v11;
+if (i0) { goto l259; }
+goto l221;
+l258:;
+j0 = v10;
 i0 = (j0 == 0);
-if (i0) { goto l250; }
+if (i0) { goto l221; }
 j0 = UINT64_C(0);
-v5 = j0;
-l290:;
-j0 = v17;
-j1 = v5;
+v3 = j0;
+l261:;
+j0 = v25;
+j1 = v3;
 j0 = j0 + j1;
-p123 = read_at(j0, m, 1u);
-i0 = load8(p123 + 0);
-v22 = i0;
+p185 = read_at(j0, m, 1u);
+i0 = load8(p185 + 0);
+v20 = i0;
 i1 = UINT32_C(48);
 i0 = (i0 < i1);
-if (i0) { goto l265; }
-i0 = v22;
+if (i0) { goto l236; }
+i0 = v20;
 i1 = UINT32_C(58);
 i0 = (i0 < i1);
 if (!i0) {
-i0 = v22;
+i0 = v20;
 i1 = UINT32_C(65);
 i0 = (i0 < i1);
-if (i0) { goto l265; }
-i0 = v22;
+if (i0) { goto l236; }
+i0 = v20;
 i1 = UINT32_C(71);
 i0 = (i0 < i1);
 if (!i0) {
-i0 = v22;
+i0 = v20;
 i1 = UINT32_C(4294967199);
 i0 = i0 + i1;
 i1 = UINT32_C(255);
 i0 = i0 & i1;
 i1 = UINT32_C(5);
 i0 = (i0 > i1);
-if (i0) { goto l265; }
+if (i0) { goto l236; }
 }
 }
-j0 = v11;
-j1 = v5;
+j0 = v10;
+j1 = v3;
 j2 = UINT64_C(1);
 j1 = j1 + j2;
-v5 = j1;
+v3 = j1;
 i0 = (j0 != j1);
-if (i0) { goto l290; }
-goto l250;
-l285:;
-j0 = v20;
-j1 = v5;
+if (i0) { goto l261; }
+goto l221;
+l256:;
+j0 = v18;
+j1 = v3;
 j0 = j0 + j1;
-v3 = j0;
-j0 = v21;
-j1 = v5;
-j0 = j0 - j1;
 v5 = j0;
+j0 = v17;
+j1 = v3;
+j0 = j0 - j1;
+v3 = j0;
 j0 = UINT64_C(0);
-v4 = j0;
-l292:;
-j0 = v3;
-j1 = v4;
+v2 = j0;
+l263:;
+j0 = v5;
+j1 = v2;
 j0 = j0 + j1;
-p124 = read_at(j0, m, 1u);
-i0 = load8(p124 + 0);
+p186 = read_at(j0, m, 1u);
+i0 = load8(p186 + 0);
 i1 = UINT32_C(4294967248);
 i0 = i0 + i1;
 i1 = UINT32_C(255);
 i0 = i0 & i1;
 i1 = UINT32_C(9);
 i0 = (i0 > i1);
-if (i0) { goto l282; }
-j0 = v5;
-j1 = v4;
+if (i0) { goto l253; }
+j0 = v3;
+j1 = v2;
 j2 = UINT64_C(1);
 j1 = j1 + j2;
-v4 = j1;
+v2 = j1;
 i0 = (j0 != j1);
-if (i0) { goto l292; }
-goto l250;
-l284:;
-j0 = v20;
-j1 = v5;
+if (i0) { goto l263; }
+goto l221;
+l255:;
+j0 = v18;
+j1 = v3;
 j0 = j0 + j1;
-v3 = j0;
-j0 = v21;
-j1 = v5;
-j0 = j0 - j1;
 v5 = j0;
+j0 = v17;
+j1 = v3;
+j0 = j0 - j1;
+v3 = j0;
 j0 = UINT64_C(0);
-v4 = j0;
-l293:;
-j0 = v3;
-j1 = v4;
+v2 = j0;
+l264:;
+j0 = v5;
+j1 = v2;
 j0 = j0 + j1;
-p125 = read_at(j0, m, 1u);
-i0 = load8(p125 + 0);
-v22 = i0;
+p187 = read_at(j0, m, 1u);
+i0 = load8(p187 + 0);
+v20 = i0;
 i1 = UINT32_C(48);
 i0 = (i0 < i1);
-if (i0) { goto l282; }
-i0 = v22;
+if (i0) { goto l253; }
+i0 = v20;
 i1 = UINT32_C(58);
 i0 = (i0 < i1);
 if (!i0) {
-i0 = v22;
+i0 = v20;
 i1 = UINT32_C(65);
 i0 = (i0 < i1);
-if (i0) { goto l282; }
-i0 = v22;
+if (i0) { goto l253; }
+i0 = v20;
 i1 = UINT32_C(71);
 i0 = (i0 < i1);
 if (!i0) {
-i0 = v22;
+i0 = v20;
 i1 = UINT32_C(4294967199);
 i0 = i0 + i1;
 i1 = UINT32_C(255);
 i0 = i0 & i1;
 i1 = UINT32_C(5);
 i0 = (i0 > i1);
-if (i0) { goto l282; }
+if (i0) { goto l253; }
 }
 }
-j0 = v5;
-j1 = v4;
+j0 = v3;
+j1 = v2;
 j2 = UINT64_C(1);
 j1 = j1 + j2;
-v4 = j1;
+v2 = j1;
 i0 = (j0 != j1);
-if (i0) { goto l293; }
-goto l250;
-l283:;
-j0 = v20;
-j1 = v5;
+if (i0) { goto l264; }
+goto l221;
+l254:;
+j0 = v18;
+j1 = v3;
 j0 = j0 + j1;
-v3 = j0;
-j0 = v21;
-j1 = v5;
-j0 = j0 - j1;
 v5 = j0;
+j0 = v17;
+j1 = v3;
+j0 = j0 - j1;
+v3 = j0;
 j0 = UINT64_C(0);
-v4 = j0;
-l295:;
-j0 = v3;
-j1 = v4;
+v2 = j0;
+l266:;
+j0 = v5;
+j1 = v2;
 j0 = j0 + j1;
-p126 = read_at(j0, m, 1u);
-i0 = load8(p126 + 0);
-v22 = i0;
+p188 = read_at(j0, m, 1u);
+i0 = load8(p188 + 0);
+v20 = i0;
 i1 = UINT32_C(32);
 i0 = (i0 == i1);
 if (!i0) {
-i0 = v22;
+i0 = v20;
 i1 = UINT32_C(9);
 i0 = (i0 != i1);
-if (i0) { goto l282; }
+if (i0) { goto l253; }
 }
-j0 = v5;
-j1 = v4;
+j0 = v3;
+j1 = v2;
 j2 = UINT64_C(1);
 j1 = j1 + j2;
-v4 = j1;
+v2 = j1;
 i0 = (j0 != j1);
-if (i0) { goto l295; }
-goto l250;
-l282:;
-j0 = v4;
-j1 = v11;
+if (i0) { goto l266; }
+goto l221;
+l253:;
+j0 = v2;
+j1 = v10;
 i0 = (j0 == j1);
-if (i0) { goto l250; }
-goto l264;
+if (i0) { goto l221; }
+goto l235;
 }
 j0 = UINT64_C(0);
-v3 = j0;
-j0 = v34;
+v5 = j0;
+j0 = v27;
 j1 = UINT64_C(512);
 j0 = j0 + j1;
-v24 = j0;
-p127 = read_at(j0, m, 8u);
-j0 = load64(p127 + 0);
-v25 = j0;
+v30 = j0;
+p189 = read_at(j0, m, 8u);
+j0 = load64(p189 + 0);
+v4 = j0;
 j1 = UINT64_C(0);
 i0 = (j0 != j1);
-if (i0) { goto l263; }
-j0 = v34;
+if (i0) { goto l234; }
+j0 = v27;
 j1 = UINT64_C(760);
 j0 = j0 + j1;
-v47 = j0;
-j0 = v34;
+v37 = j0;
+j0 = v27;
 j1 = UINT64_C(664);
 j0 = j0 + j1;
-v17 = j0;
+v25 = j0;
 i0 = UINT32_C(1);
-v19 = i0;
-goto l254;
-l265:;
-j0 = v11;
-j1 = v5;
+v9 = i0;
+goto l225;
+l236:;
+j0 = v10;
+j1 = v3;
 i0 = (j0 == j1);
-if (i0) { goto l250; }
-l264:;
-i0 = v19;
-if (i0) { goto l262; }
-l263:;
-j0 = v34;
+if (i0) { goto l221; }
+l235:;
+i0 = v9;
+if (i0) { goto l233; }
+l234:;
+j0 = v27;
 j1 = UINT64_C(760);
 j0 = j0 + j1;
-v47 = j0;
-j0 = v34;
+v37 = j0;
+j0 = v27;
 j1 = UINT64_C(664);
 j0 = j0 + j1;
-v17 = j0;
+v25 = j0;
 j0 = UINT64_C(0);
-v6 = j0;
+v16 = j0;
 j0 = UINT64_C(18446744073709551615);
-v13 = j0;
-j0 = v49;
-v30 = j0;
-l297:;
+v12 = j0;
+j0 = v47;
+v26 = j0;
+l268:;
 j0 = UINT64_C(0);
-v5 = j0;
-j0 = v25;
-j1 = v6;
+v3 = j0;
+j0 = v4;
+j1 = v16;
 j2 = UINT64_C(1);
 j1 = j1 + j2;
-v6 = j1;
+v16 = j1;
 i0 = (j0 <= j1);
 if (!i0) {
 j0 = UINT64_C(0);
-v5 = j0;
-j0 = v24;
-p128 = read_at(j0, m, 8u);
-j0 = load64(p128 + 0);
-v4 = j0;
-j1 = v6;
+v3 = j0;
+j0 = v30;
+p190 = read_at(j0, m, 8u);
+j0 = load64(p190 + 0);
+v2 = j0;
+j1 = v16;
 i0 = (j0 <= j1);
 if (!i0) {
-j0 = v47;
-p129 = read_at(j0, m, 8u);
-j0 = load64(p129 + 0);
-v11 = j0;
-j0 = v25;
-j1 = v4;
-j2 = v25;
-j3 = v4;
+j0 = v37;
+p191 = read_at(j0, m, 8u);
+j0 = load64(p191 + 0);
+v10 = j0;
+j0 = v4;
+j1 = v2;
+j2 = v4;
+j3 = v2;
 i2 = (j2 < j3);
 j0 = i2 ? j0 : j1;
-j1 = v13;
+j1 = v12;
 j0 = j0 + j1;
-v3 = j0;
-j0 = UINT64_C(0);
 v5 = j0;
-j0 = v30;
-v4 = j0;
-l300:;
-j0 = v7;
-j1 = UINT64_C(240);
+j0 = UINT64_C(0);
+v3 = j0;
+j0 = v26;
+v2 = j0;
+l271:;
+j0 = v6;
+j1 = UINT64_C(176);
 j0 = j0 + j1;
-j1 = v4;
-p130 = read_at(j1, m, 2u);
-i1 = load8(p130 + 0);
-j2 = v4;
+j1 = v2;
+p192 = read_at(j1, m, 2u);
+i1 = load8(p192 + 0);
+j2 = v2;
 j3 = UINT64_C(1);
 j2 = j2 + j3;
-i2 = load8(p130 + 1);
-j3 = v17;
-j4 = v11;
-j5 = v20;
-j6 = v5;
+i2 = load8(p192 + 1);
+j3 = v25;
+j4 = v10;
+j5 = v18;
+j6 = v3;
 j5 = j5 + j6;
-j6 = v21;
-j7 = v5;
+j6 = v17;
+j7 = v3;
 j6 = j6 - j7;
 fio_form_form_Piece_length_in(m, j0, i1, i2, j3, j4, j5, j6);
-j0 = v7;
-i0 = load8(p1 + 240);
+j0 = v6;
+i0 = load8(p1 + 176);
 i1 = UINT32_C(1);
 i0 = (i0 != i1);
-if (i0) { goto l298; }
-j0 = v4;
+if (i0) { goto l269; }
+j0 = v2;
 j1 = UINT64_C(2);
 j0 = j0 + j1;
-v4 = j0;
-j0 = v7;
-j0 = load64(p1 + 248);
-j1 = v5;
+v2 = j0;
+j0 = v6;
+j0 = load64(p1 + 184);
+j1 = v3;
+j0 = j0 + j1;
+v3 = j0;
+j0 = v5;
+j1 = UINT64_C(18446744073709551615);
 j0 = j0 + j1;
 v5 = j0;
-j0 = v3;
-j1 = UINT64_C(18446744073709551615);
-j0 = j0 + j1;
-v3 = j0;
 j1 = UINT64_C(0);
 i0 = (j0 != j1);
-if (i0) { goto l300; }
+if (i0) { goto l271; }
 }
 }
-j0 = v34;
-j1 = v20;
-j2 = v21;
-j3 = v5;
-j4 = v33;
-j5 = v41;
+j0 = v27;
+j1 = v18;
+j2 = v17;
+j3 = v3;
+j4 = v36;
+j5 = v38;
 i0 = fio_log_cut_has_message(m, j0, j1, j2, j3, j4, j5);
-if (i0) { goto l250; }
-l298:;
-j0 = v30;
+if (i0) { goto l221; }
+l269:;
+j0 = v26;
 j1 = UINT64_C(2);
 j0 = j0 + j1;
-v30 = j0;
-j0 = v13;
+v26 = j0;
+j0 = v12;
 j1 = UINT64_C(18446744073709551615);
 j0 = j0 + j1;
-v13 = j0;
-j0 = v6;
-j1 = v25;
+v12 = j0;
+j0 = v16;
+j1 = v4;
 i0 = (j0 != j1);
-if (i0) { goto l297; }
-j0 = v47;
-p131 = read_at(j0, m, 8u);
-j0 = load64(p131 + 0);
-v11 = j0;
-j0 = v24;
-p132 = read_at(j0, m, 8u);
-j0 = load64(p132 + 0);
-v3 = j0;
+if (i0) { goto l268; }
+j0 = v37;
+p193 = read_at(j0, m, 8u);
+j0 = load64(p193 + 0);
+v10 = j0;
+j0 = v30;
+p194 = read_at(j0, m, 8u);
+j0 = load64(p194 + 0);
+v5 = j0;
 i0 = (j0 == 0);
 if (!i0) {
 j0 = UINT64_C(0);
-v5 = j0;
-j0 = v45;
-v4 = j0;
-j0 = v3;
-v6 = j0;
-l302:;
-j0 = v7;
-j1 = UINT64_C(224);
+v3 = j0;
+j0 = v42;
+v2 = j0;
+j0 = v5;
+v16 = j0;
+l273:;
+j0 = v6;
+j1 = UINT64_C(160);
 j0 = j0 + j1;
-j1 = v4;
+j1 = v2;
 j2 = UINT64_C(18446744073709551615);
 j1 = j1 + j2;
-p133 = read_at(j1, m, 2u);
-i1 = load8(p133 + 0);
-j2 = v4;
-i2 = load8(p133 + 1);
-j3 = v17;
-j4 = v11;
-j5 = v20;
-j6 = v5;
+p195 = read_at(j1, m, 2u);
+i1 = load8(p195 + 0);
+j2 = v2;
+i2 = load8(p195 + 1);
+j3 = v25;
+j4 = v10;
+j5 = v18;
+j6 = v3;
 j5 = j5 + j6;
-j6 = v21;
-j7 = v5;
+j6 = v17;
+j7 = v3;
 j6 = j6 - j7;
 fio_form_form_Piece_length_in(m, j0, i1, i2, j3, j4, j5, j6);
-j0 = v7;
-i0 = load8(p1 + 224);
+j0 = v6;
+i0 = load8(p1 + 160);
 i1 = UINT32_C(1);
 i0 = (i0 != i1);
-if (i0) { goto l255; }
-j0 = v4;
+if (i0) { goto l226; }
+j0 = v2;
 j1 = UINT64_C(2);
 j0 = j0 + j1;
-v4 = j0;
-j0 = v7;
-j0 = load64(p1 + 232);
-j1 = v5;
-j0 = j0 + j1;
-v5 = j0;
+v2 = j0;
 j0 = v6;
+j0 = load64(p1 + 168);
+j1 = v3;
+j0 = j0 + j1;
+v3 = j0;
+j0 = v16;
 j1 = UINT64_C(18446744073709551615);
 j0 = j0 + j1;
-v6 = j0;
+v16 = j0;
 j1 = UINT64_C(0);
 i0 = (j0 != j1);
-if (i0) { goto l302; }
-j0 = v5;
-j1 = v21;
+if (i0) { goto l273; }
+j0 = v3;
+j1 = v17;
 i0 = (j0 > j1);
-if (i0) { goto l255; }
+if (i0) { goto l226; }
 i0 = UINT32_C(0);
-v19 = i0;
-j0 = v5;
+v9 = i0;
+j0 = v3;
 j1 = UINT64_C(0);
 i0 = (j0 != j1);
-if (i0) { goto l260; }
+if (i0) { goto l231; }
 i0 = UINT32_C(0);
-v19 = i0;
-i0 = v32;
+v9 = i0;
+i0 = v7;
 i0 = (i0 == 0);
-if (i0) { goto l261; }
-goto l255;
+if (i0) { goto l232; }
+goto l226;
 }
 j0 = UINT64_C(0);
-v3 = j0;
+v5 = j0;
 i0 = UINT32_C(1);
-v19 = i0;
-i0 = v32;
+v9 = i0;
+i0 = v7;
 i0 = (i0 == 0);
-if (i0) { goto l261; }
-goto l254;
-l262:;
-j0 = v34;
+if (i0) { goto l232; }
+goto l225;
+l233:;
+j0 = v27;
 j1 = UINT64_C(664);
 j0 = j0 + j1;
-v17 = j0;
-j0 = v34;
+v25 = j0;
+j0 = v27;
 j1 = UINT64_C(760);
 j0 = j0 + j1;
-v47 = j0;
-p134 = read_at(j0, m, 8u);
-j0 = load64(p134 + 0);
-v11 = j0;
+v37 = j0;
+p196 = read_at(j0, m, 8u);
+j0 = load64(p196 + 0);
+v10 = j0;
 i0 = UINT32_C(1);
-v19 = i0;
-j0 = UINT64_C(0);
-v3 = j0;
-l261:;
+v9 = i0;
 j0 = UINT64_C(0);
 v5 = j0;
+l232:;
 j0 = UINT64_C(0);
-v4 = j0;
-l303:;
-j0 = v20;
-j1 = v4;
+v3 = j0;
+j0 = UINT64_C(0);
+v2 = j0;
+l274:;
+j0 = v18;
+j1 = v2;
 j0 = j0 + j1;
-p135 = read_at(j0, m, 1u);
-i0 = load8(p135 + 0);
-v22 = i0;
+p197 = read_at(j0, m, 1u);
+i0 = load8(p197 + 0);
+v20 = i0;
 i1 = UINT32_C(48);
 i0 = (i0 < i1);
-if (i0) { goto l260; }
-i0 = v22;
+if (i0) { goto l231; }
+i0 = v20;
 i1 = UINT32_C(58);
 i0 = (i0 < i1);
 if (!i0) {
-i0 = v22;
+i0 = v20;
 i1 = UINT32_C(65);
 i0 = (i0 < i1);
-if (i0) { goto l260; }
-i0 = v22;
+if (i0) { goto l231; }
+i0 = v20;
 i1 = UINT32_C(71);
 i0 = (i0 < i1);
 if (!i0) {
-i0 = v22;
+i0 = v20;
 i1 = UINT32_C(4294967199);
 i0 = i0 + i1;
 i1 = UINT32_C(255);
 i0 = i0 & i1;
 i1 = UINT32_C(5);
 i0 = (i0 > i1);
-if (i0) { goto l260; }
+if (i0) { goto l231; }
 }
 }
-j0 = v21;
-j1 = v4;
+j0 = v17;
+j1 = v2;
 j2 = UINT64_C(1);
 j1 = j1 + j2;
-v4 = j1;
+v2 = j1;
 i0 = (j0 != j1);
-if (i0) { goto l303; }
-j0 = v21;
+if (i0) { goto l274; }
+j0 = v17;
 j1 = UINT64_C(2);
 i0 = (j0 > j1);
-if (i0) { goto l258; }
-j0 = v7;
+if (i0) { goto l229; }
+j0 = v6;
 i1 = UINT32_C(1);
-store16(p1 + 12976, i1);
-j0 = v21;
-v4 = j0;
-j0 = v20;
-v5 = j0;
-goto l259;
-l260:;
-j0 = v7;
+store16(p1 + 352, i1);
+j0 = v17;
+v2 = j0;
+j0 = v18;
+v3 = j0;
+goto l230;
+l231:;
+j0 = v6;
 i1 = UINT32_C(1);
-store16(p1 + 12976, i1);
-j0 = v21;
-j1 = v5;
+store16(p1 + 352, i1);
+j0 = v17;
+j1 = v3;
 i0 = (j0 == j1);
-if (i0) { goto l257; }
-j0 = v21;
-j1 = v5;
+if (i0) { goto l228; }
+j0 = v17;
+j1 = v3;
 j0 = j0 - j1;
-v4 = j0;
-j0 = v20;
-j1 = v5;
+v2 = j0;
+j0 = v18;
+j1 = v3;
 j0 = j0 + j1;
-v5 = j0;
-l259:;
-j0 = v34;
+v3 = j0;
+l230:;
+j0 = v27;
 j1 = UINT64_C(528);
 j0 = j0 + j1;
-v6 = j0;
+v16 = j0;
 i0 = UINT32_C(0);
-v10 = i0;
-l305:;
-i0 = v10;
-v31 = i0;
-j0 = v5;
-p136 = read_at(j0, m, 1u);
-i0 = load8(p136 + 0);
-v22 = i0;
+v8 = i0;
+l276:;
+i0 = v8;
+v28 = i0;
+j0 = v3;
+p198 = read_at(j0, m, 1u);
+i0 = load8(p198 + 0);
+v20 = i0;
 i1 = UINT32_C(48);
 i0 = (i0 < i1);
 if (!i0) {
 i0 = UINT32_C(1);
-v10 = i0;
-i0 = v22;
+v8 = i0;
+i0 = v20;
 i1 = UINT32_C(58);
 i0 = (i0 < i1);
-if (i0) { goto l306; }
-i0 = v22;
+if (i0) { goto l277; }
+i0 = v20;
 i1 = UINT32_C(65);
 i0 = (i0 < i1);
-if (i0) { goto l307; }
-i0 = v22;
+if (i0) { goto l278; }
+i0 = v20;
 i1 = UINT32_C(71);
 i0 = (i0 < i1);
-if (i0) { goto l306; }
-i0 = v22;
+if (i0) { goto l277; }
+i0 = v20;
 i1 = UINT32_C(4294967199);
 i0 = i0 + i1;
 i1 = UINT32_C(255);
 i0 = i0 & i1;
 i1 = UINT32_C(6);
 i0 = (i0 < i1);
-if (i0) { goto l306; }
-goto l307;
+if (i0) { goto l277; }
+goto l278;
 }
-i0 = v22;
+i0 = v20;
 i1 = UINT32_C(32);
 i0 = (i0 != i1);
 if (!i0) {
-i0 = v31;
-v10 = i0;
-goto l306;
+i0 = v28;
+v8 = i0;
+goto l277;
 }
-l307:;
-j0 = v7;
-i1 = v22;
-store8(p1 + 12977, i1);
-i0 = v31;
-v10 = i0;
+l278:;
 j0 = v6;
-j1 = v34;
+i1 = v20;
+store8(p1 + 353, i1);
+i0 = v28;
+v8 = i0;
+j0 = v16;
+j1 = v27;
 j2 = UINT64_C(656);
 j1 = j1 + j2;
-p137 = read_at(j1, m, 8u);
-j1 = load64(p137 + 0);
-j2 = v7;
-j3 = UINT64_C(12976);
+p199 = read_at(j1, m, 8u);
+j1 = load64(p199 + 0);
+j2 = v6;
+j3 = UINT64_C(352);
 j2 = j2 + j3;
 i0 = core_slice_reads_slice_T_contains(m, j0, j1, j2);
 i0 = (i0 == 0);
-if (i0) { goto l257; }
-l306:;
-j0 = v5;
+if (i0) { goto l228; }
+l277:;
+j0 = v3;
 j1 = UINT64_C(1);
 j0 = j0 + j1;
-v5 = j0;
-j0 = v4;
+v3 = j0;
+j0 = v2;
 j1 = UINT64_C(18446744073709551615);
 j0 = j0 + j1;
-v4 = j0;
+v2 = j0;
 i0 = (j0 == 0);
 i0 = (i0 == 0);
-if (i0) { goto l305; }
-i0 = v10;
+if (i0) { goto l276; }
+i0 = v8;
 i1 = UINT32_C(1);
 i0 = i0 & i1;
-if (i0) { goto l250; }
-l258:;
-i0 = v19;
-if (i0) { goto l256; }
-goto l255;
-l257:;
-i0 = v19;
+if (i0) { goto l221; }
+l229:;
+i0 = v9;
+if (i0) { goto l227; }
+goto l226;
+l228:;
+i0 = v9;
 i0 = (i0 == 0);
-if (i0) { goto l255; }
-l256:;
-j0 = UINT64_C(0);
-v3 = j0;
-i0 = UINT32_C(1);
-v19 = i0;
-goto l254;
-l255:;
+if (i0) { goto l226; }
+l227:;
 j0 = UINT64_C(0);
 v5 = j0;
-j0 = v45;
-v4 = j0;
-l309:;
-j0 = v7;
-j1 = UINT64_C(208);
+i0 = UINT32_C(1);
+v9 = i0;
+goto l225;
+l226:;
+j0 = UINT64_C(0);
+v3 = j0;
+j0 = v42;
+v2 = j0;
+l280:;
+j0 = v6;
+j1 = UINT64_C(144);
 j0 = j0 + j1;
-j1 = v4;
+j1 = v2;
 j2 = UINT64_C(18446744073709551615);
 j1 = j1 + j2;
-p138 = read_at(j1, m, 2u);
-i1 = load8(p138 + 0);
-j2 = v4;
-i2 = load8(p138 + 1);
-j3 = v17;
-j4 = v11;
-j5 = v20;
-j6 = v5;
+p200 = read_at(j1, m, 2u);
+i1 = load8(p200 + 0);
+j2 = v2;
+i2 = load8(p200 + 1);
+j3 = v25;
+j4 = v10;
+j5 = v18;
+j6 = v3;
 j5 = j5 + j6;
-j6 = v21;
-j7 = v5;
+j6 = v17;
+j7 = v3;
 j6 = j6 - j7;
 fio_form_form_Piece_length_in(m, j0, i1, i2, j3, j4, j5, j6);
-j0 = v7;
-i0 = load8(p1 + 208);
+j0 = v6;
+i0 = load8(p1 + 144);
 i1 = UINT32_C(1);
 i0 = (i0 != i1);
-if (i0) { goto l253; }
-j0 = v4;
+if (i0) { goto l224; }
+j0 = v2;
 j1 = UINT64_C(2);
 j0 = j0 + j1;
-v4 = j0;
-j0 = v7;
-j0 = load64(p1 + 216);
-j1 = v5;
+v2 = j0;
+j0 = v6;
+j0 = load64(p1 + 152);
+j1 = v3;
 j0 = j0 + j1;
-v5 = j0;
-j0 = v3;
+v3 = j0;
+j0 = v5;
 j1 = UINT64_C(18446744073709551615);
 j0 = j0 + j1;
-v3 = j0;
+v5 = j0;
 j1 = UINT64_C(0);
 i0 = (j0 != j1);
-if (i0) { goto l309; }
-j0 = v5;
-j1 = v21;
+if (i0) { goto l280; }
+j0 = v3;
+j1 = v17;
 i0 = (j0 > j1);
-if (i0) { goto l253; }
+if (i0) { goto l224; }
 i0 = UINT32_C(0);
-v19 = i0;
-j0 = v5;
-v3 = j0;
-l254:;
-j0 = v21;
-j1 = v3;
+v9 = i0;
+j0 = v3;
+v5 = j0;
+l225:;
+j0 = v17;
+j1 = v5;
 j0 = j0 - j1;
-v11 = j0;
-j0 = v20;
-j1 = v3;
+v10 = j0;
+j0 = v18;
+j1 = v5;
 j0 = j0 + j1;
-v25 = j0;
-j0 = v34;
+v4 = j0;
+j0 = v27;
 j1 = UINT64_C(521);
 j0 = j0 + j1;
-p139 = read_at(j0 + UINT64_C(18446744073709551615), m, 2u);
-i0 = load8(p139 + 1);
-v52 = i0;
+p201 = read_at(j0 + UINT64_C(18446744073709551615), m, 2u);
+i0 = load8(p201 + 1);
+v29 = i0;
 j0 = UINT64_C(2);
-v5 = j0;
+v3 = j0;
 i0 = UINT32_C(0);
-v31 = i0;
+v28 = i0;
 i0 = UINT32_C(1);
-v10 = i0;
-j0 = v34;
+v8 = i0;
+j0 = v27;
 j1 = UINT64_C(520);
 j0 = j0 + j1;
-i0 = load8(p139 + 0);
-v22 = i0;
+i0 = load8(p201 + 0);
+v20 = i0;
 j0 = (uint64_t)i0;
 j1 = UINT64_C(255);
 j0 = j0 & j1;
 i0 = (uint32_t)j0;
 switch (i0) {
 case 0:
-goto l311;
+goto l282;
 case 1:
-goto l310;
+goto l281;
 case 2:
-goto l310;
+goto l281;
 case 3:
-goto l310;
+goto l281;
 case 4:
-goto l310;
+goto l281;
 case 5:
-goto l313;
+goto l284;
 case 6:
-goto l312;
+goto l283;
 case 7:
-goto l310;
+goto l281;
 case 8:
-goto l310;
+goto l281;
 case 9:
-goto l310;
+goto l281;
 default:
-goto l311;
+goto l282;
 }
-l313:;
+l284:;
 j0 = UINT64_C(3);
-v5 = j0;
+v3 = j0;
 i0 = UINT32_C(1);
-v31 = i0;
+v28 = i0;
 i0 = UINT32_C(0);
-v10 = i0;
-goto l311;
-l312:;
+v8 = i0;
+goto l282;
+l283:;
 j0 = UINT64_C(8);
-v5 = j0;
+v3 = j0;
 i0 = UINT32_C(0);
-v10 = i0;
+v8 = i0;
 i0 = UINT32_C(0);
-v31 = i0;
-l311:;
-j0 = v11;
-j1 = v5;
+v28 = i0;
+l282:;
+j0 = v10;
+j1 = v3;
 i0 = (j0 < j1);
 if (!i0) {
-j0 = v25;
-p140 = read_at(j0, m, 1u);
-i0 = load8(p140 + 0);
-v51 = i0;
+j0 = v4;
+p202 = read_at(j0, m, 1u);
+i0 = load8(p202 + 0);
+v49 = i0;
 i1 = UINT32_C(48);
 i0 = (i0 < i1);
 if (!i0) {
-i0 = v51;
+i0 = v49;
 i1 = UINT32_C(58);
 i0 = (i0 >= i1);
 if (!i0) {
 i0 = UINT32_C(1);
-v53 = i0;
+v51 = i0;
 i0 = UINT32_C(0);
-v54 = i0;
-goto l314;
+v48 = i0;
+goto l285;
 }
-i0 = v51;
+i0 = v49;
 i1 = UINT32_C(65);
 i0 = (i0 < i1);
-if (i0) { goto l315; }
+if (i0) { goto l286; }
 i0 = UINT32_C(1);
-v53 = i0;
+v51 = i0;
 i0 = UINT32_C(0);
-v54 = i0;
-i0 = v51;
+v48 = i0;
+i0 = v49;
 i1 = UINT32_C(71);
 i0 = (i0 < i1);
-if (i0) { goto l314; }
-i0 = v51;
+if (i0) { goto l285; }
+i0 = v49;
 i1 = UINT32_C(4294967199);
 i0 = i0 + i1;
-v55 = i0;
+v39 = i0;
 i1 = UINT32_C(255);
 i0 = i0 & i1;
 i1 = UINT32_C(6);
 i0 = (i0 < i1);
-if (i0) { goto l314; }
-i0 = v51;
+if (i0) { goto l285; }
+i0 = v49;
 i1 = UINT32_C(95);
 i0 = (i0 == i1);
-if (i0) { goto l310; }
-i0 = v51;
+if (i0) { goto l281; }
+i0 = v49;
 i1 = UINT32_C(91);
 i0 = (i0 < i1);
-if (i0) { goto l310; }
-i0 = v55;
+if (i0) { goto l281; }
+i0 = v39;
 i1 = UINT32_C(255);
 i0 = i0 & i1;
 i1 = UINT32_C(26);
 i0 = (i0 >= i1);
-if (i0) { goto l315; }
-goto l310;
+if (i0) { goto l286; }
+goto l281;
 }
-i0 = v51;
+i0 = v49;
 i1 = UINT32_C(32);
 i0 = (i0 == i1);
-if (i0) { goto l310; }
-l315:;
+if (i0) { goto l281; }
+l286:;
 i0 = UINT32_C(0);
-v53 = i0;
+v51 = i0;
 i0 = UINT32_C(1);
-v54 = i0;
-l314:;
-j0 = v25;
+v48 = i0;
+l285:;
+j0 = v4;
 j1 = UINT64_C(1);
 j0 = j0 + j1;
-p141 = read_at(j0, m, 1u);
-i0 = load8(p141 + 0);
-v51 = i0;
+p203 = read_at(j0, m, 1u);
+i0 = load8(p203 + 0);
+v49 = i0;
 i1 = UINT32_C(48);
 i0 = (i0 < i1);
 if (!i0) {
-i0 = v51;
+i0 = v49;
 i1 = UINT32_C(58);
 i0 = (i0 >= i1);
 if (!i0) {
 i0 = UINT32_C(1);
-v55 = i0;
-goto l318;
+v39 = i0;
+goto l289;
 }
-i0 = v51;
+i0 = v49;
 i1 = UINT32_C(65);
 i0 = (i0 < i1);
-if (i0) { goto l319; }
+if (i0) { goto l290; }
 i0 = UINT32_C(1);
-v55 = i0;
-i0 = v51;
+v39 = i0;
+i0 = v49;
 i1 = UINT32_C(71);
 i0 = (i0 < i1);
-if (i0) { goto l318; }
-i0 = v51;
+if (i0) { goto l289; }
+i0 = v49;
 i1 = UINT32_C(4294967199);
 i0 = i0 + i1;
-v56 = i0;
+v52 = i0;
 i1 = UINT32_C(255);
 i0 = i0 & i1;
 i1 = UINT32_C(6);
 i0 = (i0 < i1);
-if (i0) { goto l318; }
-i0 = v51;
+if (i0) { goto l289; }
+i0 = v49;
 i1 = UINT32_C(95);
 i0 = (i0 == i1);
-if (i0) { goto l310; }
-i0 = v51;
+if (i0) { goto l281; }
+i0 = v49;
 i1 = UINT32_C(91);
 i0 = (i0 < i1);
-if (i0) { goto l310; }
-i0 = v56;
+if (i0) { goto l281; }
+i0 = v52;
 i1 = UINT32_C(255);
 i0 = i0 & i1;
 i1 = UINT32_C(26);
 i0 = (i0 >= i1);
-if (i0) { goto l319; }
-goto l310;
+if (i0) { goto l290; }
+goto l281;
 }
-i0 = v51;
+i0 = v49;
 i1 = UINT32_C(32);
 i0 = (i0 == i1);
-if (i0) { goto l310; }
-l319:;
+if (i0) { goto l281; }
+l290:;
 i0 = UINT32_C(1);
-v54 = i0;
-i0 = v53;
-v55 = i0;
-l318:;
-i0 = v10;
+v48 = i0;
+i0 = v51;
+v39 = i0;
+l289:;
+i0 = v8;
 if (!i0) {
-j0 = v25;
+j0 = v4;
 j1 = UINT64_C(2);
 j0 = j0 + j1;
-p142 = read_at(j0, m, 1u);
-i0 = load8(p142 + 0);
-v10 = i0;
+p204 = read_at(j0, m, 1u);
+i0 = load8(p204 + 0);
+v8 = i0;
 i1 = UINT32_C(48);
 i0 = (i0 < i1);
 if (!i0) {
-i0 = v10;
+i0 = v8;
 i1 = UINT32_C(58);
 i0 = (i0 >= i1);
 if (!i0) {
 i0 = UINT32_C(1);
-v51 = i0;
-goto l323;
+v49 = i0;
+goto l294;
 }
-i0 = v10;
+i0 = v8;
 i1 = UINT32_C(65);
 i0 = (i0 < i1);
-if (i0) { goto l324; }
+if (i0) { goto l295; }
 i0 = UINT32_C(1);
-v51 = i0;
-i0 = v10;
+v49 = i0;
+i0 = v8;
 i1 = UINT32_C(71);
 i0 = (i0 < i1);
-if (i0) { goto l323; }
-i0 = v10;
+if (i0) { goto l294; }
+i0 = v8;
 i1 = UINT32_C(4294967199);
 i0 = i0 + i1;
-v53 = i0;
+v51 = i0;
 i1 = UINT32_C(255);
 i0 = i0 & i1;
 i1 = UINT32_C(6);
 i0 = (i0 < i1);
-if (i0) { goto l323; }
-i0 = v10;
+if (i0) { goto l294; }
+i0 = v8;
 i1 = UINT32_C(95);
 i0 = (i0 == i1);
-if (i0) { goto l310; }
-i0 = v10;
+if (i0) { goto l281; }
+i0 = v8;
 i1 = UINT32_C(91);
 i0 = (i0 < i1);
-if (i0) { goto l310; }
-i0 = v53;
+if (i0) { goto l281; }
+i0 = v51;
 i1 = UINT32_C(255);
 i0 = i0 & i1;
 i1 = UINT32_C(26);
 i0 = (i0 >= i1);
-if (i0) { goto l324; }
-goto l310;
+if (i0) { goto l295; }
+goto l281;
 }
-i0 = v10;
+i0 = v8;
 i1 = UINT32_C(32);
 i0 = (i0 == i1);
-if (i0) { goto l310; }
-l324:;
+if (i0) { goto l281; }
+l295:;
 i0 = UINT32_C(1);
-v54 = i0;
-i0 = v55;
-v51 = i0;
-l323:;
-i0 = v31;
+v48 = i0;
+i0 = v39;
+v49 = i0;
+l294:;
+i0 = v28;
 i0 = (i0 == 0);
 if (!i0) {
-i0 = v51;
-v55 = i0;
-goto l322;
+i0 = v49;
+v39 = i0;
+goto l293;
 }
-j0 = v25;
+j0 = v4;
 j1 = UINT64_C(3);
 j0 = j0 + j1;
-p143 = read_at(j0, m, 1u);
-i0 = load8(p143 + 0);
-v10 = i0;
+p205 = read_at(j0, m, 1u);
+i0 = load8(p205 + 0);
+v8 = i0;
 i1 = UINT32_C(48);
 i0 = (i0 < i1);
 if (!i0) {
-i0 = v10;
+i0 = v8;
 i1 = UINT32_C(58);
 i0 = (i0 >= i1);
 if (!i0) {
 i0 = UINT32_C(1);
-v31 = i0;
-goto l328;
+v28 = i0;
+goto l299;
 }
-i0 = v10;
+i0 = v8;
 i1 = UINT32_C(65);
 i0 = (i0 < i1);
-if (i0) { goto l329; }
+if (i0) { goto l300; }
 i0 = UINT32_C(1);
-v31 = i0;
-i0 = v10;
+v28 = i0;
+i0 = v8;
 i1 = UINT32_C(71);
 i0 = (i0 < i1);
-if (i0) { goto l328; }
-i0 = v10;
+if (i0) { goto l299; }
+i0 = v8;
 i1 = UINT32_C(4294967199);
 i0 = i0 + i1;
-v55 = i0;
+v39 = i0;
 i1 = UINT32_C(255);
 i0 = i0 & i1;
 i1 = UINT32_C(6);
 i0 = (i0 < i1);
-if (i0) { goto l328; }
-i0 = v10;
+if (i0) { goto l299; }
+i0 = v8;
 i1 = UINT32_C(95);
 i0 = (i0 == i1);
-if (i0) { goto l310; }
-i0 = v10;
+if (i0) { goto l281; }
+i0 = v8;
 i1 = UINT32_C(91);
 i0 = (i0 < i1);
-if (i0) { goto l310; }
-i0 = v55;
+if (i0) { goto l281; }
+i0 = v39;
 i1 = UINT32_C(255);
 i0 = i0 & i1;
 i1 = UINT32_C(26);
 i0 = (i0 >= i1);
-if (i0) { goto l329; }
-goto l310;
+if (i0) { goto l300; }
+goto l281;
 }
-i0 = v10;
+i0 = v8;
 i1 = UINT32_C(32);
 i0 = (i0 == i1);
-if (i0) { goto l310; }
-l329:;
+if (i0) { goto l281; }
+l300:;
 i0 = UINT32_C(1);
-v54 = i0;
-i0 = v51;
-v31 = i0;
-l328:;
-j0 = v25;
+v48 = i0;
+i0 = v49;
+v28 = i0;
+l299:;
+j0 = v4;
 j1 = UINT64_C(4);
 j0 = j0 + j1;
-p144 = read_at(j0, m, 1u);
-i0 = load8(p144 + 0);
-v10 = i0;
+p206 = read_at(j0, m, 1u);
+i0 = load8(p206 + 0);
+v8 = i0;
 i1 = UINT32_C(48);
 i0 = (i0 < i1);
 if (!i0) {
-i0 = v10;
+i0 = v8;
 i1 = UINT32_C(58);
 i0 = (i0 >= i1);
 if (!i0) {
 i0 = UINT32_C(1);
-v51 = i0;
-goto l332;
+v49 = i0;
+goto l303;
 }
-i0 = v10;
+i0 = v8;
 i1 = UINT32_C(65);
 i0 = (i0 < i1);
-if (i0) { goto l333; }
+if (i0) { goto l304; }
 i0 = UINT32_C(1);
-v51 = i0;
-i0 = v10;
+v49 = i0;
+i0 = v8;
 i1 = UINT32_C(71);
 i0 = (i0 < i1);
-if (i0) { goto l332; }
-i0 = v10;
+if (i0) { goto l303; }
+i0 = v8;
 i1 = UINT32_C(4294967199);
 i0 = i0 + i1;
-v55 = i0;
+v39 = i0;
 i1 = UINT32_C(255);
 i0 = i0 & i1;
 i1 = UINT32_C(6);
 i0 = (i0 < i1);
-if (i0) { goto l332; }
-i0 = v10;
+if (i0) { goto l303; }
+i0 = v8;
 i1 = UINT32_C(95);
 i0 = (i0 == i1);
-if (i0) { goto l310; }
-i0 = v10;
+if (i0) { goto l281; }
+i0 = v8;
 i1 = UINT32_C(91);
 i0 = (i0 < i1);
-if (i0) { goto l310; }
-i0 = v55;
+if (i0) { goto l281; }
+i0 = v39;
 i1 = UINT32_C(255);
 i0 = i0 & i1;
 i1 = UINT32_C(26);
 i0 = (i0 >= i1);
-if (i0) { goto l333; }
-goto l310;
+if (i0) { goto l304; }
+goto l281;
 }
-i0 = v10;
+i0 = v8;
 i1 = UINT32_C(32);
 i0 = (i0 == i1);
-if (i0) { goto l310; }
-l333:;
+if (i0) { goto l281; }
+l304:;
 i0 = UINT32_C(1);
-v54 = i0;
-i0 = v31;
-v51 = i0;
-l332:;
-j0 = v25;
+v48 = i0;
+i0 = v28;
+v49 = i0;
+l303:;
+j0 = v4;
 j1 = UINT64_C(5);
 j0 = j0 + j1;
-p145 = read_at(j0, m, 1u);
-i0 = load8(p145 + 0);
-v10 = i0;
+p207 = read_at(j0, m, 1u);
+i0 = load8(p207 + 0);
+v8 = i0;
 i1 = UINT32_C(48);
 i0 = (i0 < i1);
 if (!i0) {
-i0 = v10;
+i0 = v8;
 i1 = UINT32_C(58);
 i0 = (i0 >= i1);
 if (!i0) {
 i0 = UINT32_C(1);
-v31 = i0;
-goto l336;
+v28 = i0;
+goto l307;
 }
-i0 = v10;
+i0 = v8;
 i1 = UINT32_C(65);
 i0 = (i0 < i1);
-if (i0) { goto l337; }
+if (i0) { goto l308; }
 i0 = UINT32_C(1);
-v31 = i0;
-i0 = v10;
+v28 = i0;
+i0 = v8;
 i1 = UINT32_C(71);
 i0 = (i0 < i1);
-if (i0) { goto l336; }
-i0 = v10;
+if (i0) { goto l307; }
+i0 = v8;
 i1 = UINT32_C(4294967199);
 i0 = i0 + i1;
-v55 = i0;
+v39 = i0;
 i1 = UINT32_C(255);
 i0 = i0 & i1;
 i1 = UINT32_C(6);
 i0 = (i0 < i1);
-if (i0) { goto l336; }
-i0 = v10;
+if (i0) { goto l307; }
+i0 = v8;
 i1 = UINT32_C(95);
 i0 = (i0 == i1);
-if (i0) { goto l310; }
-i0 = v10;
+if (i0) { goto l281; }
+i0 = v8;
 i1 = UINT32_C(91);
 i0 = (i0 < i1);
-if (i0) { goto l310; }
-i0 = v55;
+if (i0) { goto l281; }
+i0 = v39;
 i1 = UINT32_C(255);
 i0 = i0 & i1;
 i1 = UINT32_C(26);
 i0 = (i0 >= i1);
-if (i0) { goto l337; }
-goto l310;
+if (i0) { goto l308; }
+goto l281;
 }
-i0 = v10;
+i0 = v8;
 i1 = UINT32_C(32);
 i0 = (i0 == i1);
-if (i0) { goto l310; }
-l337:;
+if (i0) { goto l281; }
+l308:;
 i0 = UINT32_C(1);
-v54 = i0;
-i0 = v51;
-v31 = i0;
-l336:;
-j0 = v25;
+v48 = i0;
+i0 = v49;
+v28 = i0;
+l307:;
+j0 = v4;
 j1 = UINT64_C(6);
 j0 = j0 + j1;
-p146 = read_at(j0, m, 1u);
-i0 = load8(p146 + 0);
-v10 = i0;
+p208 = read_at(j0, m, 1u);
+i0 = load8(p208 + 0);
+v8 = i0;
 i1 = UINT32_C(48);
 i0 = (i0 < i1);
 if (!i0) {
-i0 = v10;
+i0 = v8;
 i1 = UINT32_C(58);
 i0 = (i0 >= i1);
 if (!i0) {
 i0 = UINT32_C(1);
-v51 = i0;
-goto l340;
+v49 = i0;
+goto l311;
 }
-i0 = v10;
+i0 = v8;
 i1 = UINT32_C(65);
 i0 = (i0 < i1);
-if (i0) { goto l341; }
+if (i0) { goto l312; }
 i0 = UINT32_C(1);
-v51 = i0;
-i0 = v10;
+v49 = i0;
+i0 = v8;
 i1 = UINT32_C(71);
 i0 = (i0 < i1);
-if (i0) { goto l340; }
-i0 = v10;
+if (i0) { goto l311; }
+i0 = v8;
 i1 = UINT32_C(4294967199);
 i0 = i0 + i1;
-v55 = i0;
+v39 = i0;
 i1 = UINT32_C(255);
 i0 = i0 & i1;
 i1 = UINT32_C(6);
 i0 = (i0 < i1);
-if (i0) { goto l340; }
-i0 = v10;
+if (i0) { goto l311; }
+i0 = v8;
 i1 = UINT32_C(95);
 i0 = (i0 == i1);
-if (i0) { goto l310; }
-i0 = v10;
+if (i0) { goto l281; }
+i0 = v8;
 i1 = UINT32_C(91);
 i0 = (i0 < i1);
-if (i0) { goto l310; }
-i0 = v55;
+if (i0) { goto l281; }
+i0 = v39;
 i1 = UINT32_C(255);
 i0 = i0 & i1;
 i1 = UINT32_C(26);
 i0 = (i0 >= i1);
-if (i0) { goto l341; }
-goto l310;
+if (i0) { goto l312; }
+goto l281;
 }
-i0 = v10;
+i0 = v8;
 i1 = UINT32_C(32);
 i0 = (i0 == i1);
-if (i0) { goto l310; }
-l341:;
+if (i0) { goto l281; }
+l312:;
 i0 = UINT32_C(1);
-v54 = i0;
-i0 = v31;
-v51 = i0;
-l340:;
-j0 = v25;
+v48 = i0;
+i0 = v28;
+v49 = i0;
+l311:;
+j0 = v4;
 j1 = UINT64_C(7);
 j0 = j0 + j1;
-p147 = read_at(j0, m, 1u);
-i0 = load8(p147 + 0);
-v10 = i0;
+p209 = read_at(j0, m, 1u);
+i0 = load8(p209 + 0);
+v8 = i0;
 i1 = UINT32_C(48);
 i0 = (i0 < i1);
 if (!i0) {
-i0 = v10;
+i0 = v8;
 i1 = UINT32_C(58);
 i0 = (i0 >= i1);
 if (!i0) {
 i0 = UINT32_C(1);
-v55 = i0;
-goto l322;
+v39 = i0;
+goto l293;
 }
-i0 = v10;
+i0 = v8;
 i1 = UINT32_C(65);
 i0 = (i0 < i1);
-if (i0) { goto l344; }
+if (i0) { goto l315; }
 i0 = UINT32_C(1);
-v55 = i0;
-i0 = v10;
+v39 = i0;
+i0 = v8;
 i1 = UINT32_C(71);
 i0 = (i0 < i1);
-if (i0) { goto l322; }
-i0 = v10;
+if (i0) { goto l293; }
+i0 = v8;
 i1 = UINT32_C(4294967199);
 i0 = i0 + i1;
-v31 = i0;
+v28 = i0;
 i1 = UINT32_C(255);
 i0 = i0 & i1;
 i1 = UINT32_C(6);
 i0 = (i0 < i1);
-if (i0) { goto l322; }
-i0 = v10;
+if (i0) { goto l293; }
+i0 = v8;
 i1 = UINT32_C(95);
 i0 = (i0 == i1);
-if (i0) { goto l310; }
-i0 = v10;
+if (i0) { goto l281; }
+i0 = v8;
 i1 = UINT32_C(91);
 i0 = (i0 < i1);
-if (i0) { goto l310; }
-i0 = v31;
+if (i0) { goto l281; }
+i0 = v28;
 i1 = UINT32_C(255);
 i0 = i0 & i1;
 i1 = UINT32_C(26);
 i0 = (i0 >= i1);
-if (i0) { goto l344; }
-goto l310;
+if (i0) { goto l315; }
+goto l281;
 }
-i0 = v10;
+i0 = v8;
 i1 = UINT32_C(32);
 i0 = (i0 == i1);
-if (i0) { goto l310; }
-l344:;
+if (i0) { goto l281; }
+l315:;
 i0 = UINT32_C(1);
-v54 = i0;
-i0 = v51;
-v55 = i0;
+v48 = i0;
+i0 = v49;
+v39 = i0;
 }
-l322:;
-i0 = v55;
+l293:;
+i0 = v39;
 i0 = (i0 == 0);
 if (!i0) {
-i0 = v54;
+i0 = v48;
 i0 = (i0 == 0);
 if (!i0) {
-j0 = v11;
-j1 = v5;
+j0 = v10;
+j1 = v3;
 i0 = (j0 != j1);
 if (!i0) {
-i0 = v19;
+i0 = v9;
 i0 = (i0 == 0);
-if (i0) { goto l250; }
-goto l310;
+if (i0) { goto l221; }
+goto l281;
 }
-j0 = v11;
-j1 = v5;
+j0 = v10;
+j1 = v3;
 j0 = j0 - j1;
-v42 = j0;
-j0 = v25;
-j1 = v5;
+v45 = j0;
+j0 = v4;
+j1 = v3;
 j0 = j0 + j1;
-v44 = j0;
-j0 = v34;
+v53 = j0;
+j0 = v27;
 j1 = UINT64_C(528);
 j0 = j0 + j1;
-v57 = j0;
-j0 = v34;
+v54 = j0;
+j0 = v27;
 j1 = UINT64_C(656);
 j0 = j0 + j1;
-p148 = read_at(j0, m, 8u);
-j0 = load64(p148 + 0);
-v58 = j0;
+p210 = read_at(j0, m, 8u);
+j0 = load64(p210 + 0);
+v55 = j0;
 i0 = (j0 == 0);
 i0 = (i0 == 0);
 if (!i0) {
 j0 = UINT64_C(0);
-v4 = j0;
-goto l348;
+v2 = j0;
+goto l319;
 }
 j0 = UINT64_C(0);
-v4 = j0;
-j0 = v46;
-v5 = j0;
-j0 = v58;
-v13 = j0;
+v2 = j0;
+j0 = v44;
+v3 = j0;
+j0 = v55;
+v12 = j0;
 j0 = UINT64_C(0);
-v6 = j0;
-l351:;
-j0 = v5;
+v16 = j0;
+l322:;
+j0 = v3;
 j1 = UINT64_C(18446744073709551615);
 j0 = j0 + j1;
-p149 = read_at(j0, m, 1u);
-j0 = load8(p149 + 0);
+p211 = read_at(j0, m, 1u);
+j0 = load8(p211 + 0);
 i0 = (uint32_t)j0;
 switch (i0) {
 case 0:
-goto l354;
+goto l325;
 case 1:
-goto l353;
+goto l324;
 case 2:
-goto l352;
+goto l323;
 default:
-goto l354;
+goto l325;
 }
-l354:;
+l325:;
 j0 = UINT64_C(0);
-v6 = j0;
-j0 = v4;
-v30 = j0;
-j0 = v4;
+v16 = j0;
+j0 = v2;
+v26 = j0;
+j0 = v2;
 i0 = (j0 == 0);
-if (i0) { goto l352; }
-goto l350;
-l353:;
+if (i0) { goto l323; }
+goto l321;
+l324:;
 j0 = UINT64_C(0);
-v30 = j0;
-j0 = v4;
-j1 = v42;
+v26 = j0;
+j0 = v2;
+j1 = v45;
 i0 = (j0 >= j1);
-if (i0) { goto l350; }
-j0 = v44;
-j1 = v4;
+if (i0) { goto l321; }
+j0 = v53;
+j1 = v2;
 j0 = j0 + j1;
-p150 = read_at(j0, m, 1u);
-i0 = load8(p150 + 0);
-j1 = v5;
-p151 = read_at(j1, m, 1u);
-i1 = load8(p151 + 0);
+p212 = read_at(j0, m, 1u);
+i0 = load8(p212 + 0);
+j1 = v3;
+p213 = read_at(j1, m, 1u);
+i1 = load8(p213 + 0);
 i0 = (i0 != i1);
-if (i0) { goto l350; }
-j0 = v4;
+if (i0) { goto l321; }
+j0 = v2;
 j1 = UINT64_C(1);
 j0 = j0 + j1;
-v6 = j0;
-l352:;
-j0 = v5;
+v16 = j0;
+l323:;
+j0 = v3;
 j1 = UINT64_C(2);
 j0 = j0 + j1;
-v5 = j0;
-j0 = v6;
-v4 = j0;
-j0 = v6;
-v30 = j0;
-j0 = v13;
+v3 = j0;
+j0 = v16;
+v2 = j0;
+j0 = v16;
+v26 = j0;
+j0 = v12;
 j1 = UINT64_C(18446744073709551615);
 j0 = j0 + j1;
-v13 = j0;
+v12 = j0;
 i0 = (j0 == 0);
 i0 = (i0 == 0);
-if (i0) { goto l351; }
-l350:;
-j0 = v42;
-j1 = v30;
-j2 = v42;
-j3 = v30;
+if (i0) { goto l322; }
+l321:;
+j0 = v45;
+j1 = v26;
+j2 = v45;
+j3 = v26;
 i2 = (j2 < j3);
 j0 = i2 ? j0 : j1;
-v4 = j0;
-l348:;
-j0 = v7;
-j1 = UINT64_C(192);
+v2 = j0;
+l319:;
+j0 = v6;
+j1 = UINT64_C(128);
 j0 = j0 + j1;
-i1 = v22;
-i2 = v52;
-j3 = v57;
-j4 = v58;
-j5 = v44;
-j6 = v4;
+i1 = v20;
+i2 = v29;
+j3 = v54;
+j4 = v55;
+j5 = v53;
+j6 = v2;
 j5 = j5 + j6;
-v5 = j5;
-j6 = v42;
-j7 = v4;
+v3 = j5;
+j6 = v45;
+j7 = v2;
 j6 = j6 - j7;
-v4 = j6;
-j7 = v33;
+v2 = j6;
+j7 = v36;
 fio_form_octets_run_in(m, j0, i1, i2, j3, j4, j5, j6, j7);
-j0 = v7;
-i0 = load8(p1 + 192);
+j0 = v6;
+i0 = load8(p1 + 128);
 i1 = UINT32_C(1);
 i0 = (i0 != i1);
-if (i0) { goto l250; }
-j0 = v34;
+if (i0) { goto l221; }
+j0 = v27;
 j1 = UINT64_C(520);
 j0 = j0 + j1;
-i0 = load8(p139 + 0);
-v22 = i0;
+i0 = load8(p201 + 0);
+v20 = i0;
 j0 = v1;
-j1 = UINT64_C(317760);
+j1 = UINT64_C(79664);
 j0 = j0 + j1;
-j0 = load64(p10 + 63760);
+p214 = read_at(j0, m, 8u);
+j0 = load64(p214 + 0);
 i0 = (j0 == 0);
 if (!i0) {
-j0 = v4;
-j1 = v7;
-j1 = load64(p1 + 200);
-v6 = j1;
-j2 = v4;
-j3 = v6;
+j0 = v2;
+j1 = v6;
+j1 = load64(p1 + 136);
+v16 = j1;
+j2 = v2;
+j3 = v16;
 i2 = (j2 < j3);
 j0 = i2 ? j0 : j1;
-v13 = j0;
-i0 = v22;
+v12 = j0;
+i0 = v20;
 i1 = UINT32_C(255);
 i0 = i0 & i1;
 i1 = UINT32_C(7);
 i0 = (i0 == i1);
 if (!i0) {
-j0 = v4;
-j1 = v6;
+j0 = v2;
+j1 = v16;
 i0 = (j0 <= j1);
-if (i0) { goto l250; }
-j0 = v5;
-j1 = v13;
+if (i0) { goto l221; }
+j0 = v3;
+j1 = v12;
 j0 = j0 + j1;
-p152 = read_at(j0, m, 1u);
-i0 = load8(p152 + 0);
-v10 = i0;
+p215 = read_at(j0, m, 1u);
+i0 = load8(p215 + 0);
+v8 = i0;
 i1 = UINT32_C(95);
 i0 = (i0 == i1);
 if (!i0) {
-i0 = v10;
+i0 = v8;
 i1 = UINT32_C(48);
 i0 = (i0 < i1);
-if (i0) { goto l250; }
-i0 = v10;
+if (i0) { goto l221; }
+i0 = v8;
 i1 = UINT32_C(58);
 i0 = (i0 < i1);
 if (!i0) {
-i0 = v10;
+i0 = v8;
 i1 = UINT32_C(65);
 i0 = (i0 < i1);
-if (i0) { goto l250; }
-i0 = v10;
+if (i0) { goto l221; }
+i0 = v8;
 i1 = UINT32_C(91);
 i0 = (i0 < i1);
 if (!i0) {
-i0 = v10;
+i0 = v8;
 i1 = UINT32_C(97);
 i0 = (i0 < i1);
-if (i0) { goto l250; }
-i0 = v10;
+if (i0) { goto l221; }
+i0 = v8;
 i0 = (uint32_t)extend(i0 & 255, 7);
 i1 = UINT32_C(122);
 i0 = (SIGNED32(i0) > SIGNED32(i1));
-if (i0) { goto l250; }
+if (i0) { goto l221; }
 }
 }
 }
-j0 = v6;
+j0 = v16;
 i0 = (j0 == 0);
-if (i0) { goto l310; }
-j0 = v13;
+if (i0) { goto l281; }
+j0 = v12;
 j1 = UINT64_C(18446744073709551615);
 j0 = j0 + j1;
-v4 = j0;
+v2 = j0;
 j0 = UINT64_C(0);
-v6 = j0;
+v16 = j0;
 i0 = UINT32_C(0);
-v10 = i0;
-l357:;
-i0 = v10;
+v8 = i0;
+l328:;
+i0 = v8;
 i1 = UINT32_C(1);
 i0 = i0 & i1;
 if (!i0) {
-j0 = v5;
-p153 = read_at(j0, m, 1u);
-i0 = load8(p153 + 0);
-v10 = i0;
+j0 = v3;
+p216 = read_at(j0, m, 1u);
+i0 = load8(p216 + 0);
+v8 = i0;
 i1 = UINT32_C(95);
 i0 = (i0 == i1);
-if (i0) { goto l359; }
-i0 = v10;
+if (i0) { goto l330; }
+i0 = v8;
 i1 = UINT32_C(48);
 i0 = (i0 < i1);
 if (!i0) {
-i0 = v10;
+i0 = v8;
 i1 = UINT32_C(58);
 i0 = (i0 < i1);
-if (i0) { goto l359; }
-i0 = v10;
+if (i0) { goto l330; }
+i0 = v8;
 i1 = UINT32_C(65);
 i0 = (i0 < i1);
 if (!i0) {
-i0 = v10;
+i0 = v8;
 i1 = UINT32_C(91);
 i0 = (i0 < i1);
-if (i0) { goto l359; }
-i0 = v10;
+if (i0) { goto l330; }
+i0 = v8;
 i1 = UINT32_C(97);
 i0 = (i0 < i1);
 if (!i0) {
-i0 = v10;
+i0 = v8;
 i0 = (uint32_t)extend(i0 & 255, 7);
 i1 = UINT32_C(123);
 i0 = (SIGNED32(i0) < SIGNED32(i1));
-if (i0) { goto l359; }
+if (i0) { goto l330; }
 }
 }
 }
 }
-j0 = v4;
+j0 = v2;
 i0 = (j0 == 0);
-if (i0) { goto l250; }
-j0 = v6;
+if (i0) { goto l221; }
+j0 = v16;
 j1 = UINT64_C(1);
 j0 = j0 + j1;
-v6 = j0;
+v16 = j0;
 i0 = UINT32_C(1);
-v10 = i0;
-goto l358;
-l359:;
-j0 = v4;
+v8 = i0;
+goto l329;
+l330:;
+j0 = v2;
 i0 = (j0 == 0);
-if (i0) { goto l310; }
-j0 = v6;
+if (i0) { goto l281; }
+j0 = v16;
 j1 = UINT64_C(1);
 j0 = j0 + j1;
-v6 = j0;
+v16 = j0;
 i0 = UINT32_C(0);
-v10 = i0;
-l358:;
-j0 = v5;
+v8 = i0;
+l329:;
+j0 = v3;
 j1 = UINT64_C(1);
 j0 = j0 + j1;
-v5 = j0;
-j0 = v4;
+v3 = j0;
+j0 = v2;
 j1 = UINT64_C(18446744073709551615);
 j0 = j0 + j1;
-v4 = j0;
-goto l357;
+v2 = j0;
+goto l328;
 }
-j0 = v5;
-j1 = v13;
-j2 = UINT64_C(66296);
+j0 = v3;
+j1 = v12;
+j2 = UINT64_C(1049336);
 i0 = core_slice_reads_slice_T_contains_i8_31_core_cmp_numbers_U8PartialEq(m, j0, j1, j2);
-if (i0) { goto l250; }
-goto l253;
+if (i0) { goto l221; }
+goto l224;
 }
 }
 }
 }
-l310:;
-i0 = v22;
+l281:;
+i0 = v20;
 i1 = UINT32_C(4294967286);
 i0 = i0 + i1;
 i1 = UINT32_C(255);
@@ -38910,1189 +39999,1219 @@ i0 = i0 & i1;
 i1 = UINT32_C(252);
 i0 = (i0 > i1);
 if (!i0) {
-j0 = v24;
-p154 = read_at(j0, m, 8u);
-j0 = load64(p154 + 0);
-v6 = j0;
+j0 = v30;
+p217 = read_at(j0, m, 8u);
+j0 = load64(p217 + 0);
+v16 = j0;
 i0 = (j0 == 0);
 i0 = (i0 == 0);
 if (!i0) {
 j0 = UINT64_C(0);
-v6 = j0;
-goto l251;
+v16 = j0;
+goto l222;
 }
-j0 = v21;
-j1 = v3;
+j0 = v17;
+j1 = v5;
 i0 = (j0 == j1);
-if (i0) { goto l252; }
-j0 = v11;
+if (i0) { goto l223; }
+j0 = v10;
 j1 = UINT64_C(10);
-j2 = v11;
+j2 = v10;
 j3 = UINT64_C(10);
 i2 = (j2 < j3);
 j0 = i2 ? j0 : j1;
-v42 = j0;
-j0 = v34;
+v45 = j0;
+j0 = v27;
 j1 = UINT64_C(528);
 j0 = j0 + j1;
-v30 = j0;
+v26 = j0;
 j0 = UINT64_C(0);
-v3 = j0;
-j0 = v25;
-v6 = j0;
-l362:;
-j0 = v7;
-j1 = UINT64_C(176);
+v5 = j0;
+j0 = v4;
+v16 = j0;
+l333:;
+j0 = v6;
+j1 = UINT64_C(112);
 j0 = j0 + j1;
-i1 = v22;
-j2 = v34;
+i1 = v20;
+j2 = v27;
 j3 = UINT64_C(521);
 j2 = j2 + j3;
-i2 = load8(p139 + 1);
-j3 = v30;
-j4 = v34;
+i2 = load8(p201 + 1);
+j3 = v26;
+j4 = v27;
 j5 = UINT64_C(656);
 j4 = j4 + j5;
-p155 = read_at(j4, m, 8u);
-j4 = load64(p155 + 0);
-j5 = v25;
-j6 = v3;
+p218 = read_at(j4, m, 8u);
+j4 = load64(p218 + 0);
+j5 = v4;
+j6 = v5;
 j5 = j5 + j6;
-v13 = j5;
-j6 = v11;
-j7 = v3;
+v12 = j5;
+j6 = v10;
+j7 = v5;
 j6 = j6 - j7;
-v5 = j6;
-j7 = v33;
+v3 = j6;
+j7 = v36;
 fio_form_octets_run_in(m, j0, i1, i2, j3, j4, j5, j6, j7);
-j0 = v7;
-i0 = load8(p1 + 176);
+j0 = v6;
+i0 = load8(p1 + 112);
 i1 = UINT32_C(1);
 i0 = (i0 != i1);
 if (!i0) {
 j0 = v1;
-j1 = UINT64_C(317760);
+j1 = UINT64_C(79664);
 j0 = j0 + j1;
-j0 = load64(p10 + 63760);
+p219 = read_at(j0, m, 8u);
+j0 = load64(p219 + 0);
 j1 = UINT64_C(2);
 i0 = (j0 < j1);
 if (!i0) {
-j0 = v7;
-j0 = load64(p1 + 184);
-v4 = j0;
+j0 = v6;
+j0 = load64(p1 + 120);
+v2 = j0;
 j1 = UINT64_C(18446744073709551615);
 j0 = j0 + j1;
-j1 = v5;
+j1 = v3;
 i0 = (j0 >= j1);
 if (!i0) {
-j0 = v6;
-v5 = j0;
-l364:;
-j0 = v5;
-p156 = read_at(j0, m, 1u);
-i0 = load8(p156 + 0);
-v22 = i0;
+j0 = v16;
+v3 = j0;
+l335:;
+j0 = v3;
+p220 = read_at(j0, m, 1u);
+i0 = load8(p220 + 0);
+v20 = i0;
 i1 = UINT32_C(48);
 i0 = (i0 < i1);
-if (i0) { goto l250; }
-i0 = v22;
+if (i0) { goto l221; }
+i0 = v20;
 i1 = UINT32_C(58);
 i0 = (i0 < i1);
 if (!i0) {
-i0 = v22;
+i0 = v20;
 i1 = UINT32_C(65);
 i0 = (i0 < i1);
-if (i0) { goto l250; }
-i0 = v22;
+if (i0) { goto l221; }
+i0 = v20;
 i1 = UINT32_C(71);
 i0 = (i0 < i1);
 if (!i0) {
-i0 = v22;
+i0 = v20;
 i1 = UINT32_C(4294967199);
 i0 = i0 + i1;
 i1 = UINT32_C(255);
 i0 = i0 & i1;
 i1 = UINT32_C(5);
 i0 = (i0 > i1);
-if (i0) { goto l250; }
+if (i0) { goto l221; }
 }
+}
+j0 = v3;
+j1 = UINT64_C(1);
+j0 = j0 + j1;
+v3 = j0;
+j0 = v2;
+j1 = UINT64_C(18446744073709551615);
+j0 = j0 + j1;
+v2 = j0;
+j1 = UINT64_C(0);
+i0 = (j0 != j1);
+if (i0) { goto l335; }
+}
+}
+}
+j0 = v12;
+p221 = read_at(j0, m, 1u);
+i0 = load8(p221 + 0);
+v20 = i0;
+i1 = UINT32_C(95);
+i0 = (i0 == i1);
+if (i0) { goto l224; }
+i0 = v20;
+i1 = UINT32_C(65);
+i0 = (i0 < i1);
+if (!i0) {
+i0 = v20;
+i1 = UINT32_C(91);
+i0 = (i0 < i1);
+if (!i0) {
+i0 = v20;
+i1 = UINT32_C(97);
+i0 = (i0 < i1);
+if (i0) { goto l338; }
+i0 = v20;
+i0 = (uint32_t)extend(i0 & 255, 7);
+i1 = UINT32_C(122);
+i0 = (SIGNED32(i0) > SIGNED32(i1));
+if (i0) { goto l338; }
+j0 = v5;
+j1 = UINT64_C(1);
+j0 = j0 + j1;
+v5 = j0;
+j1 = v45;
+i0 = (j0 >= j1);
+if (i0) { goto l224; }
+i0 = v20;
+i1 = UINT32_C(103);
+i0 = (i0 < i1);
+if (i0) { goto l337; }
+goto l224;
 }
 j0 = v5;
 j1 = UINT64_C(1);
 j0 = j0 + j1;
 v5 = j0;
-j0 = v4;
-j1 = UINT64_C(18446744073709551615);
-j0 = j0 + j1;
-v4 = j0;
-j1 = UINT64_C(0);
-i0 = (j0 != j1);
-if (i0) { goto l364; }
-}
-}
-}
-j0 = v13;
-p157 = read_at(j0, m, 1u);
-i0 = load8(p157 + 0);
-v22 = i0;
-i1 = UINT32_C(95);
-i0 = (i0 == i1);
-if (i0) { goto l253; }
-i0 = v22;
-i1 = UINT32_C(65);
-i0 = (i0 < i1);
-if (!i0) {
-i0 = v22;
-i1 = UINT32_C(91);
-i0 = (i0 < i1);
-if (!i0) {
-i0 = v22;
-i1 = UINT32_C(97);
-i0 = (i0 < i1);
-if (i0) { goto l367; }
-i0 = v22;
-i0 = (uint32_t)extend(i0 & 255, 7);
-i1 = UINT32_C(122);
-i0 = (SIGNED32(i0) > SIGNED32(i1));
-if (i0) { goto l367; }
-j0 = v3;
-j1 = UINT64_C(1);
-j0 = j0 + j1;
-v3 = j0;
-j1 = v42;
+j1 = v45;
 i0 = (j0 >= j1);
-if (i0) { goto l253; }
-i0 = v22;
-i1 = UINT32_C(103);
-i0 = (i0 < i1);
-if (i0) { goto l366; }
-goto l253;
-}
-j0 = v3;
-j1 = UINT64_C(1);
-j0 = j0 + j1;
-v3 = j0;
-j1 = v42;
-i0 = (j0 >= j1);
-if (i0) { goto l253; }
-i0 = v22;
+if (i0) { goto l224; }
+i0 = v20;
 i1 = UINT32_C(71);
 i0 = (i0 < i1);
-if (i0) { goto l366; }
-goto l253;
+if (i0) { goto l337; }
+goto l224;
 }
-l367:;
-j0 = v3;
+l338:;
+j0 = v5;
 j1 = UINT64_C(1);
 j0 = j0 + j1;
-v3 = j0;
-j1 = v42;
+v5 = j0;
+j1 = v45;
 i0 = (j0 >= j1);
-if (i0) { goto l253; }
-l366:;
-j0 = v6;
+if (i0) { goto l224; }
+l337:;
+j0 = v16;
 j1 = UINT64_C(1);
 j0 = j0 + j1;
-v6 = j0;
-j0 = v34;
+v16 = j0;
+j0 = v27;
 j1 = UINT64_C(520);
 j0 = j0 + j1;
-i0 = load8(p139 + 0);
-v22 = i0;
-goto l362;
+i0 = load8(p201 + 0);
+v20 = i0;
+goto l333;
 }
-l253:;
-j0 = v24;
-p158 = read_at(j0, m, 8u);
-j0 = load64(p158 + 0);
-v6 = j0;
-l252:;
-j0 = v6;
+l224:;
+j0 = v30;
+p222 = read_at(j0, m, 8u);
+j0 = load64(p222 + 0);
+v16 = j0;
+l223:;
+j0 = v16;
 j1 = UINT64_C(2);
 i0 = (j0 < j1);
 if (!i0) {
 j0 = UINT64_C(1);
-v3 = j0;
-j0 = v6;
+v5 = j0;
+j0 = v16;
 j1 = UINT64_C(1);
 j0 = j0 << (j1 & 63);
-j1 = v34;
+j1 = v27;
 j0 = j0 + j1;
 j1 = UINT64_C(18446744073709551614);
 j0 = j0 + j1;
-v5 = j0;
-p159 = read_at(j0, m, 1u);
-j0 = load8(p159 + 0);
+v3 = j0;
+p223 = read_at(j0, m, 1u);
+j0 = load8(p223 + 0);
 i0 = (uint32_t)j0;
 switch (i0) {
 case 0:
-goto l370;
+goto l341;
 case 1:
-goto l251;
+goto l222;
 case 2:
-goto l251;
+goto l222;
 case 3:
-goto l251;
+goto l222;
 case 4:
-goto l251;
+goto l222;
 case 5:
-goto l369;
+goto l340;
 case 6:
-goto l251;
+goto l222;
 default:
-goto l370;
+goto l341;
 }
-l370:;
-j0 = v5;
+l341:;
+j0 = v3;
 j1 = UINT64_C(1);
 j0 = j0 + j1;
-p160 = read_at(j0, m, 1u);
-i0 = load8(p160 + 0);
-v22 = i0;
+p224 = read_at(j0, m, 1u);
+i0 = load8(p224 + 0);
+v20 = i0;
 i1 = UINT32_C(32);
 i0 = (i0 == i1);
-if (i0) { goto l251; }
-i0 = v22;
+if (i0) { goto l222; }
+i0 = v20;
 i1 = UINT32_C(95);
 i0 = (i0 == i1);
-if (i0) { goto l251; }
-i0 = v22;
+if (i0) { goto l222; }
+i0 = v20;
 i1 = UINT32_C(48);
 i0 = (i0 < i1);
 if (!i0) {
-i0 = v22;
+i0 = v20;
 i1 = UINT32_C(58);
 i0 = (i0 < i1);
-if (i0) { goto l251; }
-i0 = v22;
+if (i0) { goto l222; }
+i0 = v20;
 i1 = UINT32_C(65);
 i0 = (i0 < i1);
 if (!i0) {
-i0 = v22;
+i0 = v20;
 i1 = UINT32_C(91);
 i0 = (i0 < i1);
-if (i0) { goto l251; }
-i0 = v22;
+if (i0) { goto l222; }
+i0 = v20;
 i1 = UINT32_C(97);
 i0 = (i0 < i1);
 if (!i0) {
-i0 = v22;
+i0 = v20;
 i0 = (uint32_t)extend(i0 & 255, 7);
 i1 = UINT32_C(122);
 i0 = (SIGNED32(i0) <= SIGNED32(i1));
-if (i0) { goto l251; }
+if (i0) { goto l222; }
 }
 }
 }
-l369:;
-j0 = v47;
-p161 = read_at(j0, m, 8u);
-j0 = load64(p161 + 0);
-v11 = j0;
+l340:;
+j0 = v37;
+p225 = read_at(j0, m, 8u);
+j0 = load64(p225 + 0);
+v10 = j0;
 j0 = UINT64_C(0);
-v5 = j0;
-j0 = v45;
-v4 = j0;
-l371:;
-j0 = v7;
-j1 = UINT64_C(160);
+v3 = j0;
+j0 = v42;
+v2 = j0;
+l342:;
+j0 = v6;
+j1 = UINT64_C(96);
 j0 = j0 + j1;
-j1 = v4;
+j1 = v2;
 j2 = UINT64_C(18446744073709551615);
 j1 = j1 + j2;
-p162 = read_at(j1, m, 2u);
-i1 = load8(p162 + 0);
-j2 = v4;
-i2 = load8(p162 + 1);
-j3 = v17;
-j4 = v11;
-j5 = v20;
-j6 = v5;
+p226 = read_at(j1, m, 2u);
+i1 = load8(p226 + 0);
+j2 = v2;
+i2 = load8(p226 + 1);
+j3 = v25;
+j4 = v10;
+j5 = v18;
+j6 = v3;
 j5 = j5 + j6;
-j6 = v21;
-j7 = v5;
+j6 = v17;
+j7 = v3;
 j6 = j6 - j7;
 fio_form_form_Piece_length_in(m, j0, i1, i2, j3, j4, j5, j6);
-j0 = v7;
-i0 = load8(p1 + 160);
+j0 = v6;
+i0 = load8(p1 + 96);
 i1 = UINT32_C(1);
 i0 = (i0 != i1);
-if (i0) { goto l251; }
-j0 = v4;
+if (i0) { goto l222; }
+j0 = v2;
 j1 = UINT64_C(2);
 j0 = j0 + j1;
-v4 = j0;
-j0 = v7;
-j0 = load64(p1 + 168);
-j1 = v5;
-j0 = j0 + j1;
-v5 = j0;
+v2 = j0;
 j0 = v6;
+j0 = load64(p1 + 104);
 j1 = v3;
+j0 = j0 + j1;
+v3 = j0;
+j0 = v16;
+j1 = v5;
 j2 = UINT64_C(1);
 j1 = j1 + j2;
-v3 = j1;
+v5 = j1;
 i0 = (j0 != j1);
-if (i0) { goto l371; }
-goto l250;
+if (i0) { goto l342; }
+goto l221;
 }
-l251:;
-i0 = v32;
-if (i0) { goto l249; }
-j0 = v34;
+l222:;
+i0 = v7;
+if (i0) { goto l220; }
+j0 = v27;
 j1 = UINT64_C(520);
 j0 = j0 + j1;
-p163 = read_at(j0, m, 1u);
-i0 = load8(p163 + 0);
-v32 = i0;
+p227 = read_at(j0, m, 1u);
+i0 = load8(p227 + 0);
+v7 = i0;
 i1 = UINT32_C(4294967289);
 i0 = i0 + i1;
 i1 = UINT32_C(255);
 i0 = i0 & i1;
 i1 = UINT32_C(3);
 i0 = (i0 < i1);
-if (i0) { goto l249; }
+if (i0) { goto l220; }
 j0 = UINT64_C(0);
-v5 = j0;
-j0 = v21;
-v17 = j0;
-j0 = v20;
 v3 = j0;
-j0 = v48;
-v4 = j0;
-l373:;
-j0 = v20;
-j1 = v5;
-j0 = j0 + j1;
-p164 = read_at(j0, m, 1u);
-i0 = load8(p164 + 0);
-i1 = UINT32_C(32);
-i0 = (i0 != i1);
-if (i0) { goto l372; }
-j0 = v17;
-j1 = UINT64_C(18446744073709551615);
-j0 = j0 + j1;
-v17 = j0;
-j0 = v3;
-j1 = UINT64_C(1);
-j0 = j0 + j1;
-v3 = j0;
-j0 = v4;
-j1 = UINT64_C(18446744073709551615);
-j0 = j0 + j1;
-v4 = j0;
-j0 = v21;
-j1 = v5;
-j2 = UINT64_C(1);
-j1 = j1 + j2;
-v5 = j1;
-i0 = (j0 != j1);
-if (i0) { goto l373; }
-goto l249;
-l372:;
-j0 = v21;
-j1 = v5;
-i0 = (j0 == j1);
-if (i0) { goto l249; }
-j0 = v21;
-j1 = v5;
-j0 = j0 - j1;
-v13 = j0;
 j0 = v17;
 v25 = j0;
-j0 = v3;
-v11 = j0;
-l375:;
-j0 = v11;
-p165 = read_at(j0, m, 1u);
-i0 = load8(p165 + 0);
-v22 = i0;
+j0 = v18;
+v5 = j0;
+j0 = v41;
+v2 = j0;
+l344:;
+j0 = v18;
+j1 = v3;
+j0 = j0 + j1;
+p228 = read_at(j0, m, 1u);
+i0 = load8(p228 + 0);
+i1 = UINT32_C(32);
+i0 = (i0 != i1);
+if (i0) { goto l343; }
+j0 = v25;
+j1 = UINT64_C(18446744073709551615);
+j0 = j0 + j1;
+v25 = j0;
+j0 = v5;
+j1 = UINT64_C(1);
+j0 = j0 + j1;
+v5 = j0;
+j0 = v2;
+j1 = UINT64_C(18446744073709551615);
+j0 = j0 + j1;
+v2 = j0;
+j0 = v17;
+j1 = v3;
+j2 = UINT64_C(1);
+j1 = j1 + j2;
+v3 = j1;
+i0 = (j0 != j1);
+if (i0) { goto l344; }
+goto l220;
+l343:;
+j0 = v17;
+j1 = v3;
+i0 = (j0 == j1);
+if (i0) { goto l220; }
+j0 = v17;
+j1 = v3;
+j0 = j0 - j1;
+v12 = j0;
+j0 = v25;
+v4 = j0;
+j0 = v5;
+v10 = j0;
+l346:;
+j0 = v10;
+p229 = read_at(j0, m, 1u);
+i0 = load8(p229 + 0);
+v20 = i0;
 i1 = UINT32_C(48);
 i0 = (i0 < i1);
-if (i0) { goto l374; }
-i0 = v22;
+if (i0) { goto l345; }
+i0 = v20;
 i1 = UINT32_C(58);
 i0 = (i0 < i1);
 if (!i0) {
-i0 = v22;
+i0 = v20;
 i1 = UINT32_C(65);
 i0 = (i0 < i1);
-if (i0) { goto l374; }
-i0 = v22;
+if (i0) { goto l345; }
+i0 = v20;
 i1 = UINT32_C(71);
 i0 = (i0 < i1);
 if (!i0) {
-i0 = v22;
+i0 = v20;
 i1 = UINT32_C(4294967199);
 i0 = i0 + i1;
 i1 = UINT32_C(255);
 i0 = i0 & i1;
 i1 = UINT32_C(5);
 i0 = (i0 > i1);
-if (i0) { goto l374; }
+if (i0) { goto l345; }
 }
 }
-j0 = v11;
+j0 = v10;
 j1 = UINT64_C(1);
 j0 = j0 + j1;
-v11 = j0;
+v10 = j0;
+j0 = v4;
+j1 = UINT64_C(18446744073709551615);
+j0 = j0 + j1;
+v4 = j0;
+j1 = UINT64_C(0);
+i0 = (j0 != j1);
+if (i0) { goto l346; }
+j0 = v12;
+j1 = UINT64_C(18446744073709551605);
+j0 = j0 + j1;
+j1 = UINT64_C(18446744073709551609);
+i0 = (j0 < j1);
+if (i0) { goto l221; }
+j0 = v16;
+i0 = (j0 == 0);
+if (i0) { goto l220; }
+i0 = UINT32_C(1);
+j1 = v27;
+p230 = read_at(j1, m, 1u);
+i1 = load8(p230 + 0);
+i0 = i0 << (i1 & 31);
+i1 = UINT32_C(86);
+i0 = i0 & i1;
+i0 = (i0 == 0);
+if (i0) { goto l221; }
+j0 = v16;
+j1 = UINT64_C(18446744073709551615);
+j0 = j0 + j1;
+v2 = j0;
+i0 = (j0 == 0);
+if (i0) { goto l220; }
+j0 = v47;
+v3 = j0;
+l348:;
+i0 = UINT32_C(1);
+j1 = v3;
+p231 = read_at(j1, m, 1u);
+i1 = load8(p231 + 0);
+i0 = i0 << (i1 & 31);
+i1 = UINT32_C(41);
+i0 = i0 & i1;
+i0 = (i0 == 0);
+if (i0) { goto l221; }
+j0 = v3;
+j1 = UINT64_C(2);
+j0 = j0 + j1;
+v3 = j0;
+j0 = v2;
+j1 = UINT64_C(18446744073709551615);
+j0 = j0 + j1;
+v2 = j0;
+i0 = (j0 == 0);
+i0 = (i0 == 0);
+if (i0) { goto l348; }
+goto l220;
+l345:;
+j0 = v12;
+j1 = UINT64_C(10);
+i0 = (j0 > j1);
+if (!i0) {
+j0 = v6;
+i1 = UINT32_C(1);
+store16(p1 + 352, i1);
+j0 = v27;
+j1 = UINT64_C(528);
+j0 = j0 + j1;
+v16 = j0;
+j0 = UINT64_C(0);
+v10 = j0;
+i0 = UINT32_C(0);
+v8 = i0;
+l350:;
+i0 = v8;
+v28 = i0;
+j0 = v5;
+j1 = v10;
+j0 = j0 + j1;
+p232 = read_at(j0, m, 1u);
+i0 = load8(p232 + 0);
+v20 = i0;
+i1 = UINT32_C(48);
+i0 = (i0 < i1);
+if (!i0) {
+i0 = UINT32_C(1);
+v8 = i0;
+i0 = v20;
+i1 = UINT32_C(58);
+i0 = (i0 < i1);
+if (i0) { goto l351; }
+i0 = v20;
+i1 = UINT32_C(65);
+i0 = (i0 < i1);
+if (i0) { goto l352; }
+i0 = v20;
+i1 = UINT32_C(71);
+i0 = (i0 < i1);
+if (i0) { goto l351; }
+i0 = v20;
+i1 = UINT32_C(4294967199);
+i0 = i0 + i1;
+i1 = UINT32_C(255);
+i0 = i0 & i1;
+i1 = UINT32_C(6);
+i0 = (i0 < i1);
+if (i0) { goto l351; }
+goto l352;
+}
+i0 = v20;
+i1 = UINT32_C(32);
+i0 = (i0 != i1);
+if (!i0) {
+i0 = v28;
+v8 = i0;
+goto l351;
+}
+l352:;
+j0 = v6;
+i1 = v20;
+store8(p1 + 353, i1);
+i0 = v28;
+v8 = i0;
+j0 = v16;
+j1 = v27;
+j2 = UINT64_C(656);
+j1 = j1 + j2;
+p233 = read_at(j1, m, 8u);
+j1 = load64(p233 + 0);
+j2 = v6;
+j3 = UINT64_C(352);
+j2 = j2 + j3;
+i0 = core_slice_reads_slice_T_contains(m, j0, j1, j2);
+i0 = (i0 == 0);
+if (i0) { goto l349; }
+l351:;
+j0 = v25;
+j1 = v10;
+j2 = UINT64_C(1);
+j1 = j1 + j2;
+v10 = j1;
+i0 = (j0 != j1);
+if (i0) { goto l350; }
+i0 = v8;
+i1 = UINT32_C(1);
+i0 = i0 & i1;
+if (i0) { goto l221; }
+}
+l349:;
+j0 = v17;
+v25 = j0;
+l356:;
+j0 = v43;
+j1 = v25;
+j0 = j0 + j1;
+p234 = read_at(j0, m, 1u);
+i0 = load8(p234 + 0);
+v20 = i0;
+i1 = UINT32_C(4294967262);
+i0 = i0 + i1;
+switch (i0) {
+case 0:
+goto l355;
+case 1:
+goto l354;
+case 2:
+goto l354;
+case 3:
+goto l354;
+case 4:
+goto l354;
+case 5:
+goto l355;
+case 6:
+goto l354;
+case 7:
+goto l357;
+case 8:
+goto l354;
+case 9:
+goto l354;
+case 10:
+goto l357;
+default:
+goto l358;
+}
+l358:;
+i0 = v20;
+i1 = UINT32_C(125);
+i0 = (i0 == i1);
+if (!i0) {
+i0 = v20;
+i1 = UINT32_C(93);
+i0 = (i0 != i1);
+if (i0) { goto l354; }
+}
+l357:;
+j0 = v2;
+j1 = UINT64_C(18446744073709551615);
+j0 = j0 + j1;
+v2 = j0;
+j0 = v3;
+j1 = v25;
+j2 = UINT64_C(18446744073709551615);
+j1 = j1 + j2;
+v25 = j1;
+i0 = (j0 != j1);
+if (i0) { goto l356; }
+goto l354;
+l355:;
+j0 = v6;
+i1 = UINT32_C(1);
+store16(p1 + 352, i1);
+j0 = v25;
+j1 = UINT64_C(18446744073709551615);
+j0 = j0 + j1;
+j1 = v3;
+i0 = (j0 == j1);
+if (!i0) {
+j0 = v27;
+j1 = UINT64_C(528);
+j0 = j0 + j1;
+v3 = j0;
+i0 = UINT32_C(0);
+v8 = i0;
+l359:;
+i0 = v8;
+v28 = i0;
+j0 = v5;
+p235 = read_at(j0, m, 1u);
+i0 = load8(p235 + 0);
+v20 = i0;
+i1 = UINT32_C(48);
+i0 = (i0 < i1);
+if (!i0) {
+i0 = UINT32_C(1);
+v8 = i0;
+i0 = v20;
+i1 = UINT32_C(58);
+i0 = (i0 < i1);
+if (i0) { goto l360; }
+i0 = v20;
+i1 = UINT32_C(65);
+i0 = (i0 < i1);
+if (i0) { goto l361; }
+i0 = v20;
+i1 = UINT32_C(71);
+i0 = (i0 < i1);
+if (i0) { goto l360; }
+i0 = v20;
+i1 = UINT32_C(4294967199);
+i0 = i0 + i1;
+i1 = UINT32_C(255);
+i0 = i0 & i1;
+i1 = UINT32_C(6);
+i0 = (i0 < i1);
+if (i0) { goto l360; }
+goto l361;
+}
+i0 = v20;
+i1 = UINT32_C(32);
+i0 = (i0 != i1);
+if (!i0) {
+i0 = v28;
+v8 = i0;
+goto l360;
+}
+l361:;
+j0 = v6;
+i1 = v20;
+store8(p1 + 353, i1);
+i0 = v28;
+v8 = i0;
+j0 = v3;
+j1 = v27;
+j2 = UINT64_C(656);
+j1 = j1 + j2;
+p236 = read_at(j1, m, 8u);
+j1 = load64(p236 + 0);
+j2 = v6;
+j3 = UINT64_C(352);
+j2 = j2 + j3;
+i0 = core_slice_reads_slice_T_contains(m, j0, j1, j2);
+i0 = (i0 == 0);
+if (i0) { goto l354; }
+l360:;
+j0 = v5;
+j1 = UINT64_C(1);
+j0 = j0 + j1;
+v5 = j0;
+j0 = v2;
+j1 = UINT64_C(18446744073709551615);
+j0 = j0 + j1;
+v2 = j0;
+i0 = (j0 == 0);
+i0 = (i0 == 0);
+if (i0) { goto l359; }
+i0 = v8;
+i1 = UINT32_C(1);
+i0 = i0 & i1;
+if (i0) { goto l221; }
+}
+l354:;
+j0 = v27;
+j1 = UINT64_C(528);
+j0 = j0 + j1;
+v16 = j0;
+j0 = UINT64_C(0);
+v5 = j0;
+j0 = v18;
+v25 = j0;
+l363:;
+j0 = v6;
+j1 = UINT64_C(80);
+j0 = j0 + j1;
+i1 = v7;
+j2 = v27;
+j3 = UINT64_C(521);
+j2 = j2 + j3;
+p237 = read_at(j2, m, 143u);
+i2 = load8(p237 + 0);
+j3 = v16;
+j4 = v27;
+j5 = UINT64_C(656);
+j4 = j4 + j5;
+j4 = load64(p237 + 135);
+j5 = v18;
+j6 = v5;
+j5 = j5 + j6;
+v10 = j5;
+j6 = v17;
+j7 = v5;
+j6 = j6 - j7;
+v3 = j6;
+j7 = v36;
+fio_form_octets_run_in(m, j0, i1, i2, j3, j4, j5, j6, j7);
+j0 = v6;
+i0 = load8(p1 + 80);
+i1 = UINT32_C(1);
+i0 = (i0 != i1);
+if (!i0) {
+j0 = v1;
+j1 = UINT64_C(79664);
+j0 = j0 + j1;
+p238 = read_at(j0, m, 8u);
+j0 = load64(p238 + 0);
+j1 = UINT64_C(2);
+i0 = (j0 < j1);
+if (!i0) {
+j0 = v6;
+j0 = load64(p1 + 88);
+v2 = j0;
+j1 = UINT64_C(18446744073709551615);
+j0 = j0 + j1;
+j1 = v3;
+i0 = (j0 >= j1);
+if (!i0) {
+j0 = v25;
+v3 = j0;
+l365:;
+j0 = v3;
+p239 = read_at(j0, m, 1u);
+i0 = load8(p239 + 0);
+v20 = i0;
+i1 = UINT32_C(48);
+i0 = (i0 < i1);
+if (i0) { goto l221; }
+i0 = v20;
+i1 = UINT32_C(58);
+i0 = (i0 < i1);
+if (!i0) {
+i0 = v20;
+i1 = UINT32_C(65);
+i0 = (i0 < i1);
+if (i0) { goto l221; }
+i0 = v20;
+i1 = UINT32_C(71);
+i0 = (i0 < i1);
+if (!i0) {
+i0 = v20;
+i1 = UINT32_C(4294967199);
+i0 = i0 + i1;
+i1 = UINT32_C(255);
+i0 = i0 & i1;
+i1 = UINT32_C(5);
+i0 = (i0 > i1);
+if (i0) { goto l221; }
+}
+}
+j0 = v3;
+j1 = UINT64_C(1);
+j0 = j0 + j1;
+v3 = j0;
+j0 = v2;
+j1 = UINT64_C(18446744073709551615);
+j0 = j0 + j1;
+v2 = j0;
+j1 = UINT64_C(0);
+i0 = (j0 != j1);
+if (i0) { goto l365; }
+}
+}
+}
+j0 = v10;
+p240 = read_at(j0, m, 1u);
+i0 = load8(p240 + 0);
+v20 = i0;
+j0 = v6;
+i1 = UINT32_C(1);
+store16(p1 + 352, i1);
+i0 = v20;
+i1 = UINT32_C(48);
+i0 = (i0 < i1);
+if (!i0) {
+i0 = v20;
+i1 = UINT32_C(58);
+i0 = (i0 < i1);
+if (!i0) {
+i0 = v20;
+i1 = UINT32_C(65);
+i0 = (i0 < i1);
+if (i0) { goto l368; }
+i0 = v20;
+i1 = UINT32_C(71);
+i0 = (i0 < i1);
+if (!i0) {
+i0 = v20;
+i1 = UINT32_C(4294967199);
+i0 = i0 + i1;
+i1 = UINT32_C(255);
+i0 = i0 & i1;
+i1 = UINT32_C(5);
+i0 = (i0 > i1);
+if (i0) { goto l368; }
+}
+}
+j0 = v5;
+j1 = UINT64_C(1);
+j0 = j0 + j1;
+v5 = j0;
+j1 = v50;
+i0 = (j0 >= j1);
+if (i0) { goto l220; }
+goto l367;
+}
+l368:;
+j0 = v6;
+i1 = v20;
+store8(p1 + 353, i1);
+j0 = v16;
+j1 = v27;
+j2 = UINT64_C(656);
+j1 = j1 + j2;
+j1 = load64(p237 + 135);
+j2 = v6;
+j3 = UINT64_C(352);
+j2 = j2 + j3;
+i0 = core_slice_reads_slice_T_contains(m, j0, j1, j2);
+v20 = i0;
+j0 = v5;
+j1 = UINT64_C(1);
+j0 = j0 + j1;
+v5 = j0;
+j1 = v50;
+i0 = (j0 >= j1);
+if (i0) { goto l220; }
+i0 = v20;
+i0 = (i0 == 0);
+if (i0) { goto l220; }
+l367:;
+j0 = v25;
+j1 = UINT64_C(1);
+j0 = j0 + j1;
+v25 = j0;
+j0 = v27;
+j1 = UINT64_C(520);
+j0 = j0 + j1;
+i0 = load8(p227 + 0);
+v7 = i0;
+goto l363;
+l221:;
+j0 = v27;
+j1 = UINT64_C(768);
+j0 = j0 + j1;
+p241 = read_at(j0, m, 1u);
+i0 = load8(p241 + 0);
+i1 = UINT32_C(1);
+i0 = (i0 != i1);
+if (i0) { goto l49; }
+l220:;
+j0 = v44;
+j1 = UINT64_C(784);
+j0 = j0 + j1;
+v44 = j0;
+j0 = v47;
+j1 = UINT64_C(784);
+j0 = j0 + j1;
+v47 = j0;
+j0 = v42;
+j1 = UINT64_C(784);
+j0 = j0 + j1;
+v42 = j0;
+j0 = v35;
+j1 = UINT64_C(1);
+j0 = j0 + j1;
+v35 = j0;
+j1 = v46;
+i0 = (j0 != j1);
+if (i0) { goto l219; }
+j0 = v1;
+p242 = read_at(j0, m, 1u);
+i0 = load8(p242 + 0);
+i1 = UINT32_C(1);
+i0 = (i0 == i1);
+if (!i0) {
+j0 = UINT64_C(0);
+v3 = j0;
+j0 = v6;
+j1 = UINT64_C(2408);
+j0 = j0 + j1;
+v40 = j0;
+goto l216;
+}
+j0 = v1;
+j1 = UINT64_C(12552);
+j0 = j0 + j1;
+p243 = read_at(j0, m, 8u);
+j0 = load64(p243 + 0);
+v3 = j0;
+l216:;
+j0 = v40;
+j1 = v3;
+j2 = v18;
+j3 = v17;
+j4 = v36;
+i0 = fio_log_quiet_held_by_text(m, j0, j1, j2, j3, j4);
+i1 = UINT32_C(255);
+i0 = i0 & i1;
+v9 = i0;
+if (i0) { goto l51; }
+j0 = v1;
+p244 = read_at(j0, m, 1u);
+i0 = load8(p244 + 0);
+i1 = UINT32_C(1);
+i0 = (i0 != i1);
+if (!i0) {
+j0 = v1;
+j1 = UINT64_C(8);
+j0 = j0 + j1;
+v35 = j0;
+j0 = v1;
+j1 = UINT64_C(12552);
+j0 = j0 + j1;
+p245 = read_at(j0, m, 8u);
+j0 = load64(p245 + 0);
+v37 = j0;
+j0 = v17;
+i0 = (j0 == 0);
+if (!i0) {
+j0 = v37;
+i0 = (j0 == 0);
+if (!i0) {
+j0 = v1;
+j1 = UINT64_C(9);
+j0 = j0 + j1;
+v44 = j0;
+j0 = UINT64_C(0);
+v40 = j0;
+l373:;
+j0 = v35;
+j1 = v40;
+j2 = UINT64_C(784);
+j1 = j1 * j2;
+j0 = j0 + j1;
+v30 = j0;
+j1 = UINT64_C(768);
+j0 = j0 + j1;
+p246 = read_at(j0, m, 1u);
+i0 = load8(p246 + 0);
+if (!i0) {
+j0 = v30;
+j1 = UINT64_C(512);
+j0 = j0 + j1;
+p247 = read_at(j0, m, 8u);
+j0 = load64(p247 + 0);
+v47 = j0;
+i0 = (j0 == 0);
+if (!i0) {
+j0 = UINT64_C(0);
+v27 = j0;
+j0 = v18;
+v3 = j0;
+j0 = v17;
+v2 = j0;
+j0 = v47;
+j1 = UINT64_C(0);
+j2 = v47;
+j3 = UINT64_C(18446744073709551612);
+j2 = j2 + j3;
+v5 = j2;
+j3 = v5;
+j4 = v47;
+i3 = (j3 > j4);
+j1 = i3 ? j1 : j2;
+v42 = j1;
+i0 = (j0 <= j1);
+if (!i0) {
+j0 = v42;
+j1 = UINT64_C(1);
+j0 = j0 << (j1 & 63);
+v12 = j0;
+j0 = v30;
+j1 = UINT64_C(664);
+j0 = j0 + j1;
+v26 = j0;
+l376:;
+j0 = v17;
+j1 = v27;
+j0 = j0 - j1;
+v10 = j0;
+j0 = v18;
+j1 = v27;
+j0 = j0 + j1;
+v16 = j0;
+j0 = UINT64_C(0);
+v3 = j0;
+j0 = v30;
+j1 = UINT64_C(512);
+j0 = j0 + j1;
+j0 = load64(p247 + 0);
+v2 = j0;
+j1 = v42;
+i0 = (j0 <= j1);
+if (!i0) {
+j0 = v30;
+j1 = UINT64_C(760);
+j0 = j0 + j1;
+p248 = read_at(j0, m, 8u);
+j0 = load64(p248 + 0);
+v4 = j0;
+j0 = v47;
+j1 = v2;
+j2 = v47;
+j3 = v2;
+i2 = (j2 < j3);
+j0 = i2 ? j0 : j1;
+j1 = v42;
+j0 = j0 - j1;
+v25 = j0;
+j0 = UINT64_C(0);
+v3 = j0;
+j0 = v44;
+v2 = j0;
+l379:;
+j0 = v6;
+j1 = UINT64_C(64);
+j0 = j0 + j1;
+j1 = v2;
+j2 = v12;
+j1 = j1 + j2;
+v5 = j1;
+j2 = UINT64_C(18446744073709551615);
+j1 = j1 + j2;
+p249 = read_at(j1, m, 2u);
+i1 = load8(p249 + 0);
+j2 = v5;
+i2 = load8(p249 + 1);
+j3 = v26;
+j4 = v4;
+j5 = v16;
+j6 = v3;
+j5 = j5 + j6;
+j6 = v10;
+j7 = v3;
+j6 = j6 - j7;
+fio_form_form_Piece_length_in(m, j0, i1, i2, j3, j4, j5, j6);
+j0 = v6;
+i0 = load8(p1 + 64);
+i1 = UINT32_C(1);
+i0 = (i0 != i1);
+if (i0) { goto l377; }
+j0 = v2;
+j1 = UINT64_C(2);
+j0 = j0 + j1;
+v2 = j0;
+j0 = v6;
+j0 = load64(p1 + 72);
+j1 = v3;
+j0 = j0 + j1;
+v3 = j0;
 j0 = v25;
 j1 = UINT64_C(18446744073709551615);
 j0 = j0 + j1;
 v25 = j0;
 j1 = UINT64_C(0);
 i0 = (j0 != j1);
-if (i0) { goto l375; }
-j0 = v13;
-j1 = UINT64_C(18446744073709551605);
-j0 = j0 + j1;
-j1 = UINT64_C(18446744073709551609);
-i0 = (j0 < j1);
-if (i0) { goto l250; }
-j0 = v6;
-i0 = (j0 == 0);
-if (i0) { goto l249; }
-i0 = UINT32_C(1);
-j1 = v34;
-p166 = read_at(j1, m, 1u);
-i1 = load8(p166 + 0);
-i0 = i0 << (i1 & 31);
-i1 = UINT32_C(86);
-i0 = i0 & i1;
-i0 = (i0 == 0);
-if (i0) { goto l250; }
-j0 = v6;
-j1 = UINT64_C(18446744073709551615);
-j0 = j0 + j1;
-v4 = j0;
-i0 = (j0 == 0);
-if (i0) { goto l249; }
-j0 = v49;
-v5 = j0;
-l377:;
-i0 = UINT32_C(1);
-j1 = v5;
-p167 = read_at(j1, m, 1u);
-i1 = load8(p167 + 0);
-i0 = i0 << (i1 & 31);
-i1 = UINT32_C(41);
-i0 = i0 & i1;
-i0 = (i0 == 0);
-if (i0) { goto l250; }
-j0 = v5;
-j1 = UINT64_C(2);
-j0 = j0 + j1;
-v5 = j0;
-j0 = v4;
-j1 = UINT64_C(18446744073709551615);
-j0 = j0 + j1;
-v4 = j0;
-i0 = (j0 == 0);
-i0 = (i0 == 0);
-if (i0) { goto l377; }
-goto l249;
-l374:;
-j0 = v13;
-j1 = UINT64_C(10);
-i0 = (j0 > j1);
-if (!i0) {
-j0 = v7;
-i1 = UINT32_C(1);
-store16(p1 + 12976, i1);
-j0 = v34;
-j1 = UINT64_C(528);
-j0 = j0 + j1;
-v6 = j0;
-j0 = UINT64_C(0);
-v11 = j0;
-i0 = UINT32_C(0);
-v10 = i0;
-l379:;
-i0 = v10;
-v31 = i0;
-j0 = v3;
-j1 = v11;
-j0 = j0 + j1;
-p168 = read_at(j0, m, 1u);
-i0 = load8(p168 + 0);
-v22 = i0;
-i1 = UINT32_C(48);
-i0 = (i0 < i1);
-if (!i0) {
-i0 = UINT32_C(1);
-v10 = i0;
-i0 = v22;
-i1 = UINT32_C(58);
-i0 = (i0 < i1);
-if (i0) { goto l380; }
-i0 = v22;
-i1 = UINT32_C(65);
-i0 = (i0 < i1);
-if (i0) { goto l381; }
-i0 = v22;
-i1 = UINT32_C(71);
-i0 = (i0 < i1);
-if (i0) { goto l380; }
-i0 = v22;
-i1 = UINT32_C(4294967199);
-i0 = i0 + i1;
-i1 = UINT32_C(255);
-i0 = i0 & i1;
-i1 = UINT32_C(6);
-i0 = (i0 < i1);
-if (i0) { goto l380; }
-goto l381;
-}
-i0 = v22;
-i1 = UINT32_C(32);
-i0 = (i0 != i1);
-if (!i0) {
-i0 = v31;
-v10 = i0;
-goto l380;
-}
-l381:;
-j0 = v7;
-i1 = v22;
-store8(p1 + 12977, i1);
-i0 = v31;
-v10 = i0;
-j0 = v6;
-j1 = v34;
-j2 = UINT64_C(656);
-j1 = j1 + j2;
-p169 = read_at(j1, m, 8u);
-j1 = load64(p169 + 0);
-j2 = v7;
-j3 = UINT64_C(12976);
-j2 = j2 + j3;
-i0 = core_slice_reads_slice_T_contains(m, j0, j1, j2);
-i0 = (i0 == 0);
-if (i0) { goto l378; }
-l380:;
-j0 = v17;
-j1 = v11;
-j2 = UINT64_C(1);
-j1 = j1 + j2;
-v11 = j1;
-i0 = (j0 != j1);
 if (i0) { goto l379; }
-i0 = v10;
-i1 = UINT32_C(1);
-i0 = i0 & i1;
-if (i0) { goto l250; }
 }
-l378:;
-j0 = v21;
-v17 = j0;
-l385:;
-j0 = v50;
-j1 = v17;
+j0 = v30;
+j1 = v16;
+j2 = v10;
+j3 = v3;
+j4 = v36;
+j5 = v38;
+i0 = fio_log_cut_has_message(m, j0, j1, j2, j3, j4, j5);
+if (i0) { goto l51; }
+l377:;
+j0 = v27;
+j1 = UINT64_C(1);
 j0 = j0 + j1;
-p170 = read_at(j0, m, 1u);
-i0 = load8(p170 + 0);
-v22 = i0;
-i1 = UINT32_C(4294967262);
-i0 = i0 + i1;
-switch (i0) {
-case 0:
-goto l384;
-case 1:
-goto l383;
-case 2:
-goto l383;
-case 3:
-goto l383;
-case 4:
-goto l383;
-case 5:
-goto l384;
-case 6:
-goto l383;
-case 7:
-goto l386;
-case 8:
-goto l383;
-case 9:
-goto l383;
-case 10:
-goto l386;
-default:
-goto l387;
-}
-l387:;
-i0 = v22;
-i1 = UINT32_C(125);
-i0 = (i0 == i1);
-if (!i0) {
-i0 = v22;
-i1 = UINT32_C(93);
-i0 = (i0 != i1);
-if (i0) { goto l383; }
-}
-l386:;
-j0 = v4;
-j1 = UINT64_C(18446744073709551615);
-j0 = j0 + j1;
-v4 = j0;
-j0 = v5;
+v27 = j0;
 j1 = v17;
-j2 = UINT64_C(18446744073709551615);
-j1 = j1 + j2;
-v17 = j1;
 i0 = (j0 != j1);
-if (i0) { goto l385; }
-goto l383;
-l384:;
-j0 = v7;
-i1 = UINT32_C(1);
-store16(p1 + 12976, i1);
-j0 = v17;
-j1 = UINT64_C(18446744073709551615);
-j0 = j0 + j1;
-j1 = v5;
-i0 = (j0 == j1);
-if (!i0) {
-j0 = v34;
-j1 = UINT64_C(528);
-j0 = j0 + j1;
-v5 = j0;
-i0 = UINT32_C(0);
-v10 = i0;
-l388:;
-i0 = v10;
-v31 = i0;
-j0 = v3;
-p171 = read_at(j0, m, 1u);
-i0 = load8(p171 + 0);
-v22 = i0;
-i1 = UINT32_C(48);
-i0 = (i0 < i1);
-if (!i0) {
-i0 = UINT32_C(1);
-v10 = i0;
-i0 = v22;
-i1 = UINT32_C(58);
-i0 = (i0 < i1);
-if (i0) { goto l389; }
-i0 = v22;
-i1 = UINT32_C(65);
-i0 = (i0 < i1);
-if (i0) { goto l390; }
-i0 = v22;
-i1 = UINT32_C(71);
-i0 = (i0 < i1);
-if (i0) { goto l389; }
-i0 = v22;
-i1 = UINT32_C(4294967199);
-i0 = i0 + i1;
-i1 = UINT32_C(255);
-i0 = i0 & i1;
-i1 = UINT32_C(6);
-i0 = (i0 < i1);
-if (i0) { goto l389; }
-goto l390;
+if (i0) { goto l376; }
+goto l374;
 }
-i0 = v22;
-i1 = UINT32_C(32);
-i0 = (i0 != i1);
-if (!i0) {
-i0 = v31;
-v10 = i0;
-goto l389;
-}
-l390:;
-j0 = v7;
-i1 = v22;
-store8(p1 + 12977, i1);
-i0 = v31;
-v10 = i0;
-j0 = v5;
-j1 = v34;
-j2 = UINT64_C(656);
-j1 = j1 + j2;
-p172 = read_at(j1, m, 8u);
-j1 = load64(p172 + 0);
-j2 = v7;
-j3 = UINT64_C(12976);
-j2 = j2 + j3;
-i0 = core_slice_reads_slice_T_contains(m, j0, j1, j2);
-i0 = (i0 == 0);
-if (i0) { goto l383; }
-l389:;
+l380:;
+j0 = v30;
+j1 = v3;
+j2 = v2;
+j3 = UINT64_C(0);
+j4 = v36;
+j5 = v38;
+i0 = fio_log_cut_has_message(m, j0, j1, j2, j3, j4, j5);
+if (i0) { goto l51; }
 j0 = v3;
 j1 = UINT64_C(1);
 j0 = j0 + j1;
 v3 = j0;
-j0 = v4;
+j0 = v2;
 j1 = UINT64_C(18446744073709551615);
 j0 = j0 + j1;
-v4 = j0;
+v2 = j0;
 i0 = (j0 == 0);
 i0 = (i0 == 0);
-if (i0) { goto l388; }
-i0 = v10;
-i1 = UINT32_C(1);
-i0 = i0 & i1;
-if (i0) { goto l250; }
-}
-l383:;
-j0 = v34;
-j1 = UINT64_C(528);
-j0 = j0 + j1;
-v6 = j0;
-j0 = UINT64_C(0);
-v3 = j0;
-j0 = v20;
-v17 = j0;
-l392:;
-j0 = v7;
-j1 = UINT64_C(144);
-j0 = j0 + j1;
-i1 = v32;
-j2 = v34;
-j3 = UINT64_C(521);
-j2 = j2 + j3;
-p173 = read_at(j2, m, 143u);
-i2 = load8(p173 + 0);
-j3 = v6;
-j4 = v34;
-j5 = UINT64_C(656);
-j4 = j4 + j5;
-j4 = load64(p173 + 135);
-j5 = v20;
-j6 = v3;
-j5 = j5 + j6;
-v11 = j5;
-j6 = v21;
-j7 = v3;
-j6 = j6 - j7;
-v5 = j6;
-j7 = v33;
-fio_form_octets_run_in(m, j0, i1, i2, j3, j4, j5, j6, j7);
-j0 = v7;
-i0 = load8(p1 + 144);
-i1 = UINT32_C(1);
-i0 = (i0 != i1);
-if (!i0) {
-j0 = v1;
-j1 = UINT64_C(317760);
-j0 = j0 + j1;
-j0 = load64(p10 + 63760);
-j1 = UINT64_C(2);
-i0 = (j0 < j1);
-if (!i0) {
-j0 = v7;
-j0 = load64(p1 + 152);
-v4 = j0;
-j1 = UINT64_C(18446744073709551615);
-j0 = j0 + j1;
-j1 = v5;
-i0 = (j0 >= j1);
-if (!i0) {
-j0 = v17;
-v5 = j0;
-l394:;
-j0 = v5;
-p174 = read_at(j0, m, 1u);
-i0 = load8(p174 + 0);
-v22 = i0;
-i1 = UINT32_C(48);
-i0 = (i0 < i1);
-if (i0) { goto l250; }
-i0 = v22;
-i1 = UINT32_C(58);
-i0 = (i0 < i1);
-if (!i0) {
-i0 = v22;
-i1 = UINT32_C(65);
-i0 = (i0 < i1);
-if (i0) { goto l250; }
-i0 = v22;
-i1 = UINT32_C(71);
-i0 = (i0 < i1);
-if (!i0) {
-i0 = v22;
-i1 = UINT32_C(4294967199);
-i0 = i0 + i1;
-i1 = UINT32_C(255);
-i0 = i0 & i1;
-i1 = UINT32_C(5);
-i0 = (i0 > i1);
-if (i0) { goto l250; }
+if (i0) { goto l380; }
 }
 }
-j0 = v5;
-j1 = UINT64_C(1);
-j0 = j0 + j1;
-v5 = j0;
-j0 = v4;
-j1 = UINT64_C(18446744073709551615);
-j0 = j0 + j1;
-v4 = j0;
-j1 = UINT64_C(0);
-i0 = (j0 != j1);
-if (i0) { goto l394; }
-}
-}
-}
-j0 = v11;
-p175 = read_at(j0, m, 1u);
-i0 = load8(p175 + 0);
-v22 = i0;
-j0 = v7;
-i1 = UINT32_C(1);
-store16(p1 + 12976, i1);
-i0 = v22;
-i1 = UINT32_C(48);
-i0 = (i0 < i1);
-if (!i0) {
-i0 = v22;
-i1 = UINT32_C(58);
-i0 = (i0 < i1);
-if (!i0) {
-i0 = v22;
-i1 = UINT32_C(65);
-i0 = (i0 < i1);
-if (i0) { goto l397; }
-i0 = v22;
-i1 = UINT32_C(71);
-i0 = (i0 < i1);
-if (!i0) {
-i0 = v22;
-i1 = UINT32_C(4294967199);
-i0 = i0 + i1;
-i1 = UINT32_C(255);
-i0 = i0 & i1;
-i1 = UINT32_C(5);
-i0 = (i0 > i1);
-if (i0) { goto l397; }
-}
-}
-j0 = v3;
-j1 = UINT64_C(1);
-j0 = j0 + j1;
-v3 = j0;
-j1 = v43;
-i0 = (j0 >= j1);
-if (i0) { goto l249; }
-goto l396;
-}
-l397:;
-j0 = v7;
-i1 = v22;
-store8(p1 + 12977, i1);
-j0 = v6;
-j1 = v34;
-j2 = UINT64_C(656);
-j1 = j1 + j2;
-j1 = load64(p173 + 135);
-j2 = v7;
-j3 = UINT64_C(12976);
-j2 = j2 + j3;
-i0 = core_slice_reads_slice_T_contains(m, j0, j1, j2);
-v22 = i0;
-j0 = v3;
-j1 = UINT64_C(1);
-j0 = j0 + j1;
-v3 = j0;
-j1 = v43;
-i0 = (j0 >= j1);
-if (i0) { goto l249; }
-i0 = v22;
-i0 = (i0 == 0);
-if (i0) { goto l249; }
-l396:;
-j0 = v17;
-j1 = UINT64_C(1);
-j0 = j0 + j1;
-v17 = j0;
-j0 = v34;
-j1 = UINT64_C(520);
-j0 = j0 + j1;
-i0 = load8(p163 + 0);
-v32 = i0;
-goto l392;
-l250:;
-j0 = v34;
-j1 = UINT64_C(768);
-j0 = j0 + j1;
-p176 = read_at(j0, m, 1u);
-i0 = load8(p176 + 0);
-i1 = UINT32_C(1);
-i0 = (i0 != i1);
-if (i0) { goto l16; }
-l249:;
-j0 = v46;
+l374:;
+j0 = v44;
 j1 = UINT64_C(784);
 j0 = j0 + j1;
-v46 = j0;
-j0 = v49;
-j1 = UINT64_C(784);
-j0 = j0 + j1;
-v49 = j0;
-j0 = v45;
-j1 = UINT64_C(784);
-j0 = j0 + j1;
-v45 = j0;
+v44 = j0;
 j0 = v40;
 j1 = UINT64_C(1);
 j0 = j0 + j1;
 v40 = j0;
-j1 = v39;
+j1 = v37;
 i0 = (j0 != j1);
-if (i0) { goto l248; }
+if (i0) { goto l373; }
 j0 = v1;
-j1 = UINT64_C(250648);
-j0 = j0 + j1;
-p177 = read_at(j0, m, 8u);
-j0 = load64(p177 + 0);
-v5 = j0;
-l246:;
-j0 = v23;
-j1 = v5;
-j2 = v20;
-j3 = v21;
-j4 = v33;
-i0 = fio_log_quiet_held_by_text(m, j0, j1, j2, j3, j4);
-i1 = UINT32_C(255);
-i0 = i0 & i1;
-v19 = i0;
-if (i0) { goto l15; }
-j0 = v1;
-j1 = UINT64_C(250648);
-j0 = j0 + j1;
-p178 = read_at(j0, m, 8u);
-j0 = load64(p178 + 0);
-v47 = j0;
-j0 = v21;
-i0 = (j0 == 0);
-v52 = i0;
-if (!i0) {
-j0 = v47;
-i0 = (j0 == 0);
-if (!i0) {
-j0 = v1;
-j1 = UINT64_C(238105);
-j0 = j0 + j1;
-v49 = j0;
-j0 = UINT64_C(0);
-v46 = j0;
-l400:;
-j0 = v23;
-j1 = v46;
-j2 = UINT64_C(784);
-j1 = j1 * j2;
-j0 = j0 + j1;
-v24 = j0;
-j1 = UINT64_C(768);
-j0 = j0 + j1;
-p179 = read_at(j0, m, 1u);
-i0 = load8(p179 + 0);
-if (!i0) {
-j0 = v24;
-j1 = UINT64_C(512);
-j0 = j0 + j1;
-p180 = read_at(j0, m, 8u);
-j0 = load64(p180 + 0);
-v45 = j0;
-i0 = (j0 == 0);
-if (!i0) {
-j0 = UINT64_C(0);
-v34 = j0;
-j0 = v20;
-v5 = j0;
-j0 = v21;
-v4 = j0;
-j0 = v45;
-j1 = UINT64_C(0);
-j2 = v45;
-j3 = UINT64_C(18446744073709551612);
-j2 = j2 + j3;
-v3 = j2;
-j3 = v3;
-j4 = v45;
-i3 = (j3 > j4);
-j1 = i3 ? j1 : j2;
-v40 = j1;
-i0 = (j0 <= j1);
-if (!i0) {
-j0 = v40;
-j1 = UINT64_C(1);
-j0 = j0 << (j1 & 63);
-v13 = j0;
-j0 = v24;
-j1 = UINT64_C(664);
-j0 = j0 + j1;
-v30 = j0;
-l403:;
-j0 = v21;
-j1 = v34;
-j0 = j0 - j1;
-v11 = j0;
-j0 = v20;
-j1 = v34;
-j0 = j0 + j1;
-v6 = j0;
-j0 = UINT64_C(0);
-v5 = j0;
-j0 = v24;
-j1 = UINT64_C(512);
-j0 = j0 + j1;
-j0 = load64(p180 + 0);
-v4 = j0;
-j1 = v40;
-i0 = (j0 <= j1);
-if (!i0) {
-j0 = v24;
-j1 = UINT64_C(760);
-j0 = j0 + j1;
-p181 = read_at(j0, m, 8u);
-j0 = load64(p181 + 0);
-v25 = j0;
-j0 = v45;
-j1 = v4;
-j2 = v45;
-j3 = v4;
-i2 = (j2 < j3);
-j0 = i2 ? j0 : j1;
-j1 = v40;
-j0 = j0 - j1;
-v17 = j0;
-j0 = UINT64_C(0);
-v5 = j0;
-j0 = v49;
-v4 = j0;
-l406:;
-j0 = v7;
-j1 = UINT64_C(128);
-j0 = j0 + j1;
-j1 = v4;
-j2 = v13;
-j1 = j1 + j2;
-v3 = j1;
-j2 = UINT64_C(18446744073709551615);
-j1 = j1 + j2;
-p182 = read_at(j1, m, 2u);
-i1 = load8(p182 + 0);
-j2 = v3;
-i2 = load8(p182 + 1);
-j3 = v30;
-j4 = v25;
-j5 = v6;
-j6 = v5;
-j5 = j5 + j6;
-j6 = v11;
-j7 = v5;
-j6 = j6 - j7;
-fio_form_form_Piece_length_in(m, j0, i1, i2, j3, j4, j5, j6);
-j0 = v7;
-i0 = load8(p1 + 128);
+i0 = load8(p244 + 0);
 i1 = UINT32_C(1);
 i0 = (i0 != i1);
-if (i0) { goto l404; }
-j0 = v4;
-j1 = UINT64_C(2);
-j0 = j0 + j1;
-v4 = j0;
-j0 = v7;
-j0 = load64(p1 + 136);
-j1 = v5;
-j0 = j0 + j1;
-v5 = j0;
-j0 = v17;
-j1 = UINT64_C(18446744073709551615);
-j0 = j0 + j1;
-v17 = j0;
-j1 = UINT64_C(0);
-i0 = (j0 != j1);
-if (i0) { goto l406; }
-}
-j0 = v24;
-j1 = v6;
-j2 = v11;
-j3 = v5;
-j4 = v33;
-j5 = v41;
-i0 = fio_log_cut_has_message(m, j0, j1, j2, j3, j4, j5);
-if (i0) { goto l15; }
-l404:;
-j0 = v34;
-j1 = UINT64_C(1);
-j0 = j0 + j1;
-v34 = j0;
-j1 = v21;
-i0 = (j0 != j1);
-if (i0) { goto l403; }
-goto l401;
-}
-l407:;
-j0 = v24;
-j1 = v5;
-j2 = v4;
-j3 = UINT64_C(0);
-j4 = v33;
-j5 = v41;
-i0 = fio_log_cut_has_message(m, j0, j1, j2, j3, j4, j5);
-if (i0) { goto l15; }
-j0 = v5;
-j1 = UINT64_C(1);
-j0 = j0 + j1;
-v5 = j0;
-j0 = v4;
-j1 = UINT64_C(18446744073709551615);
-j0 = j0 + j1;
-v4 = j0;
-i0 = (j0 == 0);
-i0 = (i0 == 0);
-if (i0) { goto l407; }
-}
-}
-l401:;
-j0 = v49;
-j1 = UINT64_C(784);
-j0 = j0 + j1;
-v49 = j0;
-j0 = v46;
-j1 = UINT64_C(1);
-j0 = j0 + j1;
-v46 = j0;
-j1 = v47;
-i0 = (j0 != j1);
-if (i0) { goto l400; }
+if (i0) { goto l371; }
 j0 = v1;
-j1 = UINT64_C(250648);
+j1 = UINT64_C(12552);
 j0 = j0 + j1;
-j0 = load64(p178 + 0);
-v47 = j0;
+j0 = load64(p245 + 0);
+v37 = j0;
 }
 }
-j0 = v47;
+j0 = v37;
 i0 = (j0 == 0);
 if (!i0) {
 j0 = v1;
-j1 = UINT64_C(238105);
+j1 = UINT64_C(9);
 j0 = j0 + j1;
-v25 = j0;
+v4 = j0;
 j0 = UINT64_C(0);
-v6 = j0;
-l409:;
-j0 = v23;
-j1 = v6;
+v16 = j0;
+l381:;
+j0 = v35;
+j1 = v16;
 j2 = UINT64_C(784);
 j1 = j1 * j2;
 j0 = j0 + j1;
-v13 = j0;
+v12 = j0;
 j1 = UINT64_C(768);
 j0 = j0 + j1;
-p183 = read_at(j0, m, 1u);
-i0 = load8(p183 + 0);
+p250 = read_at(j0, m, 1u);
+i0 = load8(p250 + 0);
 if (!i0) {
-j0 = v13;
+j0 = v12;
 j1 = UINT64_C(520);
 j0 = j0 + j1;
-p184 = read_at(j0, m, 1u);
-i0 = load8(p184 + 0);
+p251 = read_at(j0, m, 1u);
+i0 = load8(p251 + 0);
 i1 = UINT32_C(4294967286);
 i0 = i0 + i1;
 i1 = UINT32_C(255);
@@ -40100,657 +41219,661 @@ i0 = i0 & i1;
 i1 = UINT32_C(252);
 i0 = (i0 > i1);
 if (!i0) {
-j0 = v13;
+j0 = v12;
 j1 = UINT64_C(512);
 j0 = j0 + j1;
-p185 = read_at(j0, m, 8u);
-j0 = load64(p185 + 0);
-v34 = j0;
+p252 = read_at(j0, m, 8u);
+j0 = load64(p252 + 0);
+v27 = j0;
 j1 = UINT64_C(2);
 i0 = (j0 < j1);
 if (!i0) {
-j0 = v13;
+j0 = v12;
 j1 = UINT64_C(664);
 j0 = j0 + j1;
-v17 = j0;
-j0 = v13;
+v25 = j0;
+j0 = v12;
 j1 = UINT64_C(760);
 j0 = j0 + j1;
-p186 = read_at(j0, m, 8u);
-j0 = load64(p186 + 0);
-v11 = j0;
+p253 = read_at(j0, m, 8u);
+j0 = load64(p253 + 0);
+v10 = j0;
 i0 = UINT32_C(0);
-v22 = i0;
+v20 = i0;
 j0 = UINT64_C(0);
-v5 = j0;
-j0 = UINT64_C(1);
-v30 = j0;
-l412:;
-j0 = v5;
-v24 = j0;
-j0 = v25;
-v4 = j0;
-j0 = v30;
 v3 = j0;
-j0 = UINT64_C(0);
+j0 = UINT64_C(1);
+v26 = j0;
+l384:;
+j0 = v3;
+v30 = j0;
+j0 = v4;
+v2 = j0;
+j0 = v26;
 v5 = j0;
-l414:;
-j0 = v7;
-j1 = UINT64_C(112);
+j0 = UINT64_C(0);
+v3 = j0;
+l386:;
+j0 = v6;
+j1 = UINT64_C(48);
 j0 = j0 + j1;
-j1 = v4;
+j1 = v2;
 j2 = UINT64_C(18446744073709551615);
 j1 = j1 + j2;
-p187 = read_at(j1, m, 2u);
-i1 = load8(p187 + 0);
-j2 = v4;
-i2 = load8(p187 + 1);
-j3 = v17;
-j4 = v11;
-j5 = v20;
-j6 = v5;
+p254 = read_at(j1, m, 2u);
+i1 = load8(p254 + 0);
+j2 = v2;
+i2 = load8(p254 + 1);
+j3 = v25;
+j4 = v10;
+j5 = v18;
+j6 = v3;
 j5 = j5 + j6;
-j6 = v21;
-j7 = v5;
+j6 = v17;
+j7 = v3;
 j6 = j6 - j7;
 fio_form_form_Piece_length_in(m, j0, i1, i2, j3, j4, j5, j6);
-j0 = v7;
-i0 = load8(p1 + 112);
+j0 = v6;
+i0 = load8(p1 + 48);
 i1 = UINT32_C(1);
 i0 = (i0 != i1);
-if (i0) { goto l413; }
-j0 = v4;
+if (i0) { goto l385; }
+j0 = v2;
 j1 = UINT64_C(2);
 j0 = j0 + j1;
-v4 = j0;
-j0 = v7;
-j0 = load64(p1 + 120);
-j1 = v5;
-j0 = j0 + j1;
-v5 = j0;
-j0 = v3;
-j1 = UINT64_C(18446744073709551615);
+v2 = j0;
+j0 = v6;
+j0 = load64(p1 + 56);
+j1 = v3;
 j0 = j0 + j1;
 v3 = j0;
+j0 = v5;
+j1 = UINT64_C(18446744073709551615);
+j0 = j0 + j1;
+v5 = j0;
 j1 = UINT64_C(0);
 i0 = (j0 != j1);
-if (i0) { goto l414; }
-j0 = v5;
-j1 = v21;
+if (i0) { goto l386; }
+j0 = v3;
+j1 = v17;
 i0 = (j0 > j1);
 if (!i0) {
 i0 = UINT32_C(1);
-v22 = i0;
-j0 = v30;
+v20 = i0;
+j0 = v26;
 j1 = UINT64_C(1);
 j0 = j0 + j1;
-v30 = j0;
-j1 = v34;
+v26 = j0;
+j1 = v27;
 i0 = (j0 == j1);
-if (i0) { goto l411; }
-goto l412;
+if (i0) { goto l383; }
+goto l384;
 }
-l413:;
-j0 = v24;
-v5 = j0;
-i0 = v22;
+l385:;
+j0 = v30;
+v3 = j0;
+i0 = v20;
 i1 = UINT32_C(1);
 i0 = i0 & i1;
 i0 = (i0 == 0);
-if (i0) { goto l410; }
-l411:;
-j0 = v7;
+if (i0) { goto l382; }
+l383:;
+j0 = v6;
 i1 = UINT32_C(1);
-store16(p1 + 12976, i1);
-j0 = v21;
-j1 = v5;
+store16(p1 + 352, i1);
+j0 = v17;
+j1 = v3;
 i0 = (j0 == j1);
 if (!i0) {
-j0 = v21;
-j1 = v5;
+j0 = v17;
+j1 = v3;
 j0 = j0 - j1;
-v4 = j0;
-j0 = v20;
-j1 = v5;
-j0 = j0 + j1;
-v5 = j0;
-j0 = v13;
-j1 = UINT64_C(528);
+v2 = j0;
+j0 = v18;
+j1 = v3;
 j0 = j0 + j1;
 v3 = j0;
+j0 = v12;
+j1 = UINT64_C(528);
+j0 = j0 + j1;
+v5 = j0;
 i0 = UINT32_C(0);
-v9 = i0;
+v8 = i0;
 i0 = UINT32_C(0);
-v10 = i0;
-l415:;
-i0 = v9;
-v31 = i0;
-j0 = v5;
-p188 = read_at(j0, m, 1u);
-i0 = load8(p188 + 0);
-v22 = i0;
-i0 = v10;
+v28 = i0;
+l387:;
+i0 = v8;
+v7 = i0;
+j0 = v3;
+p255 = read_at(j0, m, 1u);
+i0 = load8(p255 + 0);
+v20 = i0;
+i0 = v28;
 i1 = UINT32_C(1);
 i0 = i0 & i1;
 i0 = (i0 == 0);
 if (!i0) {
-i0 = v22;
+i0 = v20;
 i1 = UINT32_C(255);
 i0 = i0 & i1;
-v9 = i0;
+v8 = i0;
 i1 = UINT32_C(95);
 i0 = (i0 == i1);
-if (i0) { goto l410; }
+if (i0) { goto l382; }
 i0 = UINT32_C(1);
-v10 = i0;
-i0 = v9;
+v28 = i0;
+i0 = v8;
 i1 = UINT32_C(48);
 i0 = (i0 >= i1);
 if (!i0) {
-i0 = v31;
-v9 = i0;
-goto l416;
+i0 = v7;
+v8 = i0;
+goto l388;
 }
-i0 = v22;
+i0 = v20;
 i1 = UINT32_C(255);
 i0 = i0 & i1;
-v9 = i0;
+v8 = i0;
 i1 = UINT32_C(58);
 i0 = (i0 < i1);
-if (i0) { goto l410; }
-i0 = v9;
+if (i0) { goto l382; }
+i0 = v8;
 i1 = UINT32_C(65);
 i0 = (i0 >= i1);
 if (!i0) {
-i0 = v31;
-v9 = i0;
-goto l416;
+i0 = v7;
+v8 = i0;
+goto l388;
 }
-i0 = v22;
+i0 = v20;
 i1 = UINT32_C(255);
 i0 = i0 & i1;
-v9 = i0;
+v8 = i0;
 i1 = UINT32_C(91);
 i0 = (i0 < i1);
-if (i0) { goto l410; }
-i0 = v9;
+if (i0) { goto l382; }
+i0 = v8;
 i1 = UINT32_C(97);
 i0 = (i0 >= i1);
-if (i0) { goto l420; }
-i0 = v31;
-v9 = i0;
-goto l416;
+if (i0) { goto l392; }
+i0 = v7;
+v8 = i0;
+goto l388;
 }
-i0 = v22;
+i0 = v20;
 i1 = UINT32_C(255);
 i0 = i0 & i1;
-v32 = i0;
+v29 = i0;
 i1 = UINT32_C(48);
 i0 = (i0 < i1);
 if (!i0) {
 i0 = UINT32_C(1);
-v9 = i0;
+v8 = i0;
 i0 = UINT32_C(0);
-v10 = i0;
-i0 = v32;
+v28 = i0;
+i0 = v29;
 i1 = UINT32_C(58);
 i0 = (i0 < i1);
-if (i0) { goto l416; }
-i0 = v22;
+if (i0) { goto l388; }
+i0 = v20;
 i1 = UINT32_C(255);
 i0 = i0 & i1;
-v32 = i0;
+v29 = i0;
 i1 = UINT32_C(65);
 i0 = (i0 < i1);
-if (i0) { goto l419; }
-i0 = v32;
+if (i0) { goto l391; }
+i0 = v29;
 i1 = UINT32_C(71);
 i0 = (i0 < i1);
-if (i0) { goto l416; }
-i0 = v22;
+if (i0) { goto l388; }
+i0 = v20;
 i1 = UINT32_C(4294967199);
 i0 = i0 + i1;
 i1 = UINT32_C(255);
 i0 = i0 & i1;
 i1 = UINT32_C(6);
 i0 = (i0 < i1);
-if (i0) { goto l416; }
-goto l419;
+if (i0) { goto l388; }
+goto l391;
 }
-i0 = v32;
+i0 = v29;
 i1 = UINT32_C(32);
 i0 = (i0 != i1);
-if (i0) { goto l419; }
-goto l418;
-l420:;
-i0 = v31;
-v9 = i0;
-i0 = v22;
+if (i0) { goto l391; }
+goto l390;
+l392:;
+i0 = v7;
+v8 = i0;
+i0 = v20;
 i0 = (uint32_t)extend(i0 & 255, 7);
 i1 = UINT32_C(122);
 i0 = (SIGNED32(i0) > SIGNED32(i1));
-if (i0) { goto l416; }
-goto l410;
-l419:;
-j0 = v7;
-i1 = v22;
-store8(p1 + 12977, i1);
-j0 = v3;
-j1 = v13;
+if (i0) { goto l388; }
+goto l382;
+l391:;
+j0 = v6;
+i1 = v20;
+store8(p1 + 353, i1);
+j0 = v5;
+j1 = v12;
 j2 = UINT64_C(656);
 j1 = j1 + j2;
-p189 = read_at(j1, m, 8u);
-j1 = load64(p189 + 0);
-j2 = v7;
-j3 = UINT64_C(12976);
+p256 = read_at(j1, m, 8u);
+j1 = load64(p256 + 0);
+j2 = v6;
+j3 = UINT64_C(352);
 j2 = j2 + j3;
 i0 = core_slice_reads_slice_T_contains(m, j0, j1, j2);
 if (!i0) {
-i0 = v22;
+i0 = v20;
 i1 = UINT32_C(255);
 i0 = i0 & i1;
-v9 = i0;
+v8 = i0;
 i1 = UINT32_C(95);
 i0 = (i0 == i1);
-if (i0) { goto l410; }
+if (i0) { goto l382; }
 i0 = UINT32_C(1);
-v10 = i0;
-i0 = v9;
+v28 = i0;
+i0 = v8;
 i1 = UINT32_C(65);
 i0 = (i0 >= i1);
-if (i0) { goto l417; }
-i0 = v31;
-v9 = i0;
-goto l416;
+if (i0) { goto l389; }
+i0 = v7;
+v8 = i0;
+goto l388;
 }
-l418:;
+l390:;
 i0 = UINT32_C(0);
-v10 = i0;
-i0 = v31;
-v9 = i0;
-goto l416;
-l417:;
-i0 = v22;
+v28 = i0;
+i0 = v7;
+v8 = i0;
+goto l388;
+l389:;
+i0 = v20;
 i1 = UINT32_C(255);
 i0 = i0 & i1;
-v9 = i0;
+v8 = i0;
 i1 = UINT32_C(91);
 i0 = (i0 < i1);
-if (i0) { goto l410; }
-i0 = v9;
+if (i0) { goto l382; }
+i0 = v8;
 i1 = UINT32_C(97);
 i0 = (i0 >= i1);
 if (!i0) {
-i0 = v31;
-v9 = i0;
-goto l416;
+i0 = v7;
+v8 = i0;
+goto l388;
 }
-i0 = v31;
-v9 = i0;
-i0 = v22;
+i0 = v7;
+v8 = i0;
+i0 = v20;
 i0 = (uint32_t)extend(i0 & 255, 7);
 i1 = UINT32_C(123);
 i0 = (SIGNED32(i0) < SIGNED32(i1));
-if (i0) { goto l410; }
-l416:;
-j0 = v5;
+if (i0) { goto l382; }
+l388:;
+j0 = v3;
 j1 = UINT64_C(1);
 j0 = j0 + j1;
-v5 = j0;
-j0 = v4;
+v3 = j0;
+j0 = v2;
 j1 = UINT64_C(18446744073709551615);
 j0 = j0 + j1;
-v4 = j0;
+v2 = j0;
 i0 = (j0 == 0);
 i0 = (i0 == 0);
-if (i0) { goto l415; }
-i0 = v9;
+if (i0) { goto l387; }
+i0 = v8;
 i1 = UINT32_C(1);
 i0 = i0 & i1;
-if (i0) { goto l15; }
+if (i0) { goto l51; }
 }
 }
 }
 }
-l410:;
-j0 = v25;
+l382:;
+j0 = v4;
 j1 = UINT64_C(784);
 j0 = j0 + j1;
-v25 = j0;
-j0 = v6;
+v4 = j0;
+j0 = v16;
 j1 = UINT64_C(1);
 j0 = j0 + j1;
-v6 = j0;
-j1 = v47;
+v16 = j0;
+j1 = v37;
 i0 = (j0 != j1);
-if (i0) { goto l409; }
+if (i0) { goto l381; }
 }
+}
+l371:;
 j0 = v1;
-j1 = UINT64_C(253984);
+j1 = UINT64_C(15888);
 j0 = j0 + j1;
-p190 = read_at(j0, m, 8u);
-j0 = load64(p190 + 0);
-v24 = j0;
+p257 = read_at(j0, m, 8u);
+j0 = load64(p257 + 0);
+v30 = j0;
 i0 = (j0 == 0);
 if (!i0) {
-j0 = v24;
+j0 = v30;
 j1 = UINT64_C(3);
 j0 = j0 & j1;
-v3 = j0;
+v5 = j0;
 j0 = UINT64_C(0);
-v4 = j0;
+v2 = j0;
 j0 = UINT64_C(0);
-v17 = j0;
-j0 = v24;
+v25 = j0;
+j0 = v30;
 j1 = UINT64_C(4);
 i0 = (j0 < j1);
 if (!i0) {
 j0 = v1;
-j1 = UINT64_C(251416);
+j1 = UINT64_C(13320);
 j0 = j0 + j1;
-v5 = j0;
-j0 = v24;
+v3 = j0;
+j0 = v30;
 j1 = UINT64_C(18446744073709551612);
 j0 = j0 & j1;
-v30 = j0;
+v26 = j0;
 j0 = UINT64_C(0);
-v4 = j0;
+v2 = j0;
 j0 = UINT64_C(0);
-v17 = j0;
-p191 = read_at(v5 + UINT64_C(18446744073709550992), m, run(632u, 832u, turns(v30, v17, 4u)));
+v25 = j0;
+p258 = read_at(v3 + UINT64_C(18446744073709550992), m, run(632u, 832u, turns(v26, v25, 4u)));
 for (;;) {
 j0 = UINT64_C(18446744073709551615);
-j1 = v5;
-j1 = load64(p191 + 624);
-v11 = j1;
+j1 = v3;
+j1 = load64(p258 + 624);
+v10 = j1;
 j2 = UINT64_C(18446744073709551615);
-j3 = v5;
+j3 = v3;
 j4 = UINT64_C(18446744073709551408);
 j3 = j3 + j4;
-j3 = load64(p191 + 416);
-v6 = j3;
+j3 = load64(p258 + 416);
+v16 = j3;
 j4 = UINT64_C(18446744073709551615);
-j5 = v5;
+j5 = v3;
 j6 = UINT64_C(18446744073709551200);
 j5 = j5 + j6;
-j5 = load64(p191 + 208);
-v25 = j5;
+j5 = load64(p258 + 208);
+v4 = j5;
 j6 = UINT64_C(18446744073709551615);
-j7 = v5;
+j7 = v3;
 j8 = UINT64_C(18446744073709550992);
 j7 = j7 + j8;
-j7 = load64(p191 + 0);
-v13 = j7;
-j8 = v4;
+j7 = load64(p258 + 0);
+v12 = j7;
+j8 = v2;
 j7 = j7 + j8;
-v4 = j7;
-j8 = v4;
-j9 = v13;
+v2 = j7;
+j8 = v2;
+j9 = v12;
 i8 = (j8 < j9);
 j6 = i8 ? j6 : j7;
 j5 = j5 + j6;
-v4 = j5;
-j6 = v4;
-j7 = v25;
+v2 = j5;
+j6 = v2;
+j7 = v4;
 i6 = (j6 < j7);
 j4 = i6 ? j4 : j5;
 j3 = j3 + j4;
-v4 = j3;
-j4 = v4;
-j5 = v6;
+v2 = j3;
+j4 = v2;
+j5 = v16;
 i4 = (j4 < j5);
 j2 = i4 ? j2 : j3;
 j1 = j1 + j2;
-v4 = j1;
-j2 = v4;
-j3 = v11;
+v2 = j1;
+j2 = v2;
+j3 = v10;
 i2 = (j2 < j3);
 j0 = i2 ? j0 : j1;
-v4 = j0;
-j0 = v5;
+v2 = j0;
+j0 = v3;
 j1 = UINT64_C(832);
 j0 = j0 + j1;
-v5 = j0;
-j0 = v30;
-j1 = v17;
+v3 = j0;
+j0 = v26;
+j1 = v25;
 j2 = UINT64_C(4);
 j1 = j1 + j2;
-v17 = j1;
+v25 = j1;
 i0 = (j0 != j1);
 if (!i0) break;
-p191 += 832;
+p258 += 832;
 }
-j0 = v3;
+j0 = v5;
 i0 = (j0 == 0);
-if (i0) { goto l427; }
+if (i0) { goto l399; }
 }
-j0 = v17;
+j0 = v25;
 j1 = UINT64_C(208);
 j0 = j0 * j1;
 j1 = v1;
 j0 = j0 + j1;
-j1 = UINT64_C(250792);
-j0 = j0 + j1;
-v5 = j0;
-p192 = read_at(v5 + UINT64_C(0), m, run(8u, 208u, turns(v3, UINT64_C(0), 1u)));
-for (;;) {
-j0 = UINT64_C(18446744073709551615);
-j1 = v5;
-j1 = load64(p192 + 0);
-v17 = j1;
-j2 = v4;
-j1 = j1 + j2;
-v4 = j1;
-j2 = v4;
-j3 = v17;
-i2 = (j2 < j3);
-j0 = i2 ? j0 : j1;
-v4 = j0;
-j0 = v5;
-j1 = UINT64_C(208);
-j0 = j0 + j1;
-v5 = j0;
-j0 = v3;
-j1 = UINT64_C(18446744073709551615);
+j1 = UINT64_C(12696);
 j0 = j0 + j1;
 v3 = j0;
+p259 = read_at(v3 + UINT64_C(0), m, run(8u, 208u, turns(v5, UINT64_C(0), 1u)));
+for (;;) {
+j0 = UINT64_C(18446744073709551615);
+j1 = v3;
+j1 = load64(p259 + 0);
+v25 = j1;
+j2 = v2;
+j1 = j1 + j2;
+v2 = j1;
+j2 = v2;
+j3 = v25;
+i2 = (j2 < j3);
+j0 = i2 ? j0 : j1;
+v2 = j0;
+j0 = v3;
+j1 = UINT64_C(208);
+j0 = j0 + j1;
+v3 = j0;
+j0 = v5;
+j1 = UINT64_C(18446744073709551615);
+j0 = j0 + j1;
+v5 = j0;
 j1 = UINT64_C(0);
 i0 = (j0 != j1);
 if (!i0) break;
-p192 += 208;
+p259 += 208;
 }
-l427:;
-j0 = v4;
+l399:;
+j0 = v2;
 j1 = UINT64_C(4);
 j0 = j0 >> (j1 & 63);
 j1 = v1;
-j2 = UINT64_C(253992);
+j2 = UINT64_C(15896);
 j1 = j1 + j2;
-p193 = read_at(j1, m, 8u);
-j1 = load64(p193 + 0);
+p260 = read_at(j1, m, 8u);
+j1 = load64(p260 + 0);
 i0 = (j0 < j1);
 if (!i0) {
 j0 = v1;
-j1 = UINT64_C(250656);
+j1 = UINT64_C(12560);
 j0 = j0 + j1;
-v41 = j0;
+v38 = j0;
 j0 = v1;
-j1 = UINT64_C(250808);
+j1 = UINT64_C(12712);
 j0 = j0 + j1;
-v11 = j0;
-j0 = v20;
+v10 = j0;
+j0 = v18;
 j1 = UINT64_C(18446744073709551615);
 j0 = j0 + j1;
-v34 = j0;
+v27 = j0;
 j0 = v1;
-j1 = UINT64_C(250832);
+j1 = UINT64_C(12736);
 j0 = j0 + j1;
-v3 = j0;
+v5 = j0;
 j0 = UINT64_C(0);
-v13 = j0;
-l431:;
-j0 = v41;
-j1 = v13;
+v12 = j0;
+l403:;
+j0 = v38;
+j1 = v12;
 j2 = UINT64_C(208);
 j1 = j1 * j2;
 j0 = j0 + j1;
-v30 = j0;
+v26 = j0;
 j1 = UINT64_C(200);
 j0 = j0 + j1;
-p194 = read_at(j0, m, 1u);
-i0 = load8(p194 + 0);
+p261 = read_at(j0, m, 1u);
+i0 = load8(p261 + 0);
 i1 = UINT32_C(8);
 i0 = (i0 < i1);
 if (!i0) {
-j0 = v30;
+j0 = v26;
 j1 = UINT64_C(192);
 j0 = j0 + j1;
-p195 = read_at(j0, m, 8u);
-j0 = load64(p195 + 0);
-v4 = j0;
+p262 = read_at(j0, m, 8u);
+j0 = load64(p262 + 0);
+v2 = j0;
 i0 = (j0 == 0);
 if (!i0) {
 j0 = UINT64_C(0);
-v5 = j0;
+v3 = j0;
 i0 = UINT32_C(0);
-v22 = i0;
-l433:;
-i0 = v22;
+v20 = i0;
+l405:;
+i0 = v20;
 i1 = UINT32_C(1);
 i0 = i0 & i1;
 i0 = (i0 == 0);
 if (!i0) {
 i0 = UINT32_C(1);
-v22 = i0;
-goto l434;
+v20 = i0;
+goto l406;
 }
 i0 = UINT32_C(0);
-v22 = i0;
-j0 = v3;
-j1 = v5;
+v20 = i0;
+j0 = v5;
+j1 = v3;
 j0 = j0 + j1;
-p196 = read_at(j0, m, 1u);
-i0 = load8(p196 + 0);
-v9 = i0;
+p263 = read_at(j0, m, 1u);
+i0 = load8(p263 + 0);
+v8 = i0;
 i1 = UINT32_C(4294967264);
 i0 = i0 + i1;
 switch (i0) {
 case 0:
-goto l434;
+goto l406;
 case 1:
-goto l437;
+goto l409;
 case 2:
-goto l437;
+goto l409;
 case 3:
-goto l434;
+goto l406;
 default:
-goto l438;
+goto l410;
 }
-l438:;
-i0 = v9;
+l410:;
+i0 = v8;
 i1 = UINT32_C(95);
 i0 = (i0 == i1);
-if (i0) { goto l436; }
-l437:;
-i0 = v9;
+if (i0) { goto l408; }
+l409:;
+i0 = v8;
 i1 = UINT32_C(48);
 i0 = (i0 >= i1);
 if (!i0) {
 i0 = UINT32_C(1);
-v22 = i0;
-goto l434;
+v20 = i0;
+goto l406;
 }
-i0 = v9;
+i0 = v8;
 i1 = UINT32_C(58);
 i0 = (i0 < i1);
 if (!i0) {
-i0 = v9;
+i0 = v8;
 i1 = UINT32_C(65);
 i0 = (i0 >= i1);
 if (!i0) {
 i0 = UINT32_C(1);
-v22 = i0;
-goto l434;
+v20 = i0;
+goto l406;
 }
-i0 = v9;
+i0 = v8;
 i1 = UINT32_C(91);
 i0 = (i0 < i1);
 if (!i0) {
-i0 = v9;
+i0 = v8;
 i1 = UINT32_C(97);
 i0 = (i0 >= i1);
 if (!i0) {
 i0 = UINT32_C(1);
-v22 = i0;
-goto l434;
+v20 = i0;
+goto l406;
 }
 i0 = UINT32_C(1);
-v22 = i0;
-i0 = v9;
+v20 = i0;
+i0 = v8;
 i0 = (uint32_t)extend(i0 & 255, 7);
 i1 = UINT32_C(122);
 i0 = (SIGNED32(i0) > SIGNED32(i1));
-if (i0) { goto l434; }
+if (i0) { goto l406; }
 }
 }
-l436:;
+l408:;
 i0 = UINT32_C(0);
-v22 = i0;
-l434:;
-j0 = v4;
-j1 = v5;
+v20 = i0;
+l406:;
+j0 = v2;
+j1 = v3;
 j2 = UINT64_C(1);
 j1 = j1 + j2;
-v5 = j1;
+v3 = j1;
 i0 = (j0 != j1);
-if (i0) { goto l433; }
-i0 = v22;
+if (i0) { goto l405; }
+i0 = v20;
 i0 = (i0 == 0);
 if (!i0) {
 j0 = UINT64_C(0);
-v5 = j0;
-j0 = v7;
+v3 = j0;
+j0 = v6;
 j1 = UINT64_C(0);
-store64(p1 + 12992, j1);
-j0 = v7;
+store64(p1 + 368, j1);
+j0 = v6;
 j1 = UINT64_C(0);
-store64(p1 + 12984, j1);
-j0 = v7;
+store64(p1 + 360, j1);
+j0 = v6;
 j1 = UINT64_C(0);
-store64(p1 + 12976, j1);
-i0 = v52;
+store64(p1 + 352, j1);
+j0 = v17;
+i0 = (j0 == 0);
+v8 = i0;
 if (!i0) {
-j0 = v20;
-v17 = j0;
-j0 = v21;
-v6 = j0;
-l444:;
-j0 = v5;
+j0 = v18;
+v25 = j0;
+j0 = v17;
+v16 = j0;
+l416:;
+j0 = v3;
 j1 = UINT64_C(16);
 i0 = (j0 != j1);
 if (!i0) {
-j0 = v7;
-j1 = v7;
-j1 = load64(p1 + 12992);
-store64(p1 + 392, j1);
-j0 = v7;
-j1 = v7;
-j1 = load64(p1 + 12984);
-store64(p1 + 384, j1);
-j0 = v7;
-j1 = v7;
-j1 = load64(p1 + 12976);
-store64(p1 + 376, j1);
-goto l442;
+j0 = v6;
+j1 = v6;
+j1 = load64(p1 + 368);
+store64(p1 + 288, j1);
+j0 = v6;
+j1 = v6;
+j1 = load64(p1 + 360);
+store64(p1 + 280, j1);
+j0 = v6;
+j1 = v6;
+j1 = load64(p1 + 352);
+store64(p1 + 272, j1);
+goto l414;
 }
-j0 = v17;
-p197 = read_at(j0, m, 1u);
-i0 = load8(p197 + 0);
-v22 = i0;
+j0 = v25;
+p264 = read_at(j0, m, 1u);
+i0 = load8(p264 + 0);
+v20 = i0;
 i1 = UINT32_C(35);
 i0 = (i0 == i1);
 if (!i0) {
-i0 = v22;
+i0 = v20;
 i1 = UINT32_C(4294967248);
 i0 = i0 + i1;
 i1 = UINT32_C(255);
@@ -40758,121 +41881,121 @@ i0 = i0 & i1;
 i1 = UINT32_C(10);
 i0 = (i0 < i1);
 if (!i0) {
-j0 = v7;
-j1 = UINT64_C(12976);
+j0 = v6;
+j1 = UINT64_C(352);
 j0 = j0 + j1;
-j1 = v5;
+j1 = v3;
 j0 = j0 + j1;
-i1 = v22;
-p198 = write_at(j0, m, 1u);
-store8(p198 + 0, i1);
-j0 = v5;
+i1 = v20;
+p265 = write_at(j0, m, 1u);
+store8(p265 + 0, i1);
+j0 = v3;
 j1 = UINT64_C(1);
 j0 = j0 + j1;
-v5 = j0;
-goto l447;
+v3 = j0;
+goto l419;
 }
 }
-j0 = v7;
-j1 = UINT64_C(12976);
+j0 = v6;
+j1 = UINT64_C(352);
 j0 = j0 + j1;
-j1 = v5;
+j1 = v3;
+j0 = j0 + j1;
+v4 = j0;
+j0 = v3;
+i0 = (j0 == 0);
+if (!i0) {
+j0 = v4;
+j1 = UINT64_C(18446744073709551615);
+j0 = j0 + j1;
+p266 = read_at(j0, m, 1u);
+i0 = load8(p266 + 0);
+i1 = UINT32_C(35);
+i0 = (i0 == i1);
+if (i0) { goto l418; }
+}
+j0 = v4;
+i1 = UINT32_C(35);
+p267 = write_at(j0, m, 1u);
+store8(p267 + 0, i1);
+j0 = v3;
+j1 = UINT64_C(1);
+j0 = j0 + j1;
+v3 = j0;
+l419:;
+j0 = v6;
+j1 = v3;
+store64(p1 + 368, j1);
+l418:;
+j0 = v25;
+j1 = UINT64_C(1);
 j0 = j0 + j1;
 v25 = j0;
-j0 = v5;
-i0 = (j0 == 0);
-if (!i0) {
-j0 = v25;
+j0 = v16;
 j1 = UINT64_C(18446744073709551615);
 j0 = j0 + j1;
-p199 = read_at(j0, m, 1u);
-i0 = load8(p199 + 0);
-i1 = UINT32_C(35);
-i0 = (i0 == i1);
-if (i0) { goto l446; }
-}
-j0 = v25;
-i1 = UINT32_C(35);
-p200 = write_at(j0, m, 1u);
-store8(p200 + 0, i1);
-j0 = v5;
-j1 = UINT64_C(1);
-j0 = j0 + j1;
-v5 = j0;
-l447:;
-j0 = v7;
-j1 = v5;
-store64(p1 + 12992, j1);
-l446:;
-j0 = v17;
-j1 = UINT64_C(1);
-j0 = j0 + j1;
-v17 = j0;
-j0 = v6;
-j1 = UINT64_C(18446744073709551615);
-j0 = j0 + j1;
-v6 = j0;
+v16 = j0;
 j1 = UINT64_C(0);
 i0 = (j0 != j1);
-if (i0) { goto l444; }
+if (i0) { goto l416; }
 }
-j0 = v7;
-j1 = v7;
-j1 = load64(p1 + 12992);
-store64(p1 + 392, j1);
-j0 = v7;
-j1 = v7;
-j1 = load64(p1 + 12984);
-store64(p1 + 384, j1);
-j0 = v7;
-j1 = v7;
-j1 = load64(p1 + 12976);
-store64(p1 + 376, j1);
-l442:;
+j0 = v6;
+j1 = v6;
+j1 = load64(p1 + 368);
+store64(p1 + 288, j1);
+j0 = v6;
+j1 = v6;
+j1 = load64(p1 + 360);
+store64(p1 + 280, j1);
+j0 = v6;
+j1 = v6;
+j1 = load64(p1 + 352);
+store64(p1 + 272, j1);
+l414:;
 j0 = UINT64_C(0);
-v5 = j0;
-j0 = v7;
+v3 = j0;
+j0 = v6;
 j1 = UINT64_C(0);
-store64(p1 + 12992, j1);
-j0 = v7;
+store64(p1 + 368, j1);
+j0 = v6;
 j1 = UINT64_C(0);
-store64(p1 + 12984, j1);
-j0 = v7;
+store64(p1 + 360, j1);
+j0 = v6;
 j1 = UINT64_C(0);
-store64(p1 + 12976, j1);
-i0 = v52;
+store64(p1 + 352, j1);
+i0 = v8;
 if (!i0) {
-j0 = v21;
-v17 = j0;
-l452:;
-j0 = v5;
+j0 = v17;
+v25 = j0;
+l424:;
+j0 = v3;
 j1 = UINT64_C(16);
 i0 = (j0 != j1);
 if (!i0) {
-j0 = v7;
-j1 = v7;
-j1 = load64(p1 + 12992);
-store64(p1 + 368, j1);
-j0 = v7;
-j1 = v7;
-j1 = load64(p1 + 12984);
-store64(p1 + 360, j1);
-j0 = v7;
-j1 = v7;
-j1 = load64(p1 + 12976);
-store64(p1 + 352, j1);
-goto l450;
+j0 = v6;
+j1 = v6;
+j1 = load64(p1 + 368);
+store64(p1 + 264, j1);
+j0 = v6;
+j1 = v6;
+j1 = load64(p1 + 360);
+store64(p1 + 256, j1);
+j0 = v6;
+j1 = v6;
+j1 = load64(p1 + 352);
+store64(p1 + 248, j1);
+goto l422;
 }
-j0 = v34;
-j1 = v17;
+j0 = v27;
+j1 = v25;
 j0 = j0 + j1;
-p201 = read_at(j0, m, 1u);
-i0 = load8(p201 + 0);
-v22 = i0;
+p268 = read_at(j0, m, 1u);
+i0 = load8(p268 + 0);
+v20 = i0;
 i1 = UINT32_C(35);
 i0 = (i0 == i1);
 if (!i0) {
-i0 = v22;
+i0 = v20;
 i1 = UINT32_C(4294967248);
 i0 = i0 + i1;
 i1 = UINT32_C(255);
@@ -40880,369 +42003,369 @@ i0 = i0 & i1;
 i1 = UINT32_C(10);
 i0 = (i0 < i1);
 if (!i0) {
-j0 = v7;
-j1 = UINT64_C(12976);
+j0 = v6;
+j1 = UINT64_C(352);
 j0 = j0 + j1;
-j1 = v5;
+j1 = v3;
 j0 = j0 + j1;
-i1 = v22;
-p202 = write_at(j0, m, 1u);
-store8(p202 + 0, i1);
-j0 = v5;
+i1 = v20;
+p269 = write_at(j0, m, 1u);
+store8(p269 + 0, i1);
+j0 = v3;
 j1 = UINT64_C(1);
 j0 = j0 + j1;
-v5 = j0;
-goto l455;
+v3 = j0;
+goto l427;
 }
 }
-j0 = v7;
-j1 = UINT64_C(12976);
+j0 = v6;
+j1 = UINT64_C(352);
 j0 = j0 + j1;
-j1 = v5;
+j1 = v3;
 j0 = j0 + j1;
-v6 = j0;
-j0 = v5;
+v16 = j0;
+j0 = v3;
 i0 = (j0 == 0);
 if (!i0) {
-j0 = v6;
+j0 = v16;
 j1 = UINT64_C(18446744073709551615);
 j0 = j0 + j1;
-p203 = read_at(j0, m, 1u);
-i0 = load8(p203 + 0);
+p270 = read_at(j0, m, 1u);
+i0 = load8(p270 + 0);
 i1 = UINT32_C(35);
 i0 = (i0 == i1);
-if (i0) { goto l454; }
+if (i0) { goto l426; }
 }
-j0 = v6;
+j0 = v16;
 i1 = UINT32_C(35);
-p204 = write_at(j0, m, 1u);
-store8(p204 + 0, i1);
-j0 = v5;
+p271 = write_at(j0, m, 1u);
+store8(p271 + 0, i1);
+j0 = v3;
 j1 = UINT64_C(1);
 j0 = j0 + j1;
-v5 = j0;
-l455:;
-j0 = v7;
-j1 = v5;
-store64(p1 + 12992, j1);
-l454:;
-j0 = v17;
+v3 = j0;
+l427:;
+j0 = v6;
+j1 = v3;
+store64(p1 + 368, j1);
+l426:;
+j0 = v25;
 j1 = UINT64_C(18446744073709551615);
 j0 = j0 + j1;
-v17 = j0;
+v25 = j0;
 j1 = UINT64_C(0);
 i0 = (j0 != j1);
-if (i0) { goto l452; }
+if (i0) { goto l424; }
 }
-j0 = v7;
-j1 = v7;
-j1 = load64(p1 + 12992);
-store64(p1 + 368, j1);
-j0 = v7;
-j1 = v7;
-j1 = load64(p1 + 12984);
-store64(p1 + 360, j1);
-j0 = v7;
-j1 = v7;
-j1 = load64(p1 + 12976);
-store64(p1 + 352, j1);
-l450:;
-j0 = v7;
-j1 = v7;
-j1 = load64(p1 + 376);
-store64(p1 + 424, j1);
-j0 = v7;
-j1 = v7;
-j1 = load64(p1 + 384);
-store64(p1 + 432, j1);
-j0 = v7;
-j1 = v7;
-j1 = load64(p1 + 392);
-v6 = j1;
-store64(p1 + 440, j1);
-j0 = v7;
-j1 = v7;
-j1 = load64(p1 + 352);
-store64(p1 + 400, j1);
-j0 = v7;
-j1 = v7;
-j1 = load64(p1 + 360);
-store64(p1 + 408, j1);
-j0 = v7;
-j1 = v7;
+j0 = v6;
+j1 = v6;
 j1 = load64(p1 + 368);
-store64(p1 + 416, j1);
+store64(p1 + 264, j1);
+j0 = v6;
+j1 = v6;
+j1 = load64(p1 + 360);
+store64(p1 + 256, j1);
+j0 = v6;
+j1 = v6;
+j1 = load64(p1 + 352);
+store64(p1 + 248, j1);
+l422:;
+j0 = v6;
+j1 = v6;
+j1 = load64(p1 + 272);
+store64(p1 + 320, j1);
+j0 = v6;
+j1 = v6;
+j1 = load64(p1 + 280);
+store64(p1 + 328, j1);
+j0 = v6;
+j1 = v6;
+j1 = load64(p1 + 288);
+v16 = j1;
+store64(p1 + 336, j1);
+j0 = v6;
+j1 = v6;
+j1 = load64(p1 + 248);
+store64(p1 + 296, j1);
+j0 = v6;
+j1 = v6;
+j1 = load64(p1 + 256);
+store64(p1 + 304, j1);
+j0 = v6;
+j1 = v6;
+j1 = load64(p1 + 264);
+store64(p1 + 312, j1);
 j0 = UINT64_C(0);
-v5 = j0;
+v3 = j0;
 j0 = UINT64_C(0);
-v17 = j0;
-j0 = v30;
+v25 = j0;
+j0 = v26;
 j1 = UINT64_C(168);
 j0 = j0 + j1;
-p205 = read_at(j0, m, 8u);
-j0 = load64(p205 + 0);
-v25 = j0;
+p272 = read_at(j0, m, 8u);
+j0 = load64(p272 + 0);
+v4 = j0;
 i0 = (j0 == 0);
-v22 = i0;
+v20 = i0;
 if (!i0) {
 j0 = UINT64_C(0);
-v17 = j0;
-l459:;
-j0 = v6;
-j1 = v17;
-i0 = (j0 != j1);
-if (!i0) {
-j0 = v6;
-v17 = j0;
-goto l458;
-}
-j0 = v11;
-j1 = v17;
-j0 = j0 + j1;
-p206 = read_at(j0, m, 1u);
-i0 = load8(p206 + 0);
-j1 = v7;
-j2 = UINT64_C(424);
-j1 = j1 + j2;
-j2 = v17;
-j1 = j1 + j2;
-p207 = read_at(j1, m, 1u);
-i1 = load8(p207 + 0);
-i0 = (i0 != i1);
-if (i0) { goto l458; }
-j0 = v25;
-j1 = v17;
-j2 = UINT64_C(1);
-j1 = j1 + j2;
-v17 = j1;
-i0 = (j0 != j1);
-if (i0) { goto l459; }
-j0 = v25;
-v17 = j0;
-}
-l458:;
-j0 = v17;
+v25 = j0;
+l431:;
+j0 = v16;
 j1 = v25;
 i0 = (j0 != j1);
-j1 = v17;
-j2 = v6;
+if (!i0) {
+j0 = v16;
+v25 = j0;
+goto l430;
+}
+j0 = v10;
+j1 = v25;
+j0 = j0 + j1;
+p273 = read_at(j0, m, 1u);
+i0 = load8(p273 + 0);
+j1 = v6;
+j2 = UINT64_C(320);
+j1 = j1 + j2;
+j2 = v25;
+j1 = j1 + j2;
+p274 = read_at(j1, m, 1u);
+i1 = load8(p274 + 0);
+i0 = (i0 != i1);
+if (i0) { goto l430; }
+j0 = v4;
+j1 = v25;
+j2 = UINT64_C(1);
+j1 = j1 + j2;
+v25 = j1;
+i0 = (j0 != j1);
+if (i0) { goto l431; }
+j0 = v4;
+v25 = j0;
+}
+l430:;
+j0 = v25;
+j1 = v4;
+i0 = (j0 != j1);
+j1 = v25;
+j2 = v16;
 i1 = (j1 != j2);
 i0 = i0 & i1;
-v9 = i0;
-j0 = v7;
-j0 = load64(p1 + 416);
-v17 = j0;
-l462:;
-j0 = v17;
-j1 = v5;
+v8 = i0;
+j0 = v6;
+j0 = load64(p1 + 312);
+v25 = j0;
+l434:;
+j0 = v25;
+j1 = v3;
 i0 = (j0 != j1);
 if (!i0) {
-j0 = v17;
-v5 = j0;
-goto l461;
+j0 = v25;
+v3 = j0;
+goto l433;
 }
-j0 = v3;
-j1 = v5;
+j0 = v5;
+j1 = v3;
 j0 = j0 + j1;
-p208 = read_at(j0, m, 1u);
-i0 = load8(p208 + 0);
-j1 = v7;
-j2 = UINT64_C(400);
+p275 = read_at(j0, m, 1u);
+i0 = load8(p275 + 0);
+j1 = v6;
+j2 = UINT64_C(296);
 j1 = j1 + j2;
-j2 = v5;
+j2 = v3;
 j1 = j1 + j2;
-p209 = read_at(j1, m, 1u);
-i1 = load8(p209 + 0);
+p276 = read_at(j1, m, 1u);
+i1 = load8(p276 + 0);
 i0 = (i0 != i1);
-if (i0) { goto l461; }
-j0 = v4;
-j1 = v5;
+if (i0) { goto l433; }
+j0 = v2;
+j1 = v3;
 j2 = UINT64_C(1);
 j1 = j1 + j2;
-v5 = j1;
+v3 = j1;
 i0 = (j0 != j1);
-if (i0) { goto l462; }
-j0 = v4;
-v5 = j0;
-l461:;
-j0 = v5;
-j1 = v4;
+if (i0) { goto l434; }
+j0 = v2;
+v3 = j0;
+l433:;
+j0 = v3;
+j1 = v2;
 i0 = (j0 == j1);
-j1 = v5;
-j2 = v17;
+j1 = v3;
+j2 = v25;
 i1 = (j1 == j2);
 i0 = i0 | i1;
-v10 = i0;
+v28 = i0;
 j0 = UINT64_C(0);
-v5 = j0;
-l465:;
-j0 = v17;
-j1 = v5;
+v3 = j0;
+l437:;
+j0 = v25;
+j1 = v3;
 i0 = (j0 != j1);
 if (!i0) {
-j0 = v17;
-v5 = j0;
-goto l464;
+j0 = v25;
+v3 = j0;
+goto l436;
 }
-j0 = v3;
-j1 = v5;
+j0 = v5;
+j1 = v3;
 j0 = j0 + j1;
-p210 = read_at(j0, m, 1u);
-i0 = load8(p210 + 0);
-j1 = v7;
-j2 = UINT64_C(400);
+p277 = read_at(j0, m, 1u);
+i0 = load8(p277 + 0);
+j1 = v6;
+j2 = UINT64_C(296);
 j1 = j1 + j2;
-j2 = v5;
+j2 = v3;
 j1 = j1 + j2;
-p211 = read_at(j1, m, 1u);
-i1 = load8(p211 + 0);
+p278 = read_at(j1, m, 1u);
+i1 = load8(p278 + 0);
 i0 = (i0 != i1);
-if (i0) { goto l464; }
-j0 = v4;
-j1 = v5;
+if (i0) { goto l436; }
+j0 = v2;
+j1 = v3;
 j2 = UINT64_C(1);
 j1 = j1 + j2;
-v5 = j1;
+v3 = j1;
 i0 = (j0 != j1);
-if (i0) { goto l465; }
-j0 = v4;
-v5 = j0;
-l464:;
-i0 = v22;
+if (i0) { goto l437; }
+j0 = v2;
+v3 = j0;
+l436:;
+i0 = v20;
 if (!i0) {
 j0 = UINT64_C(0);
-v4 = j0;
-l469:;
-j0 = v6;
-j1 = v4;
+v2 = j0;
+l441:;
+j0 = v16;
+j1 = v2;
 i0 = (j0 != j1);
 if (!i0) {
-j0 = v6;
-v4 = j0;
-goto l468;
+j0 = v16;
+v2 = j0;
+goto l440;
 }
-j0 = v11;
-j1 = v4;
+j0 = v10;
+j1 = v2;
 j0 = j0 + j1;
-p212 = read_at(j0, m, 1u);
-i0 = load8(p212 + 0);
-j1 = v7;
-j2 = UINT64_C(424);
+p279 = read_at(j0, m, 1u);
+i0 = load8(p279 + 0);
+j1 = v6;
+j2 = UINT64_C(320);
 j1 = j1 + j2;
-j2 = v4;
+j2 = v2;
 j1 = j1 + j2;
-p213 = read_at(j1, m, 1u);
-i1 = load8(p213 + 0);
+p280 = read_at(j1, m, 1u);
+i1 = load8(p280 + 0);
 i0 = (i0 != i1);
-if (i0) { goto l468; }
-j0 = v25;
-j1 = v4;
+if (i0) { goto l440; }
+j0 = v4;
+j1 = v2;
 j2 = UINT64_C(1);
 j1 = j1 + j2;
-v4 = j1;
+v2 = j1;
 i0 = (j0 != j1);
-if (i0) { goto l469; }
-j0 = v25;
-v4 = j0;
-l468:;
-i0 = v9;
-i1 = v10;
-j2 = v6;
-j3 = v4;
-j4 = v6;
-j5 = v4;
+if (i0) { goto l441; }
+j0 = v4;
+v2 = j0;
+l440:;
+i0 = v8;
+i1 = v28;
+j2 = v16;
+j3 = v2;
+j4 = v16;
+j5 = v2;
 i4 = (j4 < j5);
 j2 = i4 ? j2 : j3;
-v4 = j2;
+v2 = j2;
 i2 = (j2 == 0);
 i1 = i1 | i2;
 i0 = i0 | i1;
 if (!i0) {
-j0 = v4;
+j0 = v2;
 j1 = UINT64_C(18446744073709551615);
 j0 = j0 + j1;
-v4 = j0;
+v2 = j0;
 j0 = UINT64_C(0);
-v25 = j0;
+v4 = j0;
 i0 = UINT32_C(0);
-v22 = i0;
-j0 = v7;
-j1 = UINT64_C(424);
+v20 = i0;
+j0 = v6;
+j1 = UINT64_C(320);
 j0 = j0 + j1;
-v6 = j0;
-l472:;
-i0 = v22;
+v16 = j0;
+l444:;
+i0 = v20;
 i1 = UINT32_C(1);
 i0 = i0 & i1;
 if (!i0) {
-j0 = v6;
-p214 = read_at(j0, m, 1u);
-i0 = load8(p214 + 0);
-v22 = i0;
-j0 = v4;
+j0 = v16;
+p281 = read_at(j0, m, 1u);
+i0 = load8(p281 + 0);
+v20 = i0;
+j0 = v2;
 i0 = (j0 == 0);
-if (i0) { goto l471; }
-i0 = v22;
+if (i0) { goto l443; }
+i0 = v20;
 i1 = UINT32_C(35);
 i0 = (i0 != i1);
-i1 = v22;
+i1 = v20;
 i2 = UINT32_C(32);
 i1 = (i1 != i2);
 i0 = i0 & i1;
-v22 = i0;
-j0 = v25;
-j1 = UINT64_C(1);
-j0 = j0 + j1;
-v25 = j0;
-goto l473;
-}
+v20 = i0;
 j0 = v4;
-i0 = (j0 == 0);
-if (i0) { goto l15; }
-j0 = v25;
 j1 = UINT64_C(1);
-j0 = j0 + j1;
-v25 = j0;
-i0 = UINT32_C(1);
-v22 = i0;
-l473:;
-j0 = v6;
-j1 = UINT64_C(1);
-j0 = j0 + j1;
-v6 = j0;
-j0 = v4;
-j1 = UINT64_C(18446744073709551615);
 j0 = j0 + j1;
 v4 = j0;
-goto l472;
-l471:;
-i0 = v22;
+goto l445;
+}
+j0 = v2;
+i0 = (j0 == 0);
+if (i0) { goto l51; }
+j0 = v4;
+j1 = UINT64_C(1);
+j0 = j0 + j1;
+v4 = j0;
+i0 = UINT32_C(1);
+v20 = i0;
+l445:;
+j0 = v16;
+j1 = UINT64_C(1);
+j0 = j0 + j1;
+v16 = j0;
+j0 = v2;
+j1 = UINT64_C(18446744073709551615);
+j0 = j0 + j1;
+v2 = j0;
+goto l444;
+l443:;
+i0 = v20;
 i1 = UINT32_C(4294967264);
 i0 = i0 + i1;
 switch (i0) {
 case 0:
-goto l467;
+goto l439;
 case 1:
-goto l15;
+goto l51;
 case 2:
-goto l15;
+goto l51;
 case 3:
-goto l467;
+goto l439;
 default:
-goto l15;
+goto l51;
 }
 }
 }
-l467:;
-i0 = v10;
-i1 = v9;
-j2 = v17;
-j3 = v5;
-j4 = v17;
-j5 = v5;
+l439:;
+i0 = v28;
+i1 = v8;
+j2 = v25;
+j3 = v3;
+j4 = v25;
+j5 = v3;
 i4 = (j4 < j5);
 j2 = i4 ? j2 : j3;
-v4 = j2;
+v2 = j2;
 j3 = UINT64_C(0);
 i2 = (j2 != j3);
 i1 = i1 & i2;
@@ -41251,165 +42374,166 @@ i1 = UINT32_C(1);
 i0 = (i0 != i1);
 if (!i0) {
 i0 = UINT32_C(0);
-v22 = i0;
-j0 = v7;
-j1 = UINT64_C(400);
+v20 = i0;
+j0 = v6;
+j1 = UINT64_C(296);
 j0 = j0 + j1;
-v5 = j0;
-l475:;
-i0 = v22;
+v3 = j0;
+l447:;
+i0 = v20;
 i1 = UINT32_C(1);
 i0 = i0 & i1;
 i0 = (i0 == 0);
 if (!i0) {
 i0 = UINT32_C(1);
-v22 = i0;
-goto l476;
+v20 = i0;
+goto l448;
 }
 i0 = UINT32_C(0);
-v22 = i0;
-j0 = v5;
-p215 = read_at(j0, m, 1u);
-i0 = load8(p215 + 0);
-v9 = i0;
+v20 = i0;
+j0 = v3;
+p282 = read_at(j0, m, 1u);
+i0 = load8(p282 + 0);
+v8 = i0;
 i1 = UINT32_C(4294967264);
 i0 = i0 + i1;
 switch (i0) {
 case 0:
-goto l476;
+goto l448;
 case 1:
-goto l479;
+goto l451;
 case 2:
-goto l479;
+goto l451;
 case 3:
-goto l476;
+goto l448;
 default:
-goto l480;
+goto l452;
 }
-l480:;
-i0 = v9;
+l452:;
+i0 = v8;
 i1 = UINT32_C(95);
 i0 = (i0 == i1);
-if (i0) { goto l478; }
-l479:;
-i0 = v9;
+if (i0) { goto l450; }
+l451:;
+i0 = v8;
 i1 = UINT32_C(48);
 i0 = (i0 >= i1);
 if (!i0) {
 i0 = UINT32_C(1);
-v22 = i0;
-goto l476;
+v20 = i0;
+goto l448;
 }
-i0 = v9;
+i0 = v8;
 i1 = UINT32_C(58);
 i0 = (i0 < i1);
 if (!i0) {
-i0 = v9;
+i0 = v8;
 i1 = UINT32_C(65);
 i0 = (i0 >= i1);
 if (!i0) {
 i0 = UINT32_C(1);
-v22 = i0;
-goto l476;
+v20 = i0;
+goto l448;
 }
-i0 = v9;
+i0 = v8;
 i1 = UINT32_C(91);
 i0 = (i0 < i1);
 if (!i0) {
-i0 = v9;
+i0 = v8;
 i1 = UINT32_C(97);
 i0 = (i0 >= i1);
 if (!i0) {
 i0 = UINT32_C(1);
-v22 = i0;
-goto l476;
+v20 = i0;
+goto l448;
 }
 i0 = UINT32_C(1);
-v22 = i0;
-i0 = v9;
+v20 = i0;
+i0 = v8;
 i0 = (uint32_t)extend(i0 & 255, 7);
 i1 = UINT32_C(122);
 i0 = (SIGNED32(i0) > SIGNED32(i1));
-if (i0) { goto l476; }
+if (i0) { goto l448; }
 }
 }
-l478:;
+l450:;
 i0 = UINT32_C(0);
-v22 = i0;
-l476:;
-j0 = v5;
-j1 = UINT64_C(1);
-j0 = j0 + j1;
-v5 = j0;
-j0 = v4;
-j1 = UINT64_C(18446744073709551615);
-j0 = j0 + j1;
-v4 = j0;
-i0 = (j0 == 0);
-i0 = (i0 == 0);
-if (i0) { goto l475; }
-i0 = v22;
-if (i0) { goto l15; }
-}
-}
-}
-}
-j0 = v11;
-j1 = UINT64_C(208);
-j0 = j0 + j1;
-v11 = j0;
+v20 = i0;
+l448:;
 j0 = v3;
-j1 = UINT64_C(208);
+j1 = UINT64_C(1);
 j0 = j0 + j1;
 v3 = j0;
-j0 = v13;
+j0 = v2;
+j1 = UINT64_C(18446744073709551615);
+j0 = j0 + j1;
+v2 = j0;
+i0 = (j0 == 0);
+i0 = (i0 == 0);
+if (i0) { goto l447; }
+i0 = v20;
+if (i0) { goto l51; }
+}
+}
+}
+}
+j0 = v10;
+j1 = UINT64_C(208);
+j0 = j0 + j1;
+v10 = j0;
+j0 = v5;
+j1 = UINT64_C(208);
+j0 = j0 + j1;
+v5 = j0;
+j0 = v12;
 j1 = UINT64_C(1);
 j0 = j0 + j1;
-v13 = j0;
-j1 = v24;
+v12 = j0;
+j1 = v30;
 i0 = (j0 != j1);
-if (i0) { goto l431; }
+if (i0) { goto l403; }
 }
 }
 i0 = UINT32_C(0);
-v10 = i0;
+v28 = i0;
 j0 = v1;
-j1 = UINT64_C(323928);
+j1 = UINT64_C(85832);
 j0 = j0 + j1;
 i1 = UINT32_C(0);
-store8(p10 + 69928, i1);
-j0 = v20;
-j1 = v21;
+p283 = write_at(j0, m, 1u);
+store8(p283 + 0, i1);
+j0 = v18;
+j1 = v17;
 i0 = fio_log_wordings_is_heading(m, j0, j1);
 i0 = (i0 == 0);
 if (!i0) {
 i0 = UINT32_C(8);
-v9 = i0;
-goto l484;
+v8 = i0;
+goto l456;
 }
 j0 = UINT64_C(0);
-v25 = j0;
-l486:;
-j0 = UINT64_C(0);
-v5 = j0;
-j0 = v21;
-j1 = v25;
-j0 = j0 - j1;
 v4 = j0;
+l458:;
+j0 = UINT64_C(0);
+v3 = j0;
+j0 = v17;
+j1 = v4;
+j0 = j0 - j1;
+v2 = j0;
 i0 = (j0 == 0);
 if (!i0) {
-j0 = v20;
-j1 = v25;
+j0 = v18;
+j1 = v4;
 j0 = j0 + j1;
-v11 = j0;
+v10 = j0;
 j0 = UINT64_C(0);
-v5 = j0;
-l489:;
-j0 = v11;
-j1 = v5;
+v3 = j0;
+l461:;
+j0 = v10;
+j1 = v3;
 j0 = j0 + j1;
-p216 = read_at(j0, m, 1u);
-i0 = load8(p216 + 0);
+p284 = read_at(j0, m, 1u);
+i0 = load8(p284 + 0);
 i1 = UINT32_C(223);
 i0 = i0 & i1;
 i1 = UINT32_C(4294967231);
@@ -41418,58 +42542,58 @@ i1 = UINT32_C(255);
 i0 = i0 & i1;
 i1 = UINT32_C(25);
 i0 = (i0 > i1);
-if (i0) { goto l488; }
-j0 = v4;
-j1 = v5;
+if (i0) { goto l460; }
+j0 = v2;
+j1 = v3;
 j2 = UINT64_C(1);
 j1 = j1 + j2;
-v5 = j1;
+v3 = j1;
 i0 = (j0 != j1);
-if (i0) { goto l489; }
-j0 = v4;
-v5 = j0;
-l488:;
-j0 = v5;
+if (i0) { goto l461; }
+j0 = v2;
+v3 = j0;
+l460:;
+j0 = v3;
 i0 = (j0 == 0);
 i0 = (i0 == 0);
 if (!i0) {
 j0 = UINT64_C(0);
-v5 = j0;
-goto l487;
+v3 = j0;
+goto l459;
 }
 j0 = UINT64_C(0);
-v6 = j0;
-l491:;
-j0 = v6;
+v16 = j0;
+l463:;
+j0 = v16;
 j1 = UINT64_C(4);
 j0 = j0 << (j1 & 63);
-v4 = j0;
-j1 = UINT64_C(67128);
+v2 = j0;
+j1 = UINT64_C(1050168);
 j0 = j0 + j1;
-p217 = read_at(j0, m, 8u);
-j0 = load64(p217 + 0);
-j1 = v5;
+p285 = read_at(j0, m, 8u);
+j0 = load64(p285 + 0);
+j1 = v3;
 i0 = (j0 != j1);
 if (!i0) {
-j0 = v4;
-j1 = UINT64_C(67120);
+j0 = v2;
+j1 = UINT64_C(1050160);
 j0 = j0 + j1;
-p218 = read_at(j0, m, 8u);
-j0 = load64(p218 + 0);
-v4 = j0;
-j0 = v11;
-v3 = j0;
-j0 = v5;
-v17 = j0;
-l493:;
-j0 = v4;
-p219 = read_at(j0, m, 1u);
-i0 = load8(p219 + 0);
-v22 = i0;
+p286 = read_at(j0, m, 8u);
+j0 = load64(p286 + 0);
+v2 = j0;
+j0 = v10;
+v5 = j0;
+j0 = v3;
+v25 = j0;
+l465:;
+j0 = v2;
+p287 = read_at(j0, m, 1u);
+i0 = load8(p287 + 0);
+v20 = i0;
 i1 = UINT32_C(32);
 i0 = i0 + i1;
-i1 = v22;
-i2 = v22;
+i1 = v20;
+i2 = v20;
 i3 = UINT32_C(4294967231);
 i2 = i2 + i3;
 i3 = UINT32_C(255);
@@ -41479,14 +42603,14 @@ i2 = (i2 < i3);
 i0 = i2 ? i0 : i1;
 i1 = UINT32_C(255);
 i0 = i0 & i1;
-j1 = v3;
-p220 = read_at(j1, m, 1u);
-i1 = load8(p220 + 0);
-v22 = i1;
+j1 = v5;
+p288 = read_at(j1, m, 1u);
+i1 = load8(p288 + 0);
+v20 = i1;
 i2 = UINT32_C(32);
 i1 = i1 + i2;
-i2 = v22;
-i3 = v22;
+i2 = v20;
+i3 = v20;
 i4 = UINT32_C(4294967231);
 i3 = i3 + i4;
 i4 = UINT32_C(255);
@@ -41497,455 +42621,459 @@ i1 = i3 ? i1 : i2;
 i2 = UINT32_C(255);
 i1 = i1 & i2;
 i0 = (i0 != i1);
-if (i0) { goto l492; }
+if (i0) { goto l464; }
+j0 = v2;
+j1 = UINT64_C(1);
+j0 = j0 + j1;
+v2 = j0;
+j0 = v5;
+j1 = UINT64_C(1);
+j0 = j0 + j1;
+v5 = j0;
+j0 = v25;
+j1 = UINT64_C(18446744073709551615);
+j0 = j0 + j1;
+v25 = j0;
+i0 = (j0 == 0);
+i0 = (i0 == 0);
+if (i0) { goto l465; }
+i0 = UINT32_C(7);
+v8 = i0;
+goto l456;
+}
+l464:;
+j0 = v16;
+j1 = UINT64_C(1);
+j0 = j0 + j1;
+v16 = j0;
+j1 = UINT64_C(15);
+i0 = (j0 != j1);
+if (i0) { goto l463; }
+}
+l459:;
 j0 = v4;
+j1 = v3;
+j0 = j0 + j1;
 j1 = UINT64_C(1);
 j0 = j0 + j1;
 v4 = j0;
+j1 = v17;
+i0 = (j0 <= j1);
+if (i0) { goto l458; }
+i0 = UINT32_C(1);
+v8 = i0;
+i0 = UINT32_C(1);
+v28 = i0;
+l456:;
+j0 = v1;
+j1 = UINT64_C(15896);
+j0 = j0 + j1;
+v3 = j0;
+j1 = UINT64_C(18446744073709551615);
+j2 = v3;
+p289 = write_at(j2, m, 59546u);
+j2 = load64(p289 + 0);
+j3 = UINT64_C(1);
+j2 = j2 + j3;
+v3 = j2;
+j3 = v3;
+i3 = (j3 == 0);
+j1 = i3 ? j1 : j2;
+store64(p289 + 0, j1);
+j0 = v6;
+j1 = UINT64_C(0);
+store64(p1 + 368, j1);
+j0 = v6;
+j1 = UINT64_C(0);
+store64(p1 + 360, j1);
+j0 = v6;
+j1 = UINT64_C(0);
+store64(p1 + 352, j1);
+j0 = v6;
+j1 = UINT64_C(352);
+j0 = j0 + j1;
+j1 = v18;
+j2 = v17;
+j3 = v17;
+fio_log_heading_Heading_of(m, j0, j1, j2, j3);
+j0 = v1;
+j1 = UINT64_C(75424);
+j0 = j0 + j1;
+j1 = v6;
+j1 = load8(p1 + 352);
+store64(p289 + 59528, j1);
+j0 = v1;
+j1 = UINT64_C(75432);
+j0 = j0 + j1;
+j1 = v6;
+j1 = load64(p1 + 360);
+store64(p289 + 59536, j1);
+j0 = v1;
+j1 = UINT64_C(75440);
+j0 = j0 + j1;
+j1 = v6;
+i1 = load8(p1 + 368);
+v7 = i1;
+store8(p289 + 59544, i1);
+j0 = v1;
+j1 = UINT64_C(75441);
+j0 = j0 + j1;
+j1 = v6;
+i1 = load8(p1 + 369);
+store8(p289 + 59545, i1);
+i0 = v28;
+if (!i0) {
+j0 = v1;
+j1 = UINT64_C(75448);
+j0 = j0 + j1;
+j1 = UINT64_C(0);
+p290 = write_at(j0, m, 8u);
+store64(p290 + 0, j1);
+i0 = UINT32_C(0);
+v20 = i0;
+goto l466;
+}
+j0 = v1;
+j1 = UINT64_C(75448);
+j0 = j0 + j1;
+j1 = v18;
+j2 = v17;
+j1 = fio_log_shapes_sum_of(m, j1, j2);
+p291 = write_at(j0, m, 8u);
+store64(p291 + 0, j1);
+i0 = UINT32_C(1);
+v20 = i0;
+i0 = v7;
+i1 = UINT32_C(255);
+i0 = i0 & i1;
+i1 = UINT32_C(1);
+i0 = (i0 == i1);
+if (!i0) {
+i0 = UINT32_C(0);
+v20 = i0;
+goto l466;
+}
+j0 = v17;
+i0 = (j0 == 0);
+if (!i0) {
+j0 = UINT64_C(0);
+v3 = j0;
+l469:;
+i0 = UINT32_C(0);
+v9 = i0;
+j0 = v18;
+j1 = v3;
+j0 = j0 + j1;
+v4 = j0;
+p292 = read_at(j0, m, 1u);
+i0 = load8(p292 + 0);
+v20 = i0;
+i1 = UINT32_C(45);
+i0 = (i0 != i1);
+if (!i0) {
+i0 = UINT32_C(1);
+v7 = i0;
+goto l473;
+}
+i0 = UINT32_C(3);
+v7 = i0;
+i0 = v20;
+i1 = UINT32_C(60);
+i0 = (i0 < i1);
+if (!i0) {
+i0 = v20;
+i1 = UINT32_C(63);
+i0 = (i0 >= i1);
+if (!i0) {
+i0 = UINT32_C(1);
+v7 = i0;
+goto l473;
+}
+i0 = v20;
+i1 = UINT32_C(65);
+i0 = (i0 < i1);
+if (!i0) {
+i0 = UINT32_C(1);
+v9 = i0;
+i0 = v20;
+i1 = UINT32_C(91);
+i0 = (i0 >= i1);
+if (!i0) {
+i0 = UINT32_C(0);
+v7 = i0;
+goto l473;
+}
+i0 = v20;
+i1 = UINT32_C(97);
+i0 = (i0 >= i1);
+if (!i0) {
+i0 = UINT32_C(0);
+v9 = i0;
+goto l473;
+}
+i0 = v20;
+i1 = UINT32_C(123);
+i0 = (i0 >= i1);
+if (!i0) {
+i0 = UINT32_C(0);
+v7 = i0;
+goto l473;
+}
+i0 = UINT32_C(0);
+v9 = i0;
+i0 = v20;
+i0 = (uint32_t)extend(i0 & 255, 7);
+i1 = UINT32_C(0);
+i0 = (SIGNED32(i0) < SIGNED32(i1));
+if (i0) { goto l472; }
+}
+}
+l473:;
 j0 = v3;
 j1 = UINT64_C(1);
 j0 = j0 + j1;
-v3 = j0;
-j0 = v17;
-j1 = UINT64_C(18446744073709551615);
-j0 = j0 + j1;
-v17 = j0;
-i0 = (j0 == 0);
-i0 = (i0 == 0);
-if (i0) { goto l493; }
-i0 = UINT32_C(7);
-v9 = i0;
-goto l484;
-}
-l492:;
-j0 = v6;
-j1 = UINT64_C(1);
-j0 = j0 + j1;
-v6 = j0;
-j1 = UINT64_C(15);
-i0 = (j0 != j1);
-if (i0) { goto l491; }
-}
-l487:;
-j0 = v25;
-j1 = v5;
-j0 = j0 + j1;
-j1 = UINT64_C(1);
-j0 = j0 + j1;
 v25 = j0;
-j1 = v21;
-i0 = (j0 <= j1);
-if (i0) { goto l486; }
-i0 = UINT32_C(1);
-v9 = i0;
-i0 = UINT32_C(1);
-v10 = i0;
-l484:;
-j0 = v1;
-j1 = UINT64_C(253992);
-j0 = j0 + j1;
-v5 = j0;
-j1 = UINT64_C(18446744073709551615);
-j2 = v5;
-p221 = write_at(j2, m, 8u);
-j2 = load64(p221 + 0);
-j3 = UINT64_C(1);
-j2 = j2 + j3;
-v5 = j2;
-j3 = v5;
-i3 = (j3 == 0);
-j1 = i3 ? j1 : j2;
-store64(p221 + 0, j1);
-j0 = v7;
-j1 = UINT64_C(0);
-store64(p1 + 12992, j1);
-j0 = v7;
-j1 = UINT64_C(0);
-store64(p1 + 12984, j1);
-j0 = v7;
-j1 = UINT64_C(0);
-store64(p1 + 12976, j1);
-j0 = v7;
-j1 = UINT64_C(12976);
-j0 = j0 + j1;
-j1 = v20;
-j2 = v21;
-j3 = v21;
-fio_log_heading_Heading_of(m, j0, j1, j2, j3);
-j0 = v1;
-j1 = UINT64_C(313520);
-j0 = j0 + j1;
-j1 = v7;
-j1 = load8(p1 + 12976);
-store64(p10 + 59520, j1);
-j0 = v1;
-j1 = UINT64_C(313528);
-j0 = j0 + j1;
-j1 = v7;
-j1 = load64(p1 + 12984);
-store64(p10 + 59528, j1);
-j0 = v1;
-j1 = UINT64_C(313536);
-j0 = j0 + j1;
-j1 = v7;
-i1 = load8(p1 + 12992);
-v22 = i1;
-store8(p10 + 59536, i1);
-j0 = v1;
-j1 = UINT64_C(313537);
-j0 = j0 + j1;
-j1 = v7;
-i1 = load8(p1 + 12993);
-store8(p10 + 59537, i1);
-i0 = v10;
-if (!i0) {
-j0 = v1;
-j1 = UINT64_C(313544);
-j0 = j0 + j1;
-j1 = UINT64_C(0);
-store64(p10 + 59544, j1);
-i0 = UINT32_C(0);
-v22 = i0;
-goto l494;
-}
-j0 = v1;
-j1 = UINT64_C(313544);
-j0 = j0 + j1;
-j1 = v20;
-j2 = v21;
-j1 = fio_log_shapes_sum_of(m, j1, j2);
-store64(p10 + 59544, j1);
-i0 = v22;
-i1 = UINT32_C(255);
-i0 = i0 & i1;
-v10 = i0;
-i1 = UINT32_C(1);
-i0 = (i0 == i1);
-v22 = i0;
-i0 = v52;
-if (!i0) {
-i0 = v10;
-i1 = UINT32_C(1);
-i0 = (i0 != i1);
-if (!i0) {
-j0 = UINT64_C(0);
-v5 = j0;
-l496:;
-i0 = UINT32_C(0);
-v32 = i0;
-j0 = v20;
-j1 = v5;
-j0 = j0 + j1;
-v25 = j0;
-p222 = read_at(j0, m, 1u);
-i0 = load8(p222 + 0);
-v22 = i0;
-i1 = UINT32_C(45);
-i0 = (i0 != i1);
-if (!i0) {
-i0 = UINT32_C(1);
-v31 = i0;
-goto l500;
-}
-i0 = UINT32_C(3);
-v31 = i0;
-i0 = v22;
-i1 = UINT32_C(60);
-i0 = (i0 < i1);
-if (!i0) {
-i0 = v22;
-i1 = UINT32_C(63);
-i0 = (i0 >= i1);
-if (!i0) {
-i0 = UINT32_C(1);
-v31 = i0;
-goto l500;
-}
-i0 = v22;
-i1 = UINT32_C(65);
-i0 = (i0 < i1);
-if (!i0) {
-i0 = UINT32_C(1);
-v32 = i0;
-i0 = v22;
-i1 = UINT32_C(91);
-i0 = (i0 >= i1);
-if (!i0) {
-i0 = UINT32_C(0);
-v31 = i0;
-goto l500;
-}
-i0 = v22;
-i1 = UINT32_C(97);
-i0 = (i0 >= i1);
-if (!i0) {
-i0 = UINT32_C(0);
-v32 = i0;
-goto l500;
-}
-i0 = v22;
-i1 = UINT32_C(123);
-i0 = (i0 >= i1);
-if (!i0) {
-i0 = UINT32_C(0);
-v31 = i0;
-goto l500;
-}
-i0 = UINT32_C(0);
-v32 = i0;
-i0 = v22;
-i0 = (uint32_t)extend(i0 & 255, 7);
-i1 = UINT32_C(0);
-i0 = (SIGNED32(i0) < SIGNED32(i1));
-if (i0) { goto l499; }
-}
-}
-l500:;
-j0 = v5;
-j1 = UINT64_C(1);
-j0 = j0 + j1;
-v17 = j0;
-j1 = v21;
+j1 = v17;
 i0 = (j0 >= j1);
-if (i0) { goto l497; }
-l506:;
+if (i0) { goto l470; }
+l479:;
 i0 = UINT32_C(1);
-v22 = i0;
-j0 = v20;
-j1 = v17;
+v20 = i0;
+j0 = v18;
+j1 = v25;
 j0 = j0 + j1;
-p223 = read_at(j0, m, 1u);
-i0 = load8(p223 + 0);
-v10 = i0;
+p293 = read_at(j0, m, 1u);
+i0 = load8(p293 + 0);
+v28 = i0;
 i1 = UINT32_C(45);
 i0 = (i0 == i1);
 if (!i0) {
-i0 = v10;
+i0 = v28;
 i1 = UINT32_C(60);
 i0 = (i0 >= i1);
 if (!i0) {
 i0 = UINT32_C(3);
-v22 = i0;
-goto l507;
+v20 = i0;
+goto l480;
 }
-i0 = v10;
+i0 = v28;
 i1 = UINT32_C(63);
 i0 = (i0 < i1);
 if (!i0) {
-i0 = v10;
+i0 = v28;
 i1 = UINT32_C(65);
 i0 = (i0 >= i1);
 if (!i0) {
 i0 = UINT32_C(3);
-v22 = i0;
-goto l507;
+v20 = i0;
+goto l480;
 }
 i0 = UINT32_C(0);
-v22 = i0;
-i0 = v10;
+v20 = i0;
+i0 = v28;
 i1 = UINT32_C(91);
 i0 = (i0 < i1);
 if (!i0) {
-i0 = v10;
+i0 = v28;
 i1 = UINT32_C(97);
 i0 = (i0 >= i1);
 if (!i0) {
 i0 = UINT32_C(3);
-v22 = i0;
-goto l507;
+v20 = i0;
+goto l480;
 }
-i0 = v10;
+i0 = v28;
 i1 = UINT32_C(123);
 i0 = (i0 < i1);
 if (!i0) {
 i0 = UINT32_C(3);
-v22 = i0;
-i0 = v10;
+v20 = i0;
+i0 = v28;
 i0 = (uint32_t)extend(i0 & 255, 7);
 i1 = UINT32_C(0);
 i0 = (SIGNED32(i0) < SIGNED32(i1));
-if (i0) { goto l497; }
+if (i0) { goto l470; }
 }
 }
 }
 }
-l507:;
-i0 = v22;
-i1 = v31;
+l480:;
+i0 = v20;
+i1 = v7;
 i0 = (i0 != i1);
-if (i0) { goto l497; }
-j0 = v21;
-j1 = v17;
+if (i0) { goto l470; }
+j0 = v17;
+j1 = v25;
 j2 = UINT64_C(1);
 j1 = j1 + j2;
-v17 = j1;
+v25 = j1;
 i0 = (j0 != j1);
-if (i0) { goto l506; }
-goto l498;
-l499:;
+if (i0) { goto l479; }
+goto l471;
+l472:;
 j0 = UINT64_C(1);
-v4 = j0;
+v2 = j0;
 i0 = UINT32_C(0);
-v32 = i0;
+v9 = i0;
 i0 = UINT32_C(2);
-v31 = i0;
-j0 = v5;
+v7 = i0;
+j0 = v3;
 j1 = UINT64_C(1);
 j0 = j0 + j1;
-v17 = j0;
-j1 = v21;
-i0 = (j0 >= j1);
-if (i0) { goto l497; }
-l511:;
-j0 = v20;
+v25 = j0;
 j1 = v17;
+i0 = (j0 >= j1);
+if (i0) { goto l470; }
+l484:;
+j0 = v18;
+j1 = v25;
 j0 = j0 + j1;
-v3 = j0;
-p224 = read_at(j0, m, 1u);
-i0 = (uint32_t)extend(load8(p224 + 0), 7);
+v5 = j0;
+p294 = read_at(j0, m, 1u);
+i0 = (uint32_t)extend(load8(p294 + 0), 7);
 i1 = UINT32_C(4294967295);
 i0 = (SIGNED32(i0) > SIGNED32(i1));
-if (i0) { goto l497; }
-j0 = v4;
+if (i0) { goto l470; }
+j0 = v2;
 j1 = UINT64_C(3);
 i0 = (j0 < j1);
 if (!i0) {
-j0 = v3;
+j0 = v5;
 j1 = UINT64_C(18446744073709551615);
 j0 = j0 + j1;
-p225 = read_at(j0, m, 1u);
-i0 = load8(p225 + 0);
+p295 = read_at(j0, m, 1u);
+i0 = load8(p295 + 0);
 i1 = UINT32_C(4294967152);
 i0 = i0 + i1;
 switch (i0) {
 case 0:
-goto l513;
+goto l486;
 case 1:
-goto l512;
+goto l485;
 case 2:
-goto l513;
+goto l486;
 default:
-goto l512;
+goto l485;
 }
-l513:;
-j0 = v3;
+l486:;
+j0 = v5;
 j1 = UINT64_C(18446744073709551614);
 j0 = j0 + j1;
-p226 = read_at(j0, m, 1u);
-i0 = load8(p226 + 0);
+p296 = read_at(j0, m, 1u);
+i0 = load8(p296 + 0);
 i1 = UINT32_C(134);
 i0 = (i0 != i1);
 if (!i0) {
-j0 = v3;
+j0 = v5;
 j1 = UINT64_C(18446744073709551613);
 j0 = j0 + j1;
-p227 = read_at(j0, m, 1u);
-i0 = load8(p227 + 0);
+p297 = read_at(j0, m, 1u);
+i0 = load8(p297 + 0);
 i1 = UINT32_C(226);
 i0 = (i0 == i1);
-if (i0) { goto l497; }
+if (i0) { goto l470; }
 }
 }
-l512:;
-j0 = v4;
+l485:;
+j0 = v2;
 j1 = UINT64_C(1);
 j0 = j0 + j1;
-v4 = j0;
-j0 = v21;
-j1 = v17;
+v2 = j0;
+j0 = v17;
+j1 = v25;
 j2 = UINT64_C(1);
 j1 = j1 + j2;
-v17 = j1;
+v25 = j1;
 i0 = (j0 != j1);
-if (i0) { goto l511; }
-l498:;
-j0 = v21;
-v17 = j0;
-l497:;
-j0 = v5;
+if (i0) { goto l484; }
+l471:;
+j0 = v17;
+v25 = j0;
+l470:;
+j0 = v3;
 j1 = UINT64_C(0);
 i0 = (j0 != j1);
 if (!i0) {
-j0 = v7;
-j1 = UINT64_C(88);
+j0 = v6;
+j1 = UINT64_C(24);
 j0 = j0 + j1;
-i1 = v31;
-j2 = v20;
-j3 = v17;
+i1 = v7;
+j2 = v18;
+j3 = v25;
 fio_log_sides_said_by(m, j0, i1, j2, j3);
 i0 = UINT32_C(1);
-v22 = i0;
-j0 = v7;
-i0 = load8(p1 + 88);
+v20 = i0;
+j0 = v6;
+i0 = load8(p1 + 24);
 i1 = UINT32_C(1);
 i0 = (i0 == i1);
-if (i0) { goto l494; }
+if (i0) { goto l466; }
 }
-i0 = v32;
+i0 = v9;
 i0 = (i0 == 0);
 if (!i0) {
-j0 = v5;
-j1 = v17;
+j0 = v3;
+j1 = v25;
 j0 = j0 - j1;
-v13 = j0;
-j0 = v17;
-j1 = v5;
+v12 = j0;
+j0 = v25;
+j1 = v3;
 j0 = j0 - j1;
-v6 = j0;
+v16 = j0;
 j0 = UINT64_C(0);
-v11 = j0;
-l517:;
-j0 = v6;
-j1 = v11;
+v10 = j0;
+l490:;
+j0 = v16;
+j1 = v10;
 j2 = UINT64_C(24);
 j1 = j1 * j2;
-v5 = j1;
-j2 = UINT64_C(65768);
+v3 = j1;
+j2 = UINT64_C(1048808);
 j1 = j1 + j2;
-p228 = read_at(j1, m, 8u);
-j1 = load64(p228 + 0);
+p298 = read_at(j1, m, 8u);
+j1 = load64(p298 + 0);
 i0 = (j0 != j1);
 if (!i0) {
-j0 = v5;
-j1 = UINT64_C(65760);
+j0 = v3;
+j1 = UINT64_C(1048800);
 j0 = j0 + j1;
-p229 = read_at(j0, m, 8u);
-j0 = load64(p229 + 0);
-v4 = j0;
-j0 = v13;
-v5 = j0;
-j0 = v25;
+p299 = read_at(j0, m, 8u);
+j0 = load64(p299 + 0);
+v2 = j0;
+j0 = v12;
 v3 = j0;
-l519:;
-j0 = v5;
+j0 = v4;
+v5 = j0;
+l492:;
+j0 = v3;
 i0 = (j0 == 0);
-if (i0) { goto l516; }
-j0 = v3;
-p230 = read_at(j0, m, 1u);
-i0 = load8(p230 + 0);
-v22 = i0;
-j0 = v4;
-p231 = read_at(j0, m, 1u);
-i0 = load8(p231 + 0);
-v10 = i0;
+if (i0) { goto l489; }
 j0 = v5;
-j1 = UINT64_C(1);
-j0 = j0 + j1;
-v5 = j0;
-j0 = v4;
-j1 = UINT64_C(1);
-j0 = j0 + j1;
-v4 = j0;
+p300 = read_at(j0, m, 1u);
+i0 = load8(p300 + 0);
+v20 = i0;
+j0 = v2;
+p301 = read_at(j0, m, 1u);
+i0 = load8(p301 + 0);
+v28 = i0;
 j0 = v3;
 j1 = UINT64_C(1);
 j0 = j0 + j1;
 v3 = j0;
-i0 = v10;
-i1 = v22;
+j0 = v2;
+j1 = UINT64_C(1);
+j0 = j0 + j1;
+v2 = j0;
+j0 = v5;
+j1 = UINT64_C(1);
+j0 = j0 + j1;
+v5 = j0;
+i0 = v28;
+i1 = v20;
 i2 = UINT32_C(32);
 i1 = i1 + i2;
-i2 = v22;
-i3 = v22;
+i2 = v20;
+i3 = v20;
 i4 = UINT32_C(4294967231);
 i3 = i3 + i4;
 i4 = UINT32_C(255);
@@ -41956,2889 +43084,4880 @@ i1 = i3 ? i1 : i2;
 i2 = UINT32_C(255);
 i1 = i1 & i2;
 i0 = (i0 == i1);
-if (i0) { goto l519; }
+if (i0) { goto l492; }
 }
-j0 = v11;
+j0 = v10;
 j1 = UINT64_C(1);
 j0 = j0 + j1;
-v11 = j0;
+v10 = j0;
 j1 = UINT64_C(19);
 i0 = (j0 != j1);
-if (i0) { goto l517; }
+if (i0) { goto l490; }
 i0 = UINT32_C(0);
-v22 = i0;
-goto l494;
-l516:;
-j0 = v11;
+v20 = i0;
+goto l466;
+l489:;
+j0 = v10;
 j1 = UINT64_C(18);
 i0 = (j0 <= j1);
 if (!i0) {
 i0 = UINT32_C(0);
-v22 = i0;
-goto l494;
+v20 = i0;
+goto l466;
 }
 }
-j0 = v17;
-v5 = j0;
-j0 = v17;
-j1 = v21;
+j0 = v25;
+v3 = j0;
+j0 = v25;
+j1 = v17;
 i0 = (j0 < j1);
-if (i0) { goto l496; }
+if (i0) { goto l469; }
 i0 = UINT32_C(1);
-v22 = i0;
+v20 = i0;
 }
-}
-l494:;
+l466:;
 j0 = v1;
-j1 = UINT64_C(313552);
+j1 = UINT64_C(75456);
 j0 = j0 + j1;
-i1 = v22;
-store8(p10 + 59552, i1);
-goto l14;
-l18:;
+i1 = v20;
+p302 = write_at(j0, m, 1u);
+store8(p302 + 0, i1);
+goto l50;
+l72:;
 j0 = v6;
-j1 = UINT64_C(16384);
-j0 = j0 + j1;
-p232 = read_at(j0, m, 8u);
-j0 = load64(p232 + 0);
-v5 = j0;
-i0 = (j0 == 0);
-v22 = i0;
-if (!i0) {
-i0 = v22;
-if (!i0) {
+j1 = UINT64_C(0);
+store64(p1 + 400, j1);
 j0 = v6;
-i1 = UINT32_C(0);
-j2 = v5;
-fill(m, j0, i1, j2);
-}
+j1 = UINT64_C(0);
+store64(p1 + 392, j1);
 j0 = v6;
-j1 = UINT64_C(16384);
-j0 = j0 + j1;
 j1 = UINT64_C(0);
-p233 = write_at(j0, m, 8u);
-store64(p233 + 0, j1);
-}
+store64(p1 + 384, j1);
 j0 = v6;
-j1 = UINT64_C(24584);
-j0 = j0 + j1;
-p234 = read_at(j0, m, 8u);
-j0 = load64(p234 + 0);
-v5 = j0;
-i0 = (j0 == 0);
-if (!i0) {
-j0 = v5;
-j1 = UINT64_C(2);
-j0 = j0 << (j1 & 63);
-v5 = j0;
-i0 = (j0 == 0);
-if (!i0) {
+j1 = UINT64_C(0);
+store64(p1 + 376, j1);
 j0 = v6;
-j1 = UINT64_C(16392);
-j0 = j0 + j1;
-i1 = UINT32_C(0);
-j2 = v5;
-fill(m, j0, i1, j2);
-}
+j1 = UINT64_C(0);
+store64(p1 + 368, j1);
 j0 = v6;
-j1 = UINT64_C(24584);
-j0 = j0 + j1;
 j1 = UINT64_C(0);
-p235 = write_at(j0, m, 8u);
-store64(p235 + 0, j1);
-}
+store64(p1 + 360, j1);
 j0 = v6;
-j1 = UINT64_C(49168);
-j0 = j0 + j1;
-p236 = read_at(j0, m, 8u);
-j0 = load64(p236 + 0);
-v5 = j0;
-i0 = (j0 == 0);
-if (!i0) {
-j0 = v5;
-j1 = UINT64_C(24);
-j0 = j0 * j1;
-v5 = j0;
-i0 = (j0 == 0);
-if (!i0) {
-j0 = v6;
-j1 = UINT64_C(24592);
-j0 = j0 + j1;
-i1 = UINT32_C(0);
-j2 = v5;
-fill(m, j0, i1, j2);
-}
-j0 = v6;
-j1 = UINT64_C(49168);
-j0 = j0 + j1;
 j1 = UINT64_C(0);
-p237 = write_at(j0, m, 8u);
-store64(p237 + 0, j1);
-}
-j0 = v0;
-j1 = UINT64_C(0);
-p238 = write_at(j0, m, 56u);
-store64(p238 + 10, j1);
-j0 = v0;
-i1 = UINT32_C(516);
-store16(p238 + 8, i1);
-j0 = v0;
-j1 = v18;
-store64(p238 + 0, j1);
-j0 = v0;
-j1 = UINT64_C(0);
-store64(p238 + 18, j1);
-j0 = v0;
-j1 = UINT64_C(0);
-store64(p238 + 26, j1);
-j0 = v0;
-j1 = UINT64_C(0);
-store64(p238 + 34, j1);
-j0 = v0;
-j1 = UINT64_C(0);
-store64(p238 + 42, j1);
-j0 = v0;
-j1 = UINT64_C(0);
-store64(p238 + 48, j1);
-goto l2;
-l17:;
-i0 = UINT32_C(0);
-v8 = i0;
-j0 = v1;
-j1 = UINT64_C(254000);
-j0 = j0 + j1;
-i1 = UINT32_C(0);
-p239 = write_at(j0, m, 1u);
-store8(p239 + 0, i1);
-i0 = UINT32_C(5);
+store64(p1 + 352, j1);
+i0 = UINT32_C(1);
 v9 = i0;
-l16:;
-i0 = UINT32_C(4);
-v31 = i0;
-goto l7;
-l15:;
+goto l10;
+l71:;
+i0 = UINT32_C(0);
+v7 = i0;
 j0 = v1;
-j1 = UINT64_C(323928);
+j1 = UINT64_C(15904);
+j0 = j0 + j1;
+i1 = UINT32_C(0);
+p303 = write_at(j0, m, 1u);
+store8(p303 + 0, i1);
+i0 = UINT32_C(5);
+v8 = i0;
+l52:;
+i0 = UINT32_C(4);
+v28 = i0;
+goto l6;
+l51:;
+j0 = v1;
+j1 = UINT64_C(85832);
 j0 = j0 + j1;
 i1 = UINT32_C(1);
-p240 = write_at(j0, m, 1u);
-store8(p240 + 0, i1);
-j0 = v20;
-j1 = v21;
+p304 = write_at(j0, m, 1u);
+store8(p304 + 0, i1);
+j0 = v18;
+j1 = v17;
 i0 = fio_log_wordings_is_heading(m, j0, j1);
 i0 = (i0 == 0);
 if (!i0) {
 i0 = UINT32_C(8);
-v9 = i0;
-goto l14;
+v8 = i0;
+goto l50;
 }
-j0 = v20;
-j1 = v21;
+j0 = v18;
+j1 = v17;
 j0 = fio_log_shapes_sum_of(m, j0, j1);
-v3 = j0;
+v5 = j0;
 j0 = v1;
-j1 = UINT64_C(323920);
+j1 = UINT64_C(85824);
 j0 = j0 + j1;
-v11 = j0;
-p241 = read_at(j0, m, 8u);
-j0 = load64(p241 + 0);
-v17 = j0;
+v10 = j0;
+p305 = read_at(j0, m, 8u);
+j0 = load64(p305 + 0);
+v25 = j0;
 i0 = (j0 == 0);
 if (!i0) {
 j0 = v1;
-j1 = UINT64_C(319834);
+j1 = UINT64_C(81738);
 j0 = j0 + j1;
-v5 = j0;
-j0 = v17;
-v4 = j0;
-l535:;
-j0 = v5;
+v3 = j0;
+j0 = v25;
+v2 = j0;
+l500:;
+j0 = v3;
 j1 = UINT64_C(18446744073709551606);
 j0 = j0 + j1;
-p242 = read_at(j0, m, 8u);
-j0 = load64(p242 + 0);
-j1 = v3;
+p306 = read_at(j0, m, 8u);
+j0 = load64(p306 + 0);
+j1 = v5;
 i0 = (j0 == j1);
-if (i0) { goto l534; }
-j0 = v5;
+if (i0) { goto l499; }
+j0 = v3;
 j1 = UINT64_C(16);
 j0 = j0 + j1;
-v5 = j0;
-j0 = v4;
+v3 = j0;
+j0 = v2;
 j1 = UINT64_C(18446744073709551615);
 j0 = j0 + j1;
-v4 = j0;
+v2 = j0;
 i0 = (j0 == 0);
-if (i0) { goto l533; }
-goto l535;
-l534:;
+if (i0) { goto l498; }
+goto l500;
+l499:;
 i0 = UINT32_C(0);
-j1 = v5;
+v7 = i0;
+i0 = UINT32_C(0);
+j1 = v3;
 j2 = UINT64_C(18446744073709551614);
 j1 = j1 + j2;
-v4 = j1;
-p243 = read_at(j1, m, 4u);
-i1 = load16(p243 + 0);
-v22 = i1;
-j2 = v5;
-i2 = load16(p243 + 2);
-v9 = i2;
+v2 = j1;
+p307 = read_at(j1, m, 4u);
+i1 = load16(p307 + 0);
+v20 = i1;
+j2 = v3;
+i2 = load16(p307 + 2);
+v8 = i2;
 i1 = i1 - i2;
-v10 = i1;
-i2 = v10;
-i3 = v22;
+v28 = i1;
+i2 = v28;
+i3 = v20;
 i2 = (i2 > i3);
 i0 = i2 ? i0 : i1;
-v10 = i0;
-i0 = v22;
+v29 = i0;
+i0 = v20;
 i1 = UINT32_C(999);
 i0 = (i0 > i1);
-if (i0) { goto l531; }
-j0 = v4;
-i1 = v22;
+if (i0) { goto l496; }
+j0 = v2;
+i1 = v20;
 i2 = UINT32_C(1);
 i1 = i1 + i2;
-p244 = write_at(j0, m, 4u);
-store16(p244 + 0, i1);
-j0 = v5;
-i1 = v19;
+p308 = write_at(j0, m, 4u);
+store16(p308 + 0, i1);
+j0 = v3;
+i1 = v9;
 i2 = UINT32_C(2);
 i1 = (i1 == i2);
-i2 = v9;
+i2 = v8;
 i1 = i1 + i2;
-v31 = i1;
+v28 = i1;
 i2 = UINT32_C(65535);
-i3 = v31;
+i3 = v28;
 i4 = UINT32_C(65535);
 i3 = (i3 < i4);
 i1 = i3 ? i1 : i2;
-store16(p244 + 2, i1);
+store16(p308 + 2, i1);
 i0 = UINT32_C(3);
-v31 = i0;
-i0 = v22;
+v28 = i0;
+i0 = v20;
 i1 = UINT32_C(3);
-i0 = (i0 < i1);
-if (i0) { goto l527; }
-i0 = v9;
-i1 = v10;
+i0 = (i0 >= i1);
+if (!i0) {
+i0 = UINT32_C(3);
+v8 = i0;
+goto l6;
+}
+i0 = v8;
+i1 = v29;
 i2 = UINT32_C(65535);
 i1 = i1 & i2;
-i0 = (i0 >= i1);
-if (i0) { goto l527; }
-goto l529;
-l533:;
-j0 = v17;
+i0 = (i0 < i1);
+if (i0) { goto l495; }
+i0 = UINT32_C(3);
+v8 = i0;
+goto l6;
+l498:;
+j0 = v25;
 j1 = UINT64_C(256);
-i0 = (j0 == j1);
-if (i0) { goto l530; }
+i0 = (j0 != j1);
+if (!i0) {
+i0 = UINT32_C(3);
+v28 = i0;
+i0 = UINT32_C(0);
+v7 = i0;
+i0 = UINT32_C(3);
+v8 = i0;
+goto l6;
+}
 }
 j0 = v1;
-j1 = UINT64_C(319824);
+j1 = UINT64_C(81728);
 j0 = j0 + j1;
-j1 = v17;
+j1 = v25;
 j2 = UINT64_C(4);
 j1 = j1 << (j2 & 63);
 j0 = j0 + j1;
-v5 = j0;
-j1 = v3;
-p245 = write_at(j0, m, 16u);
-store64(p245 + 0, j1);
+v3 = j0;
+j1 = v5;
+p309 = write_at(j0, m, 16u);
+store64(p309 + 0, j1);
 i0 = UINT32_C(0);
-v8 = i0;
-j0 = v5;
+v7 = i0;
+j0 = v3;
 i1 = UINT32_C(0);
-store32(p245 + 12, i1);
-j0 = v5;
-i1 = v19;
+store32(p309 + 12, i1);
+j0 = v3;
+i1 = v9;
 i2 = UINT32_C(2);
 i1 = (i1 == i2);
-store16(p245 + 10, i1);
-j0 = v5;
+store16(p309 + 10, i1);
+j0 = v3;
 i1 = UINT32_C(1);
-store16(p245 + 8, i1);
-j0 = v11;
-j1 = v17;
+store16(p309 + 8, i1);
+j0 = v10;
+j1 = v25;
 j2 = UINT64_C(1);
 j1 = j1 + j2;
-p246 = write_at(j0, m, 8u);
-store64(p246 + 0, j1);
-goto l530;
-l531:;
-i0 = v9;
-i1 = v10;
+p310 = write_at(j0, m, 8u);
+store64(p310 + 0, j1);
+goto l494;
+l496:;
+i0 = v8;
+i1 = v29;
 i2 = UINT32_C(65535);
 i1 = i1 & i2;
-i0 = (i0 < i1);
-if (i0) { goto l529; }
-goto l528;
-l530:;
-i0 = UINT32_C(3);
-v31 = i0;
-i0 = UINT32_C(3);
-v9 = i0;
-goto l7;
-l529:;
+i0 = (i0 >= i1);
+if (i0) { goto l494; }
+l495:;
 i0 = UINT32_C(2);
-v9 = i0;
+v8 = i0;
 j0 = v1;
-j1 = UINT64_C(250648);
+p311 = read_at(j0, m, 1u);
+i0 = load8(p311 + 0);
+i1 = UINT32_C(1);
+i0 = (i0 != i1);
+if (i0) { goto l50; }
+j0 = v1;
+j1 = UINT64_C(12552);
 j0 = j0 + j1;
-p247 = read_at(j0, m, 8u);
-j0 = load64(p247 + 0);
-v30 = j0;
+p312 = read_at(j0, m, 8u);
+j0 = load64(p312 + 0);
+v27 = j0;
 i0 = (j0 == 0);
-if (i0) { goto l14; }
-j0 = v21;
+if (i0) { goto l50; }
+j0 = v1;
+j1 = UINT64_C(8);
+j0 = j0 + j1;
+v12 = j0;
+j0 = v17;
 i0 = (j0 == 0);
 if (!i0) {
 j0 = v1;
-j1 = UINT64_C(238105);
+j1 = UINT64_C(9);
 j0 = j0 + j1;
-v34 = j0;
+v30 = j0;
 j0 = UINT64_C(0);
-v41 = j0;
-goto l537;
+v37 = j0;
+goto l503;
 }
-j0 = UINT64_C(0);
-v21 = j0;
-j0 = v7;
+j0 = v6;
 j1 = UINT64_C(0);
-store64(p1 + 448, j1);
-j0 = v7;
+store64(p1 + 344, j1);
+j0 = v6;
 j1 = UINT64_C(0);
-store64(p1 + 440, j1);
-j0 = v7;
+store64(p1 + 336, j1);
+j0 = v6;
 j1 = UINT64_C(0);
-store64(p1 + 432, j1);
-j0 = v7;
+store64(p1 + 328, j1);
+j0 = v6;
 j1 = UINT64_C(0);
-store64(p1 + 424, j1);
-j0 = v7;
-j1 = UINT64_C(424);
+store64(p1 + 320, j1);
+j0 = v6;
+j1 = UINT64_C(320);
 j0 = j0 + j1;
-j1 = v23;
-j2 = v20;
+j1 = v12;
+j2 = v18;
 j3 = UINT64_C(0);
-j4 = v33;
+j4 = v36;
 fio_form_reading_find(m, j0, j1, j2, j3, j4);
 i0 = UINT32_C(3);
-v31 = i0;
-j0 = v7;
-i0 = load8(p1 + 424);
+v28 = i0;
+j0 = v6;
+i0 = load8(p1 + 320);
 i1 = UINT32_C(1);
-i0 = (i0 == i1);
-if (i0) { goto l527; }
-j0 = v30;
-j1 = UINT64_C(1);
-i0 = (j0 != j1);
+i0 = (i0 != i1);
 if (!i0) {
-j0 = UINT64_C(0);
-v21 = j0;
-goto l14;
+i0 = UINT32_C(3);
+v8 = i0;
+goto l6;
 }
-j0 = v1;
-j1 = UINT64_C(238888);
-j0 = j0 + j1;
-v5 = j0;
-j0 = v30;
+j0 = v27;
+j1 = UINT64_C(1);
+i0 = (j0 == j1);
+if (i0) { goto l50; }
+j0 = v27;
 j1 = UINT64_C(18446744073709551615);
 j0 = j0 + j1;
-v4 = j0;
-l540:;
-j0 = v7;
+v2 = j0;
+j0 = v1;
+j1 = UINT64_C(792);
+j0 = j0 + j1;
+v3 = j0;
+l506:;
+j0 = v6;
 j1 = UINT64_C(0);
-store64(p1 + 13000, j1);
-j0 = v7;
+store64(p1 + 376, j1);
+j0 = v6;
 j1 = UINT64_C(0);
-store64(p1 + 12992, j1);
-j0 = v7;
+store64(p1 + 368, j1);
+j0 = v6;
 j1 = UINT64_C(0);
-store64(p1 + 12984, j1);
-j0 = v7;
+store64(p1 + 360, j1);
+j0 = v6;
 j1 = UINT64_C(0);
-store64(p1 + 12976, j1);
-j0 = v5;
+store64(p1 + 352, j1);
+j0 = v3;
 j1 = UINT64_C(768);
 j0 = j0 + j1;
-p248 = read_at(j0, m, 1u);
-i0 = load8(p248 + 0);
+p313 = read_at(j0, m, 1u);
+i0 = load8(p313 + 0);
 i1 = UINT32_C(1);
 i0 = (i0 != i1);
 if (!i0) {
 j0 = v1;
-j1 = UINT64_C(317760);
+j1 = UINT64_C(79664);
 j0 = j0 + j1;
-p249 = read_at(j0, m, 8u);
-j0 = load64(p249 + 0);
-v3 = j0;
+p314 = read_at(j0, m, 8u);
+j0 = load64(p314 + 0);
+v5 = j0;
 i0 = (j0 == 0);
-v22 = i0;
-if (i0) { goto l541; }
-i0 = v22;
+v20 = i0;
+if (i0) { goto l507; }
+i0 = v20;
 if (!i0) {
-j0 = v33;
+j0 = v36;
 i1 = UINT32_C(0);
-j2 = v3;
+j2 = v5;
 fill(m, j0, i1, j2);
 }
 j0 = v1;
-j1 = UINT64_C(317760);
+j1 = UINT64_C(79664);
 j0 = j0 + j1;
 j1 = UINT64_C(0);
-p250 = write_at(j0, m, 8u);
-store64(p250 + 0, j1);
-goto l541;
+p315 = write_at(j0, m, 8u);
+store64(p315 + 0, j1);
+goto l507;
 }
-j0 = v7;
-j1 = UINT64_C(12976);
+j0 = v6;
+j1 = UINT64_C(352);
 j0 = j0 + j1;
-j1 = v5;
-j2 = v20;
+j1 = v3;
+j2 = v18;
 j3 = UINT64_C(0);
 j4 = UINT64_C(0);
-j5 = v33;
+j5 = v36;
 fio_form_reading_find_at(m, j0, j1, j2, j3, j4, j5);
-j0 = v7;
-i0 = load8(p1 + 12976);
+j0 = v6;
+i0 = load8(p1 + 352);
 i1 = UINT32_C(1);
 i0 = (i0 == i1);
-if (i0) { goto l536; }
+if (i0) { goto l502; }
 j0 = v1;
-j1 = UINT64_C(317760);
+j1 = UINT64_C(79664);
 j0 = j0 + j1;
-p251 = read_at(j0, m, 8u);
-j0 = load64(p251 + 0);
-v3 = j0;
+p316 = read_at(j0, m, 8u);
+j0 = load64(p316 + 0);
+v5 = j0;
 i0 = (j0 == 0);
-v22 = i0;
+v20 = i0;
 if (!i0) {
-i0 = v22;
+i0 = v20;
 if (!i0) {
-j0 = v33;
+j0 = v36;
 i1 = UINT32_C(0);
-j2 = v3;
+j2 = v5;
 fill(m, j0, i1, j2);
 }
 j0 = v1;
-j1 = UINT64_C(317760);
+j1 = UINT64_C(79664);
 j0 = j0 + j1;
 j1 = UINT64_C(0);
-p252 = write_at(j0, m, 8u);
-store64(p252 + 0, j1);
+p317 = write_at(j0, m, 8u);
+store64(p317 + 0, j1);
 }
-l541:;
-j0 = v5;
+l507:;
+j0 = v3;
 j1 = UINT64_C(784);
 j0 = j0 + j1;
-v5 = j0;
-j0 = UINT64_C(0);
-v21 = j0;
-j0 = v4;
+v3 = j0;
+j0 = v2;
 j1 = UINT64_C(18446744073709551615);
 j0 = j0 + j1;
-v4 = j0;
+v2 = j0;
 i0 = (j0 == 0);
-if (i0) { goto l14; }
-goto l540;
-l537:;
-l545:;
-j0 = v7;
+if (i0) { goto l50; }
+goto l506;
+l503:;
+l511:;
+j0 = v6;
 j1 = UINT64_C(0);
-store64(p1 + 448, j1);
-j0 = v7;
+store64(p1 + 344, j1);
+j0 = v6;
 j1 = UINT64_C(0);
-store64(p1 + 440, j1);
-j0 = v7;
+store64(p1 + 336, j1);
+j0 = v6;
 j1 = UINT64_C(0);
-store64(p1 + 432, j1);
-j0 = v7;
+store64(p1 + 328, j1);
+j0 = v6;
 j1 = UINT64_C(0);
-store64(p1 + 424, j1);
-j0 = v23;
-j1 = v41;
+store64(p1 + 320, j1);
+j0 = v12;
+j1 = v37;
 j2 = UINT64_C(784);
 j1 = j1 * j2;
 j0 = j0 + j1;
-v13 = j0;
+v26 = j0;
 j1 = UINT64_C(512);
 j0 = j0 + j1;
-p253 = read_at(j0, m, 8u);
-j0 = load64(p253 + 0);
-v24 = j0;
+p318 = read_at(j0, m, 8u);
+j0 = load64(p318 + 0);
+v38 = j0;
 i0 = (j0 == 0);
-if (i0) { goto l528; }
-j0 = v13;
+if (i0) { goto l494; }
+j0 = v26;
 j1 = UINT64_C(664);
 j0 = j0 + j1;
-v6 = j0;
-j0 = v13;
+v16 = j0;
+j0 = v26;
 j1 = UINT64_C(760);
 j0 = j0 + j1;
-p254 = read_at(j0, m, 8u);
-j0 = load64(p254 + 0);
-v25 = j0;
-j0 = UINT64_C(0);
-v17 = j0;
-l546:;
-j0 = v20;
-j1 = v17;
-j0 = j0 + j1;
-v11 = j0;
-j0 = v34;
-v5 = j0;
-j0 = v24;
-v3 = j0;
-j0 = UINT64_C(0);
+p319 = read_at(j0, m, 8u);
+j0 = load64(p319 + 0);
 v4 = j0;
-l548:;
-j0 = v7;
-j1 = UINT64_C(96);
+j0 = UINT64_C(0);
+v25 = j0;
+l512:;
+j0 = v18;
+j1 = v25;
 j0 = j0 + j1;
-j1 = v5;
+v10 = j0;
+j0 = v30;
+v3 = j0;
+j0 = v38;
+v5 = j0;
+j0 = UINT64_C(0);
+v2 = j0;
+l514:;
+j0 = v6;
+j1 = UINT64_C(32);
+j0 = j0 + j1;
+j1 = v3;
 j2 = UINT64_C(18446744073709551615);
 j1 = j1 + j2;
-p255 = read_at(j1, m, 2u);
-i1 = load8(p255 + 0);
-j2 = v5;
-i2 = load8(p255 + 1);
-j3 = v6;
-j4 = v25;
-j5 = v11;
-j6 = v4;
+p320 = read_at(j1, m, 2u);
+i1 = load8(p320 + 0);
+j2 = v3;
+i2 = load8(p320 + 1);
+j3 = v16;
+j4 = v4;
+j5 = v10;
+j6 = v2;
 j5 = j5 + j6;
-j6 = v21;
-j7 = v17;
-j8 = v4;
+j6 = v17;
+j7 = v25;
+j8 = v2;
 j7 = j7 + j8;
 j6 = j6 - j7;
 fio_form_form_Piece_length_in(m, j0, i1, i2, j3, j4, j5, j6);
-j0 = v7;
-i0 = load8(p1 + 96);
+j0 = v6;
+i0 = load8(p1 + 32);
 i1 = UINT32_C(1);
 i0 = (i0 != i1);
-if (i0) { goto l547; }
-j0 = v5;
+if (i0) { goto l513; }
+j0 = v3;
 j1 = UINT64_C(2);
 j0 = j0 + j1;
-v5 = j0;
-j0 = v7;
-j0 = load64(p1 + 104);
-j1 = v4;
+v3 = j0;
+j0 = v6;
+j0 = load64(p1 + 40);
+j1 = v2;
 j0 = j0 + j1;
-v4 = j0;
-j0 = v3;
+v2 = j0;
+j0 = v5;
 j1 = UINT64_C(18446744073709551615);
 j0 = j0 + j1;
-v3 = j0;
+v5 = j0;
 i0 = (j0 == 0);
-if (i0) { goto l528; }
-goto l548;
-l547:;
-j0 = v17;
+if (i0) { goto l494; }
+goto l514;
+l513:;
+j0 = v25;
 j1 = UINT64_C(1);
 j0 = j0 + j1;
-v17 = j0;
-j1 = v21;
+v25 = j0;
+j1 = v17;
 i0 = (j0 != j1);
-if (i0) { goto l546; }
-j0 = v7;
-j1 = UINT64_C(424);
+if (i0) { goto l512; }
+j0 = v6;
+j1 = UINT64_C(320);
 j0 = j0 + j1;
-j1 = v13;
-j2 = v20;
-j3 = v21;
-j4 = v33;
+j1 = v26;
+j2 = v18;
+j3 = v17;
+j4 = v36;
 fio_form_reading_find(m, j0, j1, j2, j3, j4);
-j0 = v7;
-i0 = load8(p1 + 424);
+j0 = v6;
+i0 = load8(p1 + 320);
 i1 = UINT32_C(1);
 i0 = (i0 == i1);
-if (i0) { goto l528; }
-j0 = v34;
+if (i0) { goto l494; }
+j0 = v30;
 j1 = UINT64_C(784);
 j0 = j0 + j1;
-v34 = j0;
-j0 = v41;
+v30 = j0;
+j0 = v37;
 j1 = UINT64_C(1);
 j0 = j0 + j1;
-v41 = j0;
-j1 = v30;
+v37 = j0;
+j1 = v27;
 i0 = (j0 == j1);
-if (i0) { goto l14; }
-goto l545;
-l536:;
-j0 = UINT64_C(0);
-v21 = j0;
-goto l527;
-l528:;
+if (i0) { goto l50; }
+goto l511;
+l502:;
 i0 = UINT32_C(3);
-v31 = i0;
-l527:;
-i0 = UINT32_C(0);
 v8 = i0;
+goto l6;
+l494:;
 i0 = UINT32_C(3);
-v9 = i0;
-goto l7;
-l14:;
+v28 = i0;
+i0 = UINT32_C(3);
+v8 = i0;
+goto l6;
+l50:;
 i0 = UINT32_C(5);
-v31 = i0;
-i0 = v16;
+v28 = i0;
+i0 = UINT32_C(0);
+v7 = i0;
+i0 = v15;
 i1 = UINT32_C(6);
 i0 = (i0 != i1);
-if (i0) { goto l7; }
+if (i0) { goto l6; }
 i0 = UINT32_C(5);
-v22 = i0;
-goto l5;
-l13:;
+v20 = i0;
+goto l4;
+l49:;
+i0 = UINT32_C(4);
+v28 = i0;
+i0 = UINT32_C(0);
+v7 = i0;
+i0 = UINT32_C(2);
+v8 = i0;
+goto l6;
+l48:;
+i0 = UINT32_C(0);
+v7 = i0;
+i0 = UINT32_C(0);
+v28 = i0;
 i0 = UINT32_C(0);
 v8 = i0;
-i0 = UINT32_C(0);
-v31 = i0;
-i0 = UINT32_C(0);
-v9 = i0;
-goto l7;
-}
-l12:;
-fio2070_trap();
-l11:;
-i0 = UINT32_C(4);
-v9 = i0;
-i0 = UINT32_C(0);
-v8 = i0;
-goto l7;
-l10:;
-i0 = UINT32_C(4);
-v9 = i0;
-l9:;
-i0 = UINT32_C(1);
-v31 = i0;
-i0 = UINT32_C(0);
-v8 = i0;
-goto l7;
-l8:;
-i0 = UINT32_C(9);
-v9 = i0;
-l7:;
-j0 = v1;
-j1 = UINT64_C(313552);
-j0 = j0 + j1;
-i1 = UINT32_C(0);
-p256 = write_at(j0 + UINT64_C(18446744073709551584), m, 33u);
-store8(p256 + 32, i1);
-j0 = v1;
-j1 = UINT64_C(313544);
-j0 = j0 + j1;
-j1 = UINT64_C(0);
-store64(p256 + 24, j1);
-j0 = v1;
-j1 = UINT64_C(313520);
-j0 = j0 + j1;
-j1 = UINT64_C(0);
-store64(p256 + 0, j1);
-j0 = v1;
-j1 = UINT64_C(313528);
-j0 = j0 + j1;
-j1 = UINT64_C(0);
-store64(p256 + 8, j1);
-j0 = v1;
-j1 = UINT64_C(313536);
-j0 = j0 + j1;
-i1 = UINT32_C(0);
-store16(p256 + 16, i1);
-i0 = v16;
-i1 = UINT32_C(6);
-i0 = (i0 == i1);
-if (!i0) {
-i0 = v8;
-i1 = UINT32_C(1);
-i0 = i0 & i1;
-if (!i0) {
-j0 = v1;
-j1 = UINT64_C(253984);
-j0 = j0 + j1;
-p257 = read_at(j0, m, 8u);
-j0 = load64(p257 + 0);
-j1 = v14;
-i0 = (j0 <= j1);
-if (!i0) {
-j0 = v1;
-j1 = v14;
-j2 = UINT64_C(208);
-j1 = j1 * j2;
-v34 = j1;
-j0 = j0 + j1;
-v6 = j0;
-j1 = UINT64_C(250656);
-j0 = j0 + j1;
-v11 = j0;
-j0 = v6;
-j1 = UINT64_C(250792);
-j0 = j0 + j1;
-p258 = read_at(j0, m, 8u);
-j0 = load64(p258 + 0);
-v5 = j0;
-j1 = UINT64_C(0);
-i0 = (j0 != j1);
-if (!i0) {
-j0 = v12;
-j1 = v21;
-i0 = (j0 > j1);
-if (!i0) {
-j0 = v12;
-j1 = v12;
-j2 = UINT64_C(120);
-j3 = v12;
-j4 = UINT64_C(120);
-i3 = (j3 < j4);
-j1 = i3 ? j1 : j2;
-v30 = j1;
-j0 = j0 - j1;
-v5 = j0;
-j0 = v11;
-j1 = UINT64_C(120);
-j0 = j0 + j1;
-p259 = read_at(j0, m, 8u);
-j0 = load64(p259 + 0);
-v4 = j0;
-i0 = (j0 == 0);
-v22 = i0;
-if (!i0) {
-i0 = v22;
-if (!i0) {
-j0 = v11;
-i1 = UINT32_C(0);
-j2 = v4;
-fill(m, j0, i1, j2);
-}
-j0 = v11;
-j1 = UINT64_C(120);
-j0 = j0 + j1;
-j1 = UINT64_C(0);
-p260 = write_at(j0, m, 8u);
-store64(p260 + 0, j1);
-}
-j0 = v11;
-j1 = v20;
-j2 = v5;
-j1 = j1 + j2;
-v25 = j1;
-j0 = j0 - j1;
-j1 = v30;
-i0 = (j0 >= j1);
-if (!i0) {
-j0 = v30;
-j1 = UINT64_C(3);
-j0 = j0 & j1;
-v17 = j0;
-j0 = UINT64_C(0);
-v4 = j0;
-j0 = v12;
-j1 = UINT64_C(4);
-i0 = (j0 < j1);
-if (!i0) {
-j0 = v30;
-j1 = UINT64_C(124);
-j0 = j0 & j1;
-v13 = j0;
-j0 = UINT64_C(0);
-v4 = j0;
-for (;;) {
-j0 = v6;
-j1 = v4;
-j0 = j0 + j1;
-v5 = j0;
-j1 = UINT64_C(250656);
-j0 = j0 + j1;
-j1 = v25;
-j2 = v4;
-j1 = j1 + j2;
-v3 = j1;
-p261 = read_at(j1, m, 4u);
-i1 = load8(p261 + 0);
-p262 = write_at(j0, m, 4u);
-store8(p262 + 0, i1);
-j0 = v5;
-j1 = UINT64_C(250657);
-j0 = j0 + j1;
-j1 = v3;
-j2 = UINT64_C(1);
-j1 = j1 + j2;
-i1 = load8(p261 + 1);
-store8(p262 + 1, i1);
-j0 = v5;
-j1 = UINT64_C(250658);
-j0 = j0 + j1;
-j1 = v3;
-j2 = UINT64_C(2);
-j1 = j1 + j2;
-i1 = load8(p261 + 2);
-store8(p262 + 2, i1);
-j0 = v5;
-j1 = UINT64_C(250659);
-j0 = j0 + j1;
-j1 = v3;
-j2 = UINT64_C(3);
-j1 = j1 + j2;
-i1 = load8(p261 + 3);
-store8(p262 + 3, i1);
-j0 = v13;
-j1 = v4;
-j2 = UINT64_C(4);
-j1 = j1 + j2;
-v4 = j1;
-i0 = (j0 != j1);
-if (!i0) break;
-}
-j0 = v17;
-i0 = (j0 == 0);
-if (i0) { goto l552; }
-}
-j0 = v4;
-j1 = v34;
-j0 = j0 + j1;
-j1 = v1;
-j0 = j0 + j1;
-j1 = UINT64_C(250656);
-j0 = j0 + j1;
-v5 = j0;
-j0 = v20;
-j1 = v4;
-j2 = v12;
-j1 = j1 + j2;
-j2 = v30;
-j1 = j1 - j2;
-j0 = j0 + j1;
-v4 = j0;
-l556:;
-j0 = v5;
-j1 = v4;
-p263 = read_at(j1, m, 1u);
-i1 = load8(p263 + 0);
-p264 = write_at(j0, m, 1u);
-store8(p264 + 0, i1);
-j0 = v5;
-j1 = UINT64_C(1);
-j0 = j0 + j1;
-v5 = j0;
-j0 = v4;
-j1 = UINT64_C(1);
-j0 = j0 + j1;
-v4 = j0;
-j0 = v17;
-j1 = UINT64_C(18446744073709551615);
-j0 = j0 + j1;
-v17 = j0;
-j1 = UINT64_C(0);
-i0 = (j0 != j1);
-if (i0) { goto l556; }
-goto l552;
-}
-j0 = v30;
-i0 = (j0 == 0);
-if (!i0) {
-j0 = v11;
-j1 = v25;
-j2 = v30;
-copy(m, j0, j1, j2);
-}
-l552:;
-j0 = v11;
-j1 = UINT64_C(128);
-j0 = j0 + j1;
-j1 = v18;
-p265 = write_at(j0 + UINT64_C(18446744073709551608), m, 16u);
-store64(p265 + 8, j1);
-j0 = v11;
-j1 = UINT64_C(120);
-j0 = j0 + j1;
-j1 = v30;
-store64(p265 + 0, j1);
-j0 = v11;
-j1 = UINT64_C(136);
-j0 = j0 + j1;
-j0 = load64(p258 + 0);
-v5 = j0;
-}
-}
-j0 = v11;
-j1 = UINT64_C(136);
-j0 = j0 + j1;
-j1 = UINT64_C(18446744073709551615);
-j2 = v5;
-j3 = UINT64_C(1);
-j2 = j2 + j3;
-v5 = j2;
-j3 = v5;
-i3 = (j3 == 0);
-j1 = i3 ? j1 : j2;
-p266 = write_at(j0, m, 8u);
-store64(p266 + 0, j1);
-i0 = v31;
-i1 = UINT32_C(4);
-i0 = (i0 != i1);
-if (!i0) {
-j0 = v11;
-j1 = UINT64_C(144);
-j0 = j0 + j1;
-v5 = j0;
-j1 = UINT64_C(18446744073709551615);
-j2 = v5;
-p267 = write_at(j2, m, 8u);
-j2 = load64(p267 + 0);
-j3 = UINT64_C(1);
-j2 = j2 + j3;
-v5 = j2;
-j3 = v5;
-i3 = (j3 == 0);
-j1 = i3 ? j1 : j2;
-store64(p267 + 0, j1);
-i0 = UINT32_C(4);
-v31 = i0;
 goto l6;
 }
-j0 = UINT64_C(0);
-v5 = j0;
-j0 = v7;
-j1 = UINT64_C(0);
-p268 = write_at(j0 + UINT64_C(400), m, 12600u);
-store64(p268 + 24, j1);
-j0 = v7;
-j1 = UINT64_C(0);
-store64(p268 + 32, j1);
-j0 = v7;
-j1 = UINT64_C(0);
-store64(p268 + 40, j1);
-j0 = v7;
-j1 = UINT64_C(0);
-store64(p268 + 0, j1);
-j0 = v7;
-j1 = UINT64_C(0);
-store64(p268 + 8, j1);
-j0 = v7;
-j1 = UINT64_C(0);
-store64(p268 + 16, j1);
-j0 = v7;
-j1 = UINT64_C(0);
-store64(p268 + 12592, j1);
-j0 = v7;
-j1 = UINT64_C(0);
-store64(p268 + 12584, j1);
-j0 = v7;
-j1 = UINT64_C(0);
-store64(p268 + 12576, j1);
-j0 = v21;
-i0 = (j0 == 0);
+l11:;
+fio2070_trap();
+l10:;
+i0 = UINT32_C(0);
 v8 = i0;
-if (!i0) {
-j0 = v20;
-v4 = j0;
-j0 = v21;
-v3 = j0;
-l560:;
-j0 = v5;
-j1 = UINT64_C(16);
-i0 = (j0 != j1);
-if (!i0) {
-j0 = v7;
-j1 = v7;
-j1 = load64(p268 + 12592);
-p269 = write_at(j0 + UINT64_C(376), m, 24u);
-store64(p269 + 16, j1);
-j0 = v7;
-j1 = v7;
-j1 = load64(p268 + 12584);
-store64(p269 + 8, j1);
-j0 = v7;
-j1 = v7;
-j1 = load64(p268 + 12576);
-store64(p269 + 0, j1);
-goto l558;
-}
-j0 = v4;
-p270 = read_at(j0, m, 1u);
-i0 = load8(p270 + 0);
-v22 = i0;
-i1 = UINT32_C(35);
-i0 = (i0 == i1);
-if (!i0) {
-i0 = v22;
-i1 = UINT32_C(4294967248);
-i0 = i0 + i1;
-i1 = UINT32_C(255);
-i0 = i0 & i1;
-i1 = UINT32_C(10);
-i0 = (i0 < i1);
-if (!i0) {
-j0 = v7;
-j1 = UINT64_C(12976);
+j0 = v1;
+j1 = v27;
 j0 = j0 + j1;
-j1 = v5;
+j1 = UINT64_C(776);
 j0 = j0 + j1;
-i1 = v22;
-p271 = write_at(j0, m, 1u);
-store8(p271 + 0, i1);
-j0 = v5;
-j1 = UINT64_C(1);
-j0 = j0 + j1;
-v5 = j0;
-goto l563;
-}
-}
-j0 = v7;
-j1 = UINT64_C(12976);
-j0 = j0 + j1;
-j1 = v5;
-j0 = j0 + j1;
-v17 = j0;
-j0 = v5;
-i0 = (j0 == 0);
-if (!i0) {
-j0 = v17;
-j1 = UINT64_C(18446744073709551615);
-j0 = j0 + j1;
-p272 = read_at(j0, m, 1u);
-i0 = load8(p272 + 0);
-i1 = UINT32_C(35);
-i0 = (i0 == i1);
-if (i0) { goto l562; }
-}
-j0 = v17;
-i1 = UINT32_C(35);
-p273 = write_at(j0, m, 1u);
-store8(p273 + 0, i1);
-j0 = v5;
-j1 = UINT64_C(1);
-j0 = j0 + j1;
-v5 = j0;
-l563:;
-j0 = v7;
-j1 = v5;
-store64(p268 + 12592, j1);
-l562:;
-j0 = v4;
-j1 = UINT64_C(1);
-j0 = j0 + j1;
-v4 = j0;
-j0 = v3;
-j1 = UINT64_C(18446744073709551615);
-j0 = j0 + j1;
-v3 = j0;
-j1 = UINT64_C(0);
-i0 = (j0 != j1);
-if (i0) { goto l560; }
-}
-j0 = v7;
-j1 = v7;
-j1 = load64(p268 + 12592);
-p274 = write_at(j0 + UINT64_C(376), m, 24u);
-store64(p274 + 16, j1);
-j0 = v7;
-j1 = v7;
-j1 = load64(p268 + 12584);
-store64(p274 + 8, j1);
-j0 = v7;
-j1 = v7;
-j1 = load64(p268 + 12576);
-store64(p274 + 0, j1);
-l558:;
-j0 = UINT64_C(0);
-v5 = j0;
-j0 = v7;
-j1 = UINT64_C(0);
-store64(p268 + 12592, j1);
-j0 = v7;
-j1 = UINT64_C(0);
-store64(p268 + 12584, j1);
-j0 = v7;
-j1 = UINT64_C(0);
-store64(p268 + 12576, j1);
-i0 = v8;
-if (!i0) {
-j0 = v20;
-j1 = UINT64_C(18446744073709551615);
-j0 = j0 + j1;
-v3 = j0;
-l568:;
-j0 = v5;
-j1 = UINT64_C(16);
-i0 = (j0 != j1);
-if (!i0) {
-j0 = v7;
-j1 = v7;
-j1 = load64(p268 + 12592);
-p275 = write_at(j0 + UINT64_C(352), m, 24u);
-store64(p275 + 16, j1);
-j0 = v7;
-j1 = v7;
-j1 = load64(p268 + 12584);
-store64(p275 + 8, j1);
-j0 = v7;
-j1 = v7;
-j1 = load64(p268 + 12576);
-store64(p275 + 0, j1);
-goto l566;
-}
-j0 = v3;
-j1 = v21;
-j0 = j0 + j1;
-p276 = read_at(j0, m, 1u);
-i0 = load8(p276 + 0);
-v22 = i0;
-i1 = UINT32_C(35);
-i0 = (i0 == i1);
-if (!i0) {
-i0 = v22;
-i1 = UINT32_C(4294967248);
-i0 = i0 + i1;
-i1 = UINT32_C(255);
-i0 = i0 & i1;
-i1 = UINT32_C(10);
-i0 = (i0 < i1);
-if (!i0) {
-j0 = v7;
-j1 = UINT64_C(12976);
-j0 = j0 + j1;
-j1 = v5;
-j0 = j0 + j1;
-i1 = v22;
-p277 = write_at(j0, m, 1u);
-store8(p277 + 0, i1);
-j0 = v5;
-j1 = UINT64_C(1);
-j0 = j0 + j1;
-v5 = j0;
-goto l571;
-}
-}
-j0 = v7;
-j1 = UINT64_C(12976);
-j0 = j0 + j1;
-j1 = v5;
-j0 = j0 + j1;
-v4 = j0;
-j0 = v5;
-i0 = (j0 == 0);
-if (!i0) {
-j0 = v4;
-j1 = UINT64_C(18446744073709551615);
-j0 = j0 + j1;
-p278 = read_at(j0, m, 1u);
-i0 = load8(p278 + 0);
-i1 = UINT32_C(35);
-i0 = (i0 == i1);
-if (i0) { goto l570; }
-}
-j0 = v4;
-i1 = UINT32_C(35);
-p279 = write_at(j0, m, 1u);
-store8(p279 + 0, i1);
-j0 = v5;
-j1 = UINT64_C(1);
-j0 = j0 + j1;
-v5 = j0;
-l571:;
-j0 = v7;
-j1 = v5;
-store64(p268 + 12592, j1);
-l570:;
-j0 = v21;
-j1 = UINT64_C(18446744073709551615);
-j0 = j0 + j1;
-v21 = j0;
-j1 = UINT64_C(0);
-i0 = (j0 != j1);
-if (i0) { goto l568; }
-}
-j0 = v7;
-j1 = v7;
-j1 = load64(p268 + 12592);
-p280 = write_at(j0 + UINT64_C(352), m, 24u);
-store64(p280 + 16, j1);
-j0 = v7;
-j1 = v7;
-j1 = load64(p268 + 12584);
-store64(p280 + 8, j1);
-j0 = v7;
-j1 = v7;
-j1 = load64(p268 + 12576);
-store64(p280 + 0, j1);
-l566:;
-j0 = v11;
-j1 = UINT64_C(152);
-j0 = j0 + j1;
-v4 = j0;
-j0 = v7;
-j1 = v7;
-p281 = read_at(j1 + UINT64_C(352), m, 48u);
-j1 = load64(p281 + 24);
-store64(p268 + 24, j1);
-j0 = v7;
-j1 = v7;
-j1 = load64(p281 + 32);
-store64(p268 + 32, j1);
-j0 = v7;
-j1 = v7;
-j1 = load64(p281 + 40);
-store64(p268 + 40, j1);
-j0 = v7;
-j1 = v7;
-j1 = load64(p281 + 0);
-store64(p268 + 0, j1);
-j0 = v7;
-j1 = v7;
-j1 = load64(p281 + 8);
-store64(p268 + 8, j1);
-j0 = v7;
-j1 = v7;
-j1 = load64(p281 + 16);
-store64(p268 + 16, j1);
-j0 = v11;
-j1 = UINT64_C(200);
-j0 = j0 + j1;
-p282 = read_at(j0, m, 1u);
-i0 = load8(p282 + 0);
-if (!i0) {
-j0 = v4;
-j1 = v7;
-j1 = load64(p281 + 40);
-p283 = write_at(j0, m, 48u);
-store64(p283 + 16, j1);
-j0 = v4;
-j1 = v7;
-j1 = load64(p281 + 32);
-store64(p283 + 8, j1);
-j0 = v4;
-j1 = v7;
-j1 = load64(p281 + 24);
-store64(p283 + 0, j1);
-j0 = v11;
-j1 = UINT64_C(176);
-j0 = j0 + j1;
-j1 = v7;
-j1 = load64(p281 + 0);
-store64(p283 + 24, j1);
-j0 = v11;
-j1 = UINT64_C(184);
-j0 = j0 + j1;
-j1 = v7;
-j1 = load64(p281 + 8);
-store64(p283 + 32, j1);
-j0 = v11;
-j1 = UINT64_C(192);
-j0 = j0 + j1;
-j1 = v7;
-j1 = load64(p281 + 16);
-store64(p283 + 40, j1);
-goto l574;
-}
-j0 = v11;
-j1 = UINT64_C(168);
-j0 = j0 + j1;
-p284 = read_at(j0, m, 8u);
-j0 = load64(p284 + 0);
-v17 = j0;
-i0 = (j0 == 0);
-i0 = (i0 == 0);
-if (!i0) {
-j0 = UINT64_C(0);
-v3 = j0;
-goto l577;
-}
-j0 = v7;
-j0 = load64(p268 + 40);
-v3 = j0;
-j0 = UINT64_C(0);
-v5 = j0;
-l579:;
-j0 = v3;
-j1 = v5;
-i0 = (j0 == j1);
-if (i0) { goto l577; }
-j0 = v4;
-j1 = v5;
-j0 = j0 + j1;
-p285 = read_at(j0, m, 1u);
-i0 = load8(p285 + 0);
-j1 = v7;
-j2 = UINT64_C(424);
-j1 = j1 + j2;
-j2 = v5;
-j1 = j1 + j2;
-p286 = read_at(j1, m, 1u);
-i1 = load8(p286 + 0);
-i0 = (i0 == i1);
-if (!i0) {
-j0 = v5;
-v3 = j0;
-goto l577;
-}
-j0 = v17;
-j1 = v5;
-j2 = UINT64_C(1);
-j1 = j1 + j2;
-v5 = j1;
-i0 = (j0 != j1);
-if (i0) { goto l579; }
-goto l576;
-l577:;
-j0 = v17;
-j1 = v3;
-i0 = (j0 <= j1);
-if (!i0) {
-j0 = v17;
-j1 = v3;
-j0 = j0 - j1;
-v5 = j0;
-i0 = (j0 == 0);
-if (!i0) {
-j0 = v4;
-j1 = v3;
-j0 = j0 + j1;
-i1 = UINT32_C(0);
-j2 = v5;
-fill(m, j0, i1, j2);
-}
-j0 = v11;
-j1 = UINT64_C(168);
-j0 = j0 + j1;
-j1 = v3;
-p287 = write_at(j0, m, 8u);
-store64(p287 + 0, j1);
-}
-l576:;
-j0 = v11;
-j1 = UINT64_C(176);
-j0 = j0 + j1;
-v17 = j0;
-j0 = v11;
-j1 = UINT64_C(192);
-j0 = j0 + j1;
-p288 = read_at(j0, m, 8u);
-j0 = load64(p288 + 0);
-v3 = j0;
-i0 = (j0 == 0);
-i0 = (i0 == 0);
-if (!i0) {
-j0 = UINT64_C(0);
-v4 = j0;
-goto l582;
-}
-j0 = v7;
-j0 = load64(p268 + 16);
-v4 = j0;
-j0 = UINT64_C(0);
-v5 = j0;
-l584:;
-j0 = v4;
-j1 = v5;
-i0 = (j0 == j1);
-if (i0) { goto l582; }
-j0 = v17;
-j1 = v5;
-j0 = j0 + j1;
-p289 = read_at(j0, m, 1u);
-i0 = load8(p289 + 0);
-j1 = v7;
-j2 = UINT64_C(400);
-j1 = j1 + j2;
-j2 = v5;
-j1 = j1 + j2;
-p290 = read_at(j1, m, 1u);
-i1 = load8(p290 + 0);
-i0 = (i0 == i1);
-if (!i0) {
-j0 = v5;
-v4 = j0;
-goto l582;
-}
-j0 = v3;
-j1 = v5;
-j2 = UINT64_C(1);
-j1 = j1 + j2;
-v5 = j1;
-i0 = (j0 != j1);
-if (i0) { goto l584; }
-goto l574;
-l582:;
-j0 = v3;
-j1 = v4;
-i0 = (j0 <= j1);
-if (!i0) {
-j0 = v3;
-j1 = v4;
-j0 = j0 - j1;
-v5 = j0;
-i0 = (j0 == 0);
-if (!i0) {
-j0 = v17;
-j1 = v4;
-j0 = j0 + j1;
-i1 = UINT32_C(0);
-j2 = v5;
-fill(m, j0, i1, j2);
-}
-j0 = v11;
-j1 = UINT64_C(192);
-j0 = j0 + j1;
-j1 = v4;
-p291 = write_at(j0, m, 8u);
-store64(p291 + 0, j1);
-}
-l574:;
-j0 = v11;
-j1 = UINT64_C(200);
-j0 = j0 + j1;
-v5 = j0;
-j1 = v5;
-p292 = write_at(j1, m, 1u);
-i1 = load8(p292 + 0);
-i2 = UINT32_C(1);
-i1 = i1 + i2;
-v22 = i1;
-i2 = UINT32_C(255);
-i3 = v22;
-i4 = UINT32_C(255);
-i3 = (i3 < i4);
-i1 = i3 ? i1 : i2;
-store8(p292 + 0, i1);
-}
-}
-}
-l6:;
-i0 = v16;
-i1 = UINT32_C(2);
+p321 = read_at(j0, m, 1u);
+i0 = load8(p321 + 0);
+i1 = UINT32_C(1);
 i0 = (i0 != i1);
 if (!i0) {
-i0 = v31;
-v22 = i0;
-goto l3;
-}
-i0 = UINT32_C(1);
-v22 = i0;
-i0 = v31;
-i1 = UINT32_C(1);
-i0 = (i0 == i1);
-if (i0) { goto l4; }
-i0 = v31;
-v22 = i0;
-l5:;
-i0 = v29;
-v36 = i0;
-j0 = v28;
-v35 = j0;
-i0 = v27;
-v37 = i0;
-i0 = v26;
-v38 = i0;
-goto l3;
-l4:;
-j0 = v1;
-j1 = UINT64_C(313649);
+j0 = v12;
+j1 = v17;
+i0 = (j0 > j1);
+if (!i0) {
+j0 = v6;
+j1 = UINT64_C(352);
 j0 = j0 + j1;
-p293 = read_at(j0 + UINT64_C(18446744073709551599), m, 18u);
-i0 = load8(p293 + 17);
-v38 = i0;
-j0 = v1;
-j1 = UINT64_C(313648);
-j0 = j0 + j1;
-i0 = load8(p293 + 16);
-v37 = i0;
-j0 = v1;
-j1 = UINT64_C(313640);
-j0 = j0 + j1;
-j0 = load64(p293 + 8);
-v35 = j0;
-j0 = v1;
-j1 = UINT64_C(313632);
-j0 = j0 + j1;
-i0 = load8(p293 + 0);
-v36 = i0;
-l3:;
-j0 = v7;
-j1 = v7;
-p294 = write_at(j1 + UINT64_C(272), m, 78u);
-i1 = load32(p294 + 72);
-store32(p294 + 8, i1);
-j0 = v7;
-j1 = v7;
-i1 = load16(p294 + 76);
-store16(p294 + 12, i1);
-j0 = v7;
-j1 = v7;
-i1 = load32(p294 + 64);
-store32(p294 + 0, i1);
-j0 = v7;
-j1 = v7;
-i1 = load16(p294 + 68);
-store16(p294 + 4, i1);
-i0 = UINT32_C(10);
-i1 = v9;
-i2 = v15;
-i3 = UINT32_C(1);
-i2 = i2 & i3;
-i0 = i2 ? i0 : i1;
-i1 = v9;
-i2 = v22;
-i3 = UINT32_C(4294967291);
-i2 = i2 + i3;
-i3 = UINT32_C(4294967294);
-i2 = (i2 < i3);
-i0 = i2 ? i0 : i1;
-v8 = i0;
-j0 = v35;
-j1 = v7;
-j1 = load64(p294 + 48);
-i2 = v36;
+j1 = v30;
+j2 = v26;
+j3 = v18;
+j4 = v12;
+j5 = UINT64_C(0);
+j6 = v1;
+j7 = UINT64_C(77616);
+j6 = j6 + j7;
+j7 = v1;
+j8 = UINT64_C(79672);
+j7 = j7 + j8;
+fio_log_second_second_in(m, j0, j1, j2, j3, j4, j5, j6, j7);
+i0 = UINT32_C(4);
+i1 = UINT32_C(0);
+j2 = v6;
+p322 = read_at(j2 + UINT64_C(352), m, 1u);
+i2 = load8(p322 + 0);
 i3 = UINT32_C(255);
 i2 = i2 & i3;
 i3 = UINT32_C(1);
 i2 = (i2 == i3);
-v9 = i2;
-j0 = i2 ? j0 : j1;
-v5 = j0;
-i0 = UINT32_C(1);
-j1 = v7;
-i1 = load8(p294 + 40);
-i2 = v9;
 i0 = i2 ? i0 : i1;
-j0 = (uint64_t)i0;
-j1 = UINT64_C(255);
-j0 = j0 & j1;
-v4 = j0;
-j0 = v1;
-j1 = UINT64_C(336520);
-j0 = j0 + j1;
-p295 = read_at(j0, m, 1u);
-i0 = load8(p295 + 0);
-i1 = UINT32_C(1);
-i0 = (i0 != i1);
-if (!i0) {
-j0 = v1;
-j1 = UINT64_C(323944);
-j0 = j0 + j1;
-p296 = read_at(j0, m, 8u);
-j0 = load64(p296 + 0);
-j1 = UINT64_C(0);
-i0 = (j0 != j1);
-if (!i0) {
-j0 = v2;
-j1 = UINT64_C(65544);
-j0 = j0 + j1;
-p297 = read_at(j0, m, 1u);
-i0 = load8(p297 + 0);
-if (!i0) {
-j0 = v2;
-j1 = UINT64_C(65536);
-j0 = j0 + j1;
-v17 = j0;
-p298 = read_at(j0, m, 8u);
-j0 = load64(p298 + 0);
-v3 = j0;
-i0 = UINT32_C(1);
-v16 = i0;
-i0 = UINT32_C(0);
-v9 = i0;
-i0 = v22;
-switch (i0) {
-case 0:
-goto l590;
-case 1:
-goto l590;
-case 2:
-goto l590;
-case 3:
-goto l589;
-case 4:
-goto l589;
-case 5:
-goto l591;
-default:
-goto l590;
+v8 = i0;
 }
-l591:;
-i0 = UINT32_C(1);
-v9 = i0;
-j0 = v1;
-j1 = UINT64_C(323928);
-j0 = j0 + j1;
-p299 = read_at(j0, m, 1u);
-i0 = load8(p299 + 0);
-if (!i0) {
-j0 = v1;
-j1 = UINT64_C(250648);
-j0 = j0 + j1;
-p300 = read_at(j0, m, 8u);
-j0 = load64(p300 + 0);
-j1 = UINT64_C(0);
-i0 = (j0 != j1);
-if (!i0) {
-j0 = v3;
-i0 = (j0 == 0);
-if (!i0) {
-j0 = v1;
-j1 = UINT64_C(315712);
-j0 = j0 + j1;
-v30 = j0;
+}
+l9:;
 j0 = UINT64_C(0);
-v11 = j0;
-j0 = v2;
-v13 = j0;
-j0 = v3;
-v25 = j0;
-l593:;
-j0 = v2;
-j1 = v3;
-j2 = v11;
-i0 = fio_guess_words_may_begin(m, j0, j1, j2);
-i0 = (i0 == 0);
-if (!i0) {
-j0 = v7;
-j1 = UINT64_C(56);
-j0 = j0 + j1;
-i1 = UINT32_C(0);
-i2 = UINT32_C(0);
-j3 = UINT64_C(67464);
-j4 = UINT64_C(1);
-j5 = v2;
-j6 = v11;
-j5 = j5 + j6;
-v20 = j5;
-j6 = v3;
-j7 = v11;
-j6 = j6 - j7;
-v21 = j6;
-j7 = v30;
-fio_form_octets_run_in(m, j0, i1, i2, j3, j4, j5, j6, j7);
-j0 = v7;
-p301 = read_at(j0 + UINT64_C(56), m, 1u);
-i0 = load8(p301 + 0);
-i1 = UINT32_C(1);
-i0 = (i0 != i1);
-if (!i0) {
-j0 = v1;
-j1 = UINT64_C(317760);
-j0 = j0 + j1;
-p302 = read_at(j0, m, 8u);
-j0 = load64(p302 + 0);
-v6 = j0;
-j1 = UINT64_C(2);
-i0 = (j0 < j1);
-if (!i0) {
-j0 = v7;
-p303 = read_at(j0 + UINT64_C(40), m, 32u);
-j0 = load64(p303 + 24);
-v34 = j0;
-j0 = v7;
-j1 = UINT64_C(40);
-j0 = j0 + j1;
-j1 = v30;
-j2 = v6;
-fio_form_message_size_of(m, j0, j1, j2);
-j0 = v7;
-j0 = load8(p303 + 0);
-i0 = (uint32_t)j0;
-switch (i0) {
-case 0:
-goto l595;
-case 1:
-goto l597;
-case 2:
-goto l596;
-case 3:
-goto l594;
-default:
-goto l595;
-}
-l597:;
-j0 = v7;
-j0 = load64(p303 + 8);
-v23 = j0;
-j1 = UINT64_C(2);
-i0 = (j0 < j1);
-if (!i0) {
-j0 = v23;
-j1 = v6;
+v45 = j0;
+j0 = v6;
+j1 = UINT64_C(0);
+p323 = write_at(j0 + UINT64_C(352), m, 56u);
+store64(p323 + 48, j1);
+j0 = v6;
+j1 = UINT64_C(0);
+store64(p323 + 40, j1);
+j0 = v6;
+j1 = UINT64_C(0);
+store64(p323 + 32, j1);
+j0 = v6;
+j1 = UINT64_C(0);
+store64(p323 + 24, j1);
+j0 = v6;
+j1 = UINT64_C(0);
+store64(p323 + 16, j1);
+j0 = v6;
+j1 = UINT64_C(0);
+store64(p323 + 8, j1);
+j0 = v6;
+j1 = UINT64_C(0);
+store64(p323 + 0, j1);
+i0 = UINT32_C(0);
+v20 = i0;
+j0 = v17;
+j1 = v10;
 i0 = (j0 > j1);
 if (!i0) {
-j0 = v30;
-j1 = v23;
-i0 = fio_form_message_is_message(m, j0, j1);
-if (i0) { goto l595; }
-goto l594;
+j0 = v10;
+v26 = j0;
+goto l518;
 }
-}
-j0 = v23;
-j1 = v6;
-i0 = (j0 <= j1);
-if (i0) { goto l594; }
-goto l595;
-l596:;
-j0 = v30;
-j1 = v6;
-i0 = fio_form_message_is_message(m, j0, j1);
-i0 = (i0 == 0);
-if (i0) { goto l594; }
-l595:;
-i0 = UINT32_C(1);
-v9 = i0;
-j0 = v21;
-j1 = v34;
-i0 = (j0 <= j1);
-if (i0) { goto l590; }
-j0 = v20;
-j1 = v21;
-j2 = v34;
-j3 = v21;
-j4 = v34;
-i3 = (j3 < j4);
-j1 = i3 ? j1 : j2;
-j0 = j0 + j1;
-p304 = read_at(j0, m, 1u);
-i0 = load8(p304 + 0);
-v16 = i0;
-i1 = UINT32_C(95);
-i0 = (i0 == i1);
-if (!i0) {
-i0 = v16;
-i1 = UINT32_C(48);
-i0 = (i0 < i1);
-if (i0) { goto l590; }
-i0 = v16;
-i1 = UINT32_C(58);
-i0 = (i0 < i1);
-if (!i0) {
-i0 = v16;
-i1 = UINT32_C(65);
-i0 = (i0 < i1);
-if (i0) { goto l590; }
-i0 = v16;
-i1 = UINT32_C(91);
-i0 = (i0 < i1);
-if (!i0) {
-i0 = v16;
-i1 = UINT32_C(97);
-i0 = (i0 < i1);
-if (i0) { goto l590; }
-i0 = v16;
-i0 = (uint32_t)extend(i0 & 255, 7);
-i1 = UINT32_C(122);
-i0 = (SIGNED32(i0) > SIGNED32(i1));
-if (i0) { goto l590; }
-}
-}
-}
-j0 = v34;
-i0 = (j0 == 0);
-if (!i0) {
-j0 = v34;
-j1 = v25;
-j2 = v34;
-j3 = v25;
-i2 = (j2 < j3);
-j0 = i2 ? j0 : j1;
-j1 = UINT64_C(18446744073709551615);
-j0 = j0 + j1;
-v21 = j0;
-j0 = UINT64_C(0);
-v6 = j0;
-i0 = UINT32_C(0);
-v16 = i0;
-j0 = v13;
-v20 = j0;
-l600:;
-i0 = UINT32_C(1);
-v9 = i0;
-i0 = v16;
-i1 = UINT32_C(1);
-i0 = i0 & i1;
-if (!i0) {
-j0 = v20;
-p305 = read_at(j0, m, 1u);
-i0 = load8(p305 + 0);
-v16 = i0;
-i1 = UINT32_C(95);
-i0 = (i0 == i1);
-if (i0) { goto l602; }
-i0 = v16;
-i1 = UINT32_C(48);
-i0 = (i0 < i1);
-if (!i0) {
-i0 = v16;
-i1 = UINT32_C(58);
-i0 = (i0 < i1);
-if (i0) { goto l602; }
-i0 = v16;
-i1 = UINT32_C(65);
-i0 = (i0 < i1);
-if (!i0) {
-i0 = v16;
-i1 = UINT32_C(91);
-i0 = (i0 < i1);
-if (i0) { goto l602; }
-i0 = v16;
-i1 = UINT32_C(97);
-i0 = (i0 < i1);
-if (!i0) {
-i0 = v16;
-i0 = (uint32_t)extend(i0 & 255, 7);
-i1 = UINT32_C(123);
-i0 = (SIGNED32(i0) < SIGNED32(i1));
-if (i0) { goto l602; }
-}
-}
-}
-}
-j0 = v21;
-i0 = (j0 == 0);
-if (i0) { goto l590; }
-j0 = v6;
-j1 = UINT64_C(1);
-j0 = j0 + j1;
-v6 = j0;
-i0 = UINT32_C(1);
-v16 = i0;
-goto l601;
-l602:;
-j0 = v21;
-i0 = (j0 == 0);
-if (i0) { goto l594; }
-j0 = v6;
-j1 = UINT64_C(1);
-j0 = j0 + j1;
-v6 = j0;
-i0 = UINT32_C(0);
-v16 = i0;
-l601:;
-j0 = v20;
-j1 = UINT64_C(1);
-j0 = j0 + j1;
-v20 = j0;
-j0 = v21;
-j1 = UINT64_C(18446744073709551615);
-j0 = j0 + j1;
-v21 = j0;
-goto l600;
-}
-}
-}
-}
-l594:;
-j0 = v13;
-j1 = UINT64_C(1);
-j0 = j0 + j1;
-v13 = j0;
-j0 = v25;
-j1 = UINT64_C(18446744073709551615);
-j0 = j0 + j1;
-v25 = j0;
-j0 = v11;
-j1 = UINT64_C(1);
-j0 = j0 + j1;
-v11 = j0;
-j1 = v3;
-i0 = (j0 != j1);
-if (i0) { goto l593; }
-j0 = UINT64_C(0);
-v11 = j0;
-j0 = v2;
-v13 = j0;
-j0 = v3;
-v25 = j0;
-l604:;
-j0 = v2;
-j1 = v3;
-j2 = v11;
-i0 = fio_guess_words_may_begin(m, j0, j1, j2);
-i0 = (i0 == 0);
-if (!i0) {
-j0 = v7;
-j1 = UINT64_C(24);
-j0 = j0 + j1;
-i1 = UINT32_C(0);
-i2 = UINT32_C(0);
-j3 = UINT64_C(67466);
-j4 = UINT64_C(2);
-j5 = v2;
-j6 = v11;
-j5 = j5 + j6;
-v20 = j5;
-j6 = v3;
-j7 = v11;
-j6 = j6 - j7;
-v21 = j6;
-j7 = v30;
-fio_form_octets_run_in(m, j0, i1, i2, j3, j4, j5, j6, j7);
-j0 = v7;
-p306 = read_at(j0 + UINT64_C(24), m, 1u);
-i0 = load8(p306 + 0);
-i1 = UINT32_C(1);
-i0 = (i0 != i1);
-if (!i0) {
 j0 = v1;
-j1 = UINT64_C(317760);
+j1 = UINT64_C(75560);
 j0 = j0 + j1;
-p307 = read_at(j0, m, 8u);
-j0 = load64(p307 + 0);
-v6 = j0;
-j1 = UINT64_C(2);
-i0 = (j0 < j1);
-if (!i0) {
-j0 = v7;
-p308 = read_at(j0 + UINT64_C(8), m, 32u);
-j0 = load64(p308 + 24);
-v34 = j0;
-j0 = v7;
+v50 = j0;
+j0 = v1;
+j1 = UINT64_C(77616);
+j0 = j0 + j1;
+v36 = j0;
+j0 = v4;
+j1 = UINT64_C(24592);
+j0 = j0 + j1;
+v53 = j0;
+j0 = v4;
+j1 = UINT64_C(16392);
+j0 = j0 + j1;
+v55 = j0;
+j0 = v1;
+j1 = UINT64_C(79672);
+j0 = j0 + j1;
+v42 = j0;
+j0 = v1;
 j1 = UINT64_C(8);
 j0 = j0 + j1;
-j1 = v30;
-j2 = v6;
-fio_form_message_size_of(m, j0, j1, j2);
-j0 = v7;
-j0 = load8(p308 + 0);
-i0 = (uint32_t)j0;
-switch (i0) {
-case 0:
-goto l606;
-case 1:
-goto l608;
-case 2:
-goto l607;
-case 3:
-goto l605;
-default:
-goto l606;
-}
-l608:;
-j0 = v7;
-j0 = load64(p308 + 8);
-v23 = j0;
-j1 = UINT64_C(2);
-i0 = (j0 < j1);
-if (!i0) {
-j0 = v23;
-j1 = v6;
-i0 = (j0 > j1);
-if (!i0) {
-j0 = v30;
-j1 = v23;
-i0 = fio_form_message_is_message(m, j0, j1);
-if (i0) { goto l606; }
-goto l605;
-}
-}
-j0 = v23;
-j1 = v6;
-i0 = (j0 <= j1);
-if (i0) { goto l605; }
-goto l606;
-l607:;
-j0 = v30;
-j1 = v6;
-i0 = fio_form_message_is_message(m, j0, j1);
-i0 = (i0 == 0);
-if (i0) { goto l605; }
-l606:;
+v43 = j0;
 i0 = UINT32_C(1);
-v9 = i0;
-j0 = v21;
-j1 = v34;
-i0 = (j0 <= j1);
-if (i0) { goto l590; }
-j0 = v20;
-j1 = v21;
-j2 = v34;
-j3 = v21;
-j4 = v34;
-i3 = (j3 < j4);
-j1 = i3 ? j1 : j2;
-j0 = j0 + j1;
-p309 = read_at(j0, m, 1u);
-i0 = load8(p309 + 0);
-v16 = i0;
-i1 = UINT32_C(95);
+v28 = i0;
+j0 = v10;
+v38 = j0;
+l520:;
+j0 = v1;
+p324 = read_at(j0, m, 1u);
+i0 = load8(p324 + 0);
+i1 = UINT32_C(1);
 i0 = (i0 == i1);
 if (!i0) {
-i0 = v16;
-i1 = UINT32_C(48);
-i0 = (i0 < i1);
-if (i0) { goto l590; }
-i0 = v16;
-i1 = UINT32_C(58);
-i0 = (i0 < i1);
-if (!i0) {
-i0 = v16;
-i1 = UINT32_C(65);
-i0 = (i0 < i1);
-if (i0) { goto l590; }
-i0 = v16;
-i1 = UINT32_C(91);
-i0 = (i0 < i1);
-if (!i0) {
-i0 = v16;
-i1 = UINT32_C(97);
-i0 = (i0 < i1);
-if (i0) { goto l590; }
-i0 = v16;
-i0 = (uint32_t)extend(i0 & 255, 7);
-i1 = UINT32_C(122);
-i0 = (SIGNED32(i0) > SIGNED32(i1));
-if (i0) { goto l590; }
-}
-}
-}
-j0 = v34;
-i0 = (j0 == 0);
-if (!i0) {
-j0 = v34;
-j1 = v25;
-j2 = v34;
-j3 = v25;
-i2 = (j2 < j3);
-j0 = i2 ? j0 : j1;
-j1 = UINT64_C(18446744073709551615);
-j0 = j0 + j1;
-v21 = j0;
 j0 = UINT64_C(0);
-v6 = j0;
-i0 = UINT32_C(0);
-v16 = i0;
-j0 = v13;
-v20 = j0;
-l611:;
-i0 = UINT32_C(1);
-v9 = i0;
-i0 = v16;
-i1 = UINT32_C(1);
-i0 = i0 & i1;
-if (!i0) {
-j0 = v20;
-p310 = read_at(j0, m, 1u);
-i0 = load8(p310 + 0);
-v16 = i0;
-i1 = UINT32_C(95);
-i0 = (i0 == i1);
-if (i0) { goto l613; }
-i0 = v16;
-i1 = UINT32_C(48);
-i0 = (i0 < i1);
-if (!i0) {
-i0 = v16;
-i1 = UINT32_C(58);
-i0 = (i0 < i1);
-if (i0) { goto l613; }
-i0 = v16;
-i1 = UINT32_C(65);
-i0 = (i0 < i1);
-if (!i0) {
-i0 = v16;
-i1 = UINT32_C(91);
-i0 = (i0 < i1);
-if (i0) { goto l613; }
-i0 = v16;
-i1 = UINT32_C(97);
-i0 = (i0 < i1);
-if (!i0) {
-i0 = v16;
-i0 = (uint32_t)extend(i0 & 255, 7);
-i1 = UINT32_C(123);
-i0 = (SIGNED32(i0) < SIGNED32(i1));
-if (i0) { goto l613; }
-}
-}
-}
-}
-j0 = v21;
-i0 = (j0 == 0);
-if (i0) { goto l590; }
-j0 = v6;
-j1 = UINT64_C(1);
-j0 = j0 + j1;
-v6 = j0;
-i0 = UINT32_C(1);
-v16 = i0;
-goto l612;
-l613:;
-j0 = v21;
-i0 = (j0 == 0);
-if (i0) { goto l605; }
-j0 = v6;
-j1 = UINT64_C(1);
-j0 = j0 + j1;
-v6 = j0;
-i0 = UINT32_C(0);
-v16 = i0;
-l612:;
-j0 = v20;
-j1 = UINT64_C(1);
-j0 = j0 + j1;
-v20 = j0;
-j0 = v21;
-j1 = UINT64_C(18446744073709551615);
-j0 = j0 + j1;
-v21 = j0;
-goto l611;
-}
-}
-}
-}
-l605:;
-j0 = v13;
-j1 = UINT64_C(1);
-j0 = j0 + j1;
-v13 = j0;
-j0 = v25;
-j1 = UINT64_C(18446744073709551615);
-j0 = j0 + j1;
-v25 = j0;
-j0 = v11;
-j1 = UINT64_C(1);
-j0 = j0 + j1;
-v11 = j0;
-j1 = v3;
-i0 = (j0 != j1);
-if (i0) { goto l604; }
-}
-}
-i0 = UINT32_C(0);
-v9 = i0;
-}
-l590:;
-j0 = v17;
-j0 = load64(p298 + 0);
 v3 = j0;
-i0 = v9;
-v16 = i0;
-l589:;
-j0 = v1;
-j1 = UINT64_C(238088);
+j0 = v6;
+j1 = UINT64_C(2408);
 j0 = j0 + j1;
-v17 = j0;
-p311 = read_at(j0, m, 8u);
-j0 = load64(p311 + 0);
-v11 = j0;
-i0 = (j0 == 0);
-if (!i0) {
-j0 = v17;
-j1 = v11;
-j2 = UINT64_C(18446744073709551615);
-j1 = j1 + j2;
-p312 = write_at(j0, m, 8u);
-store64(p312 + 0, j1);
-goto l588;
+v2 = j0;
+goto l521;
 }
-i0 = v16;
-i0 = (i0 == 0);
-if (!i0) {
 j0 = v1;
-j1 = UINT64_C(238081);
+j1 = UINT64_C(12552);
 j0 = j0 + j1;
+p325 = read_at(j0, m, 8u);
+j0 = load64(p325 + 0);
+v3 = j0;
+j0 = v43;
+v2 = j0;
+l521:;
+j0 = v6;
+j1 = UINT64_C(352);
+j0 = j0 + j1;
+j1 = v2;
+j2 = v3;
+j3 = v18;
+j4 = v17;
+j5 = v10;
+j6 = v36;
+j7 = v42;
+fio_log_second_second_in(m, j0, j1, j2, j3, j4, j5, j6, j7);
+j0 = v6;
+i0 = load8(p323 + 0);
 i1 = UINT32_C(1);
-p313 = write_at(j0 + UINT64_C(18446744073709551615), m, 2u);
-store8(p313 + 1, i1);
-j0 = v1;
-j1 = UINT64_C(238080);
-j0 = j0 + j1;
-i0 = load8(p313 + 0);
-v16 = i0;
-i0 = UINT32_C(64);
-v9 = i0;
-goto l616;
-}
-j0 = v1;
-j1 = UINT64_C(238082);
-j0 = j0 + j1;
-p314 = read_at(j0 + UINT64_C(18446744073709551614), m, 3u);
-i0 = load8(p314 + 2);
-v9 = i0;
-j0 = v1;
-j1 = UINT64_C(238080);
-j0 = j0 + j1;
-i0 = load8(p314 + 0);
-v16 = i0;
+i0 = (i0 == i1);
 if (!i0) {
-i0 = v9;
-i1 = UINT32_C(255);
-i0 = i0 & i1;
-i0 = (i0 == 0);
-if (i0) { goto l588; }
+j0 = v10;
+v26 = j0;
+i0 = UINT32_C(1);
+v20 = i0;
+goto l523;
 }
-l616:;
+j0 = v6;
+j0 = load64(p323 + 40);
+j1 = UINT64_C(0);
+j2 = v6;
+i2 = load8(p323 + 32);
+i3 = UINT32_C(2);
+i2 = (i2 < i3);
+v20 = i2;
+j0 = i2 ? j0 : j1;
+v16 = j0;
+j1 = v6;
+j1 = load64(p323 + 48);
+j2 = UINT64_C(0);
+i3 = v20;
+j1 = i3 ? j1 : j2;
+v27 = j1;
+i0 = (j0 >= j1);
+if (i0) { goto l517; }
 j0 = v1;
-j1 = UINT64_C(238082);
+j1 = UINT64_C(79664);
 j0 = j0 + j1;
-i1 = v9;
-i2 = v9;
-i3 = UINT32_C(255);
-i2 = i2 & i3;
-i3 = UINT32_C(0);
-i2 = (i2 != i3);
-i1 = i1 - i2;
-p315 = write_at(j0 + UINT64_C(18446744073709383174), m, 168443u);
-store8(p315 + 168442, i1);
-j0 = v1;
-j1 = UINT64_C(69640);
+p326 = read_at(j0, m, 8u);
+j0 = load64(p326 + 0);
+j1 = v27;
+i0 = (j0 < j1);
+if (i0) { goto l517; }
+j0 = v6;
+j0 = load64(p323 + 24);
+v26 = j0;
+j1 = v10;
+i0 = (j0 <= j1);
+if (i0) { goto l517; }
+j0 = v6;
+j0 = load64(p323 + 16);
+v44 = j0;
+j0 = v6;
+j0 = load64(p323 + 8);
+v37 = j0;
+i0 = UINT32_C(0);
+v7 = i0;
+j0 = v36;
+j1 = v16;
 j0 = j0 + j1;
-j0 = load64(p315 + 0);
-v17 = j0;
-j1 = UINT64_C(1023);
+v30 = j0;
+j1 = v27;
+j2 = v16;
+j1 = j1 - j2;
+v12 = j1;
+i0 = fio_log_own_texts_spells(m, j0, j1);
+i0 = (i0 == 0);
+if (!i0) {
+j0 = v4;
+j1 = UINT64_C(24584);
+j0 = j0 + j1;
+p327 = read_at(j0, m, 8u);
+j0 = load64(p327 + 0);
+j1 = UINT64_C(2047);
 i0 = (j0 > j1);
 if (!i0) {
-j0 = v3;
-j1 = UINT64_C(65536);
-j2 = v1;
-j3 = UINT64_C(65536);
+j0 = v12;
+j1 = UINT64_C(16384);
+j2 = v4;
+j3 = UINT64_C(16384);
 j2 = j2 + j3;
-p316 = read_at(j2, m, 8u);
-j2 = load64(p316 + 0);
-v13 = j2;
+p328 = read_at(j2, m, 8u);
+j2 = load64(p328 + 0);
+v41 = j2;
 j1 = j1 - j2;
 i0 = (j0 > j1);
 if (!i0) {
-j0 = v1;
-j1 = v13;
+j0 = v4;
+j1 = v41;
 j0 = j0 + j1;
-v6 = j0;
-j1 = v2;
+v47 = j0;
+j1 = v30;
 j0 = j0 - j1;
-j1 = v3;
+j1 = v12;
 i0 = (j0 >= j1);
 if (!i0) {
-j0 = v3;
+j0 = v12;
 j1 = UINT64_C(3);
-j0 = j0 & j1;
-v20 = j0;
-j0 = UINT64_C(0);
-v11 = j0;
-j0 = v3;
-j1 = UINT64_C(4);
-i0 = (j0 < j1);
-if (!i0) {
-j0 = v3;
-j1 = UINT64_C(18446744073709551612);
 j0 = j0 & j1;
 v25 = j0;
 j0 = UINT64_C(0);
-v11 = j0;
-for (;;) {
-j0 = v6;
-j1 = v11;
+v2 = j0;
+j0 = v16;
+j1 = v27;
+j0 = j0 - j1;
+j1 = UINT64_C(18446744073709551612);
+i0 = (j0 > j1);
+if (!i0) {
+j0 = v1;
+j1 = v16;
 j0 = j0 + j1;
-v17 = j0;
+v40 = j0;
+j0 = v12;
+j1 = UINT64_C(18446744073709551612);
+j0 = j0 & j1;
+v46 = j0;
+j0 = UINT64_C(0);
+v2 = j0;
+for (;;) {
+j0 = v47;
 j1 = v2;
-j2 = v11;
+j0 = j0 + j1;
+v3 = j0;
+j1 = v40;
+j2 = v2;
 j1 = j1 + j2;
-v21 = j1;
-p317 = read_at(j1, m, 4u);
-i1 = load8(p317 + 0);
-p318 = write_at(j0, m, 4u);
-store8(p318 + 0, i1);
-j0 = v17;
+v5 = j1;
+j2 = UINT64_C(77616);
+j1 = j1 + j2;
+p329 = read_at(j1, m, 4u);
+i1 = load8(p329 + 0);
+p330 = write_at(j0, m, 4u);
+store8(p330 + 0, i1);
+j0 = v3;
 j1 = UINT64_C(1);
 j0 = j0 + j1;
-j1 = v21;
-j2 = UINT64_C(1);
+j1 = v5;
+j2 = UINT64_C(77617);
 j1 = j1 + j2;
-i1 = load8(p317 + 1);
-store8(p318 + 1, i1);
-j0 = v17;
+i1 = load8(p329 + 1);
+store8(p330 + 1, i1);
+j0 = v3;
 j1 = UINT64_C(2);
 j0 = j0 + j1;
-j1 = v21;
-j2 = UINT64_C(2);
+j1 = v5;
+j2 = UINT64_C(77618);
 j1 = j1 + j2;
-i1 = load8(p317 + 2);
-store8(p318 + 2, i1);
-j0 = v17;
+i1 = load8(p329 + 2);
+store8(p330 + 2, i1);
+j0 = v3;
 j1 = UINT64_C(3);
 j0 = j0 + j1;
-j1 = v21;
-j2 = UINT64_C(3);
+j1 = v5;
+j2 = UINT64_C(77619);
 j1 = j1 + j2;
-i1 = load8(p317 + 3);
-store8(p318 + 3, i1);
-j0 = v25;
-j1 = v11;
+i1 = load8(p329 + 3);
+store8(p330 + 3, i1);
+j0 = v46;
+j1 = v2;
 j2 = UINT64_C(4);
 j1 = j1 + j2;
-v11 = j1;
+v2 = j1;
 i0 = (j0 != j1);
 if (!i0) break;
 }
-j0 = v20;
+j0 = v25;
 i0 = (j0 == 0);
-if (i0) { goto l620; }
+if (i0) { goto l526; }
 }
-j0 = v2;
-j1 = v11;
-j0 = j0 + j1;
-v17 = j0;
-j0 = v1;
-j1 = v11;
-j2 = v13;
+j0 = v4;
+j1 = v2;
+j2 = v41;
 j1 = j1 + j2;
 j0 = j0 + j1;
-v11 = j0;
-l624:;
-j0 = v11;
-j1 = v17;
-p319 = read_at(j1, m, 1u);
-i1 = load8(p319 + 0);
-p320 = write_at(j0, m, 1u);
-store8(p320 + 0, i1);
-j0 = v11;
+v3 = j0;
+j0 = v36;
+j1 = v16;
+j2 = v2;
+j1 = j1 + j2;
+j0 = j0 + j1;
+v2 = j0;
+l530:;
+j0 = v3;
+j1 = v2;
+p331 = read_at(j1, m, 1u);
+i1 = load8(p331 + 0);
+p332 = write_at(j0, m, 1u);
+store8(p332 + 0, i1);
+j0 = v3;
 j1 = UINT64_C(1);
 j0 = j0 + j1;
-v11 = j0;
-j0 = v17;
+v3 = j0;
+j0 = v2;
 j1 = UINT64_C(1);
 j0 = j0 + j1;
-v17 = j0;
-j0 = v20;
+v2 = j0;
+j0 = v25;
 j1 = UINT64_C(18446744073709551615);
 j0 = j0 + j1;
-v20 = j0;
+v25 = j0;
 j1 = UINT64_C(0);
 i0 = (j0 != j1);
-if (i0) { goto l624; }
-goto l620;
+if (i0) { goto l530; }
+goto l526;
 }
-j0 = v3;
+j0 = v12;
 i0 = (j0 == 0);
 if (!i0) {
-j0 = v6;
-j1 = v2;
-j2 = v3;
+j0 = v47;
+j1 = v30;
+j2 = v12;
 copy(m, j0, j1, j2);
 }
-l620:;
-j0 = v1;
-j1 = UINT64_C(65536);
+l526:;
+j0 = v4;
+j1 = UINT64_C(16384);
 j0 = j0 + j1;
-j1 = v13;
-j2 = v3;
+j1 = v41;
+j2 = v12;
 j1 = j1 + j2;
-v17 = j1;
-p321 = write_at(j0, m, 8u);
-store64(p321 + 0, j1);
-j0 = v1;
-j1 = UINT64_C(69640);
+v2 = j1;
+p333 = write_at(j0, m, 8u);
+store64(p333 + 0, j1);
+j0 = v4;
+j1 = UINT64_C(24584);
 j0 = j0 + j1;
-v11 = j0;
-j0 = load64(p315 + 0);
+v5 = j0;
+j0 = load64(p327 + 0);
 v3 = j0;
-j1 = UINT64_C(1024);
+j1 = UINT64_C(2048);
 i0 = (j0 == j1);
-if (i0) { goto l618; }
-j0 = v1;
+if (!i0) {
+j0 = v55;
 j1 = v3;
 j2 = UINT64_C(2);
 j1 = j1 << (j2 & 63);
 j0 = j0 + j1;
-j1 = UINT64_C(65544);
-j0 = j0 + j1;
-j1 = v17;
-p322 = write_at(j0, m, 4u);
-store32(p322 + 0, j1);
-j0 = v11;
+j1 = v2;
+p334 = write_at(j0, m, 4u);
+store32(p334 + 0, j1);
+j0 = v5;
 j1 = v3;
 j2 = UINT64_C(1);
 j1 = j1 + j2;
-store64(p315 + 0, j1);
-goto l618;
+p335 = write_at(j0, m, 8u);
+store64(p335 + 0, j1);
 }
-}
-j0 = v1;
-j1 = UINT64_C(238081);
+j0 = v4;
+j1 = UINT64_C(49168);
 j0 = j0 + j1;
-i0 = load8(p315 + 168441);
-v9 = i0;
-i0 = v16;
-i1 = UINT32_C(1);
-i0 = i0 & i1;
-i0 = (i0 == 0);
+v2 = j0;
+p336 = read_at(j0, m, 8u);
+j0 = load64(p336 + 0);
+v3 = j0;
+j1 = UINT64_C(1024);
+i0 = (j0 == j1);
 if (!i0) {
-i0 = v9;
-i1 = UINT32_C(1);
-i0 = i0 & i1;
-i0 = (i0 == 0);
-if (i0) { goto l627; }
-j0 = v1;
-j1 = UINT64_C(65536);
-j0 = j0 + j1;
-p323 = read_at(j0, m, 8u);
-j0 = load64(p323 + 0);
-v11 = j0;
-i0 = (j0 == 0);
-v9 = i0;
-if (!i0) {
-i0 = v9;
-if (!i0) {
-j0 = v1;
-i1 = UINT32_C(0);
-j2 = v11;
-fill(m, j0, i1, j2);
-}
-j0 = v1;
-j1 = UINT64_C(65536);
-j0 = j0 + j1;
-j1 = UINT64_C(0);
-p324 = write_at(j0, m, 8u);
-store64(p324 + 0, j1);
-j0 = v1;
-j1 = UINT64_C(69640);
-j0 = j0 + j1;
-j0 = load64(p315 + 0);
-v17 = j0;
-}
-j0 = v17;
-i0 = (j0 == 0);
-if (!i0) {
-j0 = v17;
-j1 = UINT64_C(2);
-j0 = j0 << (j1 & 63);
-v17 = j0;
-i0 = (j0 == 0);
-if (!i0) {
-j0 = v1;
-j1 = UINT64_C(65544);
-j0 = j0 + j1;
-i1 = UINT32_C(0);
-j2 = v17;
-fill(m, j0, i1, j2);
-}
-j0 = v1;
-j1 = UINT64_C(69640);
-j0 = j0 + j1;
-j1 = UINT64_C(0);
-store64(p315 + 0, j1);
-}
-j0 = v1;
-j1 = UINT64_C(238056);
-j0 = j0 + j1;
-j0 = load64(p315 + 168416);
-v17 = j0;
-i0 = (j0 == 0);
-if (!i0) {
-j0 = v17;
-j1 = UINT64_C(3);
-j0 = j0 << (j1 & 63);
-v17 = j0;
-i0 = (j0 == 0);
-if (!i0) {
-j0 = v1;
-j1 = UINT64_C(237928);
-j0 = j0 + j1;
-i1 = UINT32_C(0);
-j2 = v17;
-fill(m, j0, i1, j2);
-}
-j0 = v1;
-j1 = UINT64_C(238056);
-j0 = j0 + j1;
-j1 = UINT64_C(0);
-store64(p315 + 168416, j1);
-}
-j0 = v1;
-j1 = UINT64_C(238080);
-j0 = j0 + j1;
-i1 = UINT32_C(256);
-store16(p315 + 168440, i1);
-j0 = v1;
-j1 = UINT64_C(238072);
-j0 = j0 + j1;
-j1 = UINT64_C(2);
-store64(p315 + 168432, j1);
-j0 = v1;
-j1 = UINT64_C(238064);
-j0 = j0 + j1;
-i1 = UINT32_C(0);
-store8(p315 + 168424, i1);
-j0 = v3;
-j1 = UINT64_C(65536);
-i0 = (j0 > j1);
-if (i0) { goto l588; }
-j0 = v1;
-j1 = v2;
-j0 = j0 - j1;
+j0 = v53;
 j1 = v3;
-i0 = (j0 >= j1);
-if (i0) { goto l626; }
+j2 = UINT64_C(24);
+j1 = j1 * j2;
+j0 = j0 + j1;
+v5 = j0;
+j1 = v26;
+p337 = write_at(j0, m, 24u);
+store64(p337 + 16, j1);
+j0 = v5;
+j1 = v44;
+store64(p337 + 8, j1);
+j0 = v5;
+j1 = v19;
+store64(p337 + 0, j1);
+j0 = v2;
+j1 = v3;
+j2 = UINT64_C(1);
+j1 = j1 + j2;
+p338 = write_at(j0, m, 8u);
+store64(p338 + 0, j1);
+i0 = UINT32_C(1);
+v7 = i0;
+}
+}
+}
+}
+i0 = UINT32_C(1);
+v20 = i0;
+j0 = v1;
+j1 = UINT64_C(77608);
+j0 = j0 + j1;
+p339 = read_at(j0, m, 8u);
+j0 = load64(p339 + 0);
+v3 = j0;
+i0 = v28;
+i1 = UINT32_C(1);
+i0 = i0 & i1;
+i0 = (i0 == 0);
+if (!i0) {
 j0 = v3;
+i0 = (j0 == 0);
+if (i0) { goto l532; }
+i0 = UINT32_C(0);
+v20 = i0;
+j0 = v30;
+p340 = read_at(j0, m, 1u);
+i0 = (uint32_t)extend(load8(p340 + 0), 7);
+v28 = i0;
+j0 = v35;
+p341 = read_at(j0, m, 1u);
+i0 = (uint32_t)extend(load8(p341 + 0), 7);
+v29 = i0;
+i1 = UINT32_C(0);
+i0 = (SIGNED32(i0) < SIGNED32(i1));
+if (!i0) {
+i0 = UINT32_C(1);
+v20 = i0;
+i0 = v28;
+i1 = UINT32_C(4294967295);
+i0 = (SIGNED32(i0) > SIGNED32(i1));
+if (i0) { goto l533; }
+j0 = v3;
+j1 = UINT64_C(1);
+i0 = (j0 == j1);
+if (!i0) {
+i0 = v29;
+i1 = UINT32_C(54);
+i0 = (i0 != i1);
+if (!i0) {
+i0 = UINT32_C(0);
+v20 = i0;
+j0 = v12;
+j1 = UINT64_C(1);
+i0 = (j0 == j1);
+if (i0) { goto l533; }
+i0 = v28;
+i1 = UINT32_C(4294967222);
+i0 = (i0 != i1);
+if (i0) { goto l536; }
+j0 = v1;
+j1 = UINT64_C(75561);
+j0 = j0 + j1;
+p342 = read_at(j0, m, 1u);
+i0 = load8(p342 + 0);
+j1 = v30;
+j2 = UINT64_C(1);
+j1 = j1 + j2;
+p343 = read_at(j1, m, 1u);
+i1 = load8(p343 + 0);
+i0 = (i0 == i1);
+v20 = i0;
+goto l533;
+}
+}
+i0 = UINT32_C(0);
+v20 = i0;
+j0 = v12;
+j1 = UINT64_C(1);
+i0 = (j0 == j1);
+if (i0) { goto l533; }
+l536:;
+i0 = v29;
+i1 = UINT32_C(54);
+i0 = (i0 != i1);
+i1 = v28;
+i2 = v29;
+i1 = i1 ^ i2;
+i2 = UINT32_C(4294967168);
+i1 = (i1 == i2);
+i0 = i0 & i1;
+v20 = i0;
+goto l533;
+}
+i0 = v28;
+i1 = UINT32_C(0);
+i0 = (SIGNED32(i0) < SIGNED32(i1));
+if (i0) { goto l533; }
+j0 = v12;
+j1 = UINT64_C(1);
+i0 = (j0 == j1);
+if (!i0) {
+i0 = v28;
+i1 = UINT32_C(54);
+i0 = (i0 != i1);
+if (!i0) {
+j0 = v3;
+j1 = UINT64_C(1);
+i0 = (j0 != j1);
+if (!i0) {
+i0 = UINT32_C(0);
+v20 = i0;
+goto l538;
+}
+i0 = v29;
+i1 = UINT32_C(4294967222);
+i0 = (i0 != i1);
+if (i0) { goto l539; }
+j0 = v30;
+j1 = UINT64_C(1);
+j0 = j0 + j1;
+p344 = read_at(j0, m, 1u);
+i0 = load8(p344 + 0);
+j1 = v1;
+j2 = UINT64_C(75561);
+j1 = j1 + j2;
+p345 = read_at(j1, m, 1u);
+i1 = load8(p345 + 0);
+i0 = (i0 == i1);
+v20 = i0;
+goto l538;
+}
+}
+j0 = v3;
+j1 = UINT64_C(1);
+i0 = (j0 != j1);
+if (!i0) {
+i0 = UINT32_C(0);
+v20 = i0;
+goto l538;
+}
+l539:;
+i0 = v28;
+i1 = UINT32_C(54);
+i0 = (i0 != i1);
+i1 = v28;
+i2 = v29;
+i1 = i1 ^ i2;
+i2 = UINT32_C(4294967168);
+i1 = (i1 == i2);
+i0 = i0 & i1;
+v20 = i0;
+l538:;
+i0 = v20;
+i1 = UINT32_C(1);
+i0 = i0 ^ i1;
+v20 = i0;
+goto l533;
+}
+i0 = UINT32_C(0);
+v20 = i0;
+j0 = v3;
+i0 = (j0 == 0);
+if (i0) { goto l532; }
+l533:;
+j0 = v3;
+i0 = (j0 == 0);
+if (!i0) {
+j0 = v35;
+i1 = UINT32_C(0);
+j2 = v3;
+fill(m, j0, i1, j2);
+}
+j0 = v1;
+j1 = UINT64_C(77608);
+j0 = j0 + j1;
+j1 = UINT64_C(0);
+p346 = write_at(j0, m, 8u);
+store64(p346 + 0, j1);
+l532:;
+j0 = v12;
+j1 = UINT64_C(2048);
+i0 = (j0 > j1);
+if (!i0) {
+j0 = UINT64_C(18446744073709549560);
+j1 = v16;
+j0 = j0 - j1;
+j1 = v12;
+i0 = (j0 >= j1);
+if (!i0) {
+j0 = v12;
 j1 = UINT64_C(3);
 j0 = j0 & j1;
-v20 = j0;
+v25 = j0;
 j0 = UINT64_C(0);
-v11 = j0;
+v3 = j0;
+j0 = v16;
+j1 = v27;
+j0 = j0 - j1;
+j1 = UINT64_C(18446744073709551612);
+i0 = (j0 > j1);
+if (!i0) {
+j0 = v1;
+j1 = v16;
+j0 = j0 + j1;
+v27 = j0;
+j0 = v12;
+j1 = UINT64_C(4092);
+j0 = j0 & j1;
+v30 = j0;
+j0 = UINT64_C(0);
+v3 = j0;
+for (;;) {
+j0 = v1;
+j1 = v3;
+j0 = j0 + j1;
+v2 = j0;
+j1 = UINT64_C(75560);
+j0 = j0 + j1;
+j1 = v27;
+j2 = v3;
+j1 = j1 + j2;
+v5 = j1;
+j2 = UINT64_C(77616);
+j1 = j1 + j2;
+p347 = read_at(j1, m, 4u);
+i1 = load8(p347 + 0);
+p348 = write_at(j0, m, 4u);
+store8(p348 + 0, i1);
+j0 = v2;
+j1 = UINT64_C(75561);
+j0 = j0 + j1;
+j1 = v5;
+j2 = UINT64_C(77617);
+j1 = j1 + j2;
+i1 = load8(p347 + 1);
+store8(p348 + 1, i1);
+j0 = v2;
+j1 = UINT64_C(75562);
+j0 = j0 + j1;
+j1 = v5;
+j2 = UINT64_C(77618);
+j1 = j1 + j2;
+i1 = load8(p347 + 2);
+store8(p348 + 2, i1);
+j0 = v2;
+j1 = UINT64_C(75563);
+j0 = j0 + j1;
+j1 = v5;
+j2 = UINT64_C(77619);
+j1 = j1 + j2;
+i1 = load8(p347 + 3);
+store8(p348 + 3, i1);
+j0 = v30;
+j1 = v3;
+j2 = UINT64_C(4);
+j1 = j1 + j2;
+v3 = j1;
+i0 = (j0 != j1);
+if (!i0) break;
+}
+j0 = v25;
+i0 = (j0 == 0);
+if (i0) { goto l544; }
+}
+j0 = v50;
+j1 = v3;
+j0 = j0 + j1;
+v3 = j0;
+l548:;
 j0 = v3;
+j1 = v3;
+j2 = v16;
+j1 = j1 + j2;
+j2 = UINT64_C(2056);
+j1 = j1 + j2;
+p349 = read_at(j1, m, 1u);
+i1 = load8(p349 + 0);
+p350 = write_at(j0, m, 1u);
+store8(p350 + 0, i1);
+j0 = v3;
+j1 = UINT64_C(1);
+j0 = j0 + j1;
+v3 = j0;
+j0 = v25;
+j1 = UINT64_C(18446744073709551615);
+j0 = j0 + j1;
+v25 = j0;
+j1 = UINT64_C(0);
+i0 = (j0 != j1);
+if (i0) { goto l548; }
+goto l544;
+}
+j0 = v12;
+i0 = (j0 == 0);
+if (!i0) {
+j0 = v35;
+j1 = v30;
+j2 = v12;
+copy(m, j0, j1, j2);
+}
+l544:;
+j0 = v1;
+j1 = UINT64_C(77608);
+j0 = j0 + j1;
+j1 = v12;
+p351 = write_at(j0, m, 8u);
+store64(p351 + 0, j1);
+}
+i0 = UINT32_C(0);
+v28 = i0;
+i0 = v7;
+i1 = v20;
+i0 = i0 & i1;
+i1 = UINT32_C(1);
+i0 = (i0 != i1);
+if (!i0) {
+j0 = v1;
+p352 = read_at(j0, m, 1u);
+i0 = load8(p352 + 0);
+i1 = UINT32_C(1);
+i0 = (i0 == i1);
+if (!i0) {
+j0 = UINT64_C(0);
+v3 = j0;
+j0 = v6;
+j1 = UINT64_C(2408);
+j0 = j0 + j1;
+v2 = j0;
+goto l550;
+}
+j0 = v1;
+j1 = UINT64_C(12552);
+j0 = j0 + j1;
+p353 = read_at(j0, m, 8u);
+j0 = load64(p353 + 0);
+v3 = j0;
+j0 = v43;
+v2 = j0;
+l550:;
+i0 = UINT32_C(1);
+v28 = i0;
+j0 = v37;
+j1 = v10;
+i0 = (j0 <= j1);
+if (!i0) {
+j0 = v17;
+j1 = v37;
+i0 = (j0 < j1);
+if (!i0) {
+j0 = v2;
+j1 = v3;
+j2 = v18;
+j3 = v10;
+j2 = j2 + j3;
+j3 = v37;
+j4 = v10;
+j3 = j3 - j4;
+j4 = v36;
+i0 = fio_log_quiet_held_by_text(m, j0, j1, j2, j3, j4);
+i1 = UINT32_C(255);
+i0 = i0 & i1;
+i0 = (i0 == 0);
+v28 = i0;
+}
+}
+}
+j0 = v17;
+j1 = v26;
+i0 = (j0 > j1);
+v20 = i0;
+j0 = v38;
+j1 = UINT64_C(1);
+j0 = j0 + j1;
+v38 = j0;
+j1 = v17;
+i0 = (j0 >= j1);
+if (!i0) {
+j0 = v26;
+v10 = j0;
+j0 = v17;
+j1 = v26;
+i0 = (j0 > j1);
+if (i0) { goto l520; }
+}
+l523:;
+i0 = v28;
+i1 = UINT32_C(1);
+i0 = i0 & i1;
+i0 = (i0 == 0);
+if (i0) { goto l517; }
+l518:;
+j0 = v6;
+j1 = UINT64_C(2408);
+j0 = j0 + j1;
+v3 = j0;
+j0 = v1;
+p354 = read_at(j0, m, 1u);
+i0 = load8(p354 + 0);
+i1 = UINT32_C(1);
+i0 = (i0 != i1);
+if (!i0) {
+j0 = v1;
+j1 = UINT64_C(8);
+j0 = j0 + j1;
+v3 = j0;
+j0 = v1;
+j1 = UINT64_C(12552);
+j0 = j0 + j1;
+p355 = read_at(j0, m, 8u);
+j0 = load64(p355 + 0);
+v45 = j0;
+}
+i0 = v20;
+if (i0) { goto l516; }
+i0 = v9;
+if (i0) { goto l515; }
+l517:;
+i0 = UINT32_C(4);
+v8 = i0;
+goto l515;
+l516:;
+i0 = UINT32_C(0);
+v7 = i0;
+i0 = UINT32_C(1);
+v28 = i0;
+i0 = v9;
+i1 = UINT32_C(1);
+i0 = i0 ^ i1;
+j1 = v3;
+j2 = v45;
+j3 = v18;
+j4 = v26;
+j3 = j3 + j4;
+j4 = v17;
+j5 = v26;
+j4 = j4 - j5;
+j5 = v1;
+j6 = UINT64_C(77616);
+j5 = j5 + j6;
+i1 = fio_log_quiet_held_by_text(m, j1, j2, j3, j4, j5);
+i2 = UINT32_C(255);
+i1 = i1 & i2;
+i2 = UINT32_C(0);
+i1 = (i1 != i2);
+i0 = i0 | i1;
+i0 = (i0 == 0);
+if (!i0) {
+i0 = UINT32_C(4);
+v8 = i0;
+goto l6;
+}
+l515:;
+i0 = UINT32_C(1);
+v28 = i0;
+i0 = UINT32_C(0);
+v7 = i0;
+goto l6;
+l8:;
+i0 = UINT32_C(9);
+v8 = i0;
+i0 = UINT32_C(0);
+v7 = i0;
+goto l6;
+l7:;
+i0 = UINT32_C(0);
+v7 = i0;
+i0 = UINT32_C(4);
+v28 = i0;
+i0 = UINT32_C(2);
+v8 = i0;
+l6:;
+j0 = v1;
+j1 = UINT64_C(75456);
+j0 = j0 + j1;
+i1 = UINT32_C(0);
+p356 = write_at(j0 + UINT64_C(18446744073709551584), m, 33u);
+store8(p356 + 32, i1);
+j0 = v1;
+j1 = UINT64_C(75448);
+j0 = j0 + j1;
+j1 = UINT64_C(0);
+store64(p356 + 24, j1);
+j0 = v1;
+j1 = UINT64_C(75424);
+j0 = j0 + j1;
+j1 = UINT64_C(0);
+store64(p356 + 0, j1);
+j0 = v1;
+j1 = UINT64_C(75432);
+j0 = j0 + j1;
+j1 = UINT64_C(0);
+store64(p356 + 8, j1);
+j0 = v1;
+j1 = UINT64_C(75440);
+j0 = j0 + j1;
+i1 = UINT32_C(0);
+store16(p356 + 16, i1);
+i0 = v15;
+i1 = UINT32_C(6);
+i0 = (i0 == i1);
+if (!i0) {
+i0 = v7;
+i1 = UINT32_C(1);
+i0 = i0 & i1;
+if (!i0) {
+j0 = v1;
+j1 = UINT64_C(15888);
+j0 = j0 + j1;
+p357 = read_at(j0, m, 8u);
+j0 = load64(p357 + 0);
+j1 = v13;
+i0 = (j0 <= j1);
+if (!i0) {
+j0 = v1;
+j1 = v13;
+j2 = UINT64_C(208);
+j1 = j1 * j2;
+v27 = j1;
+j0 = j0 + j1;
+v16 = j0;
+j1 = UINT64_C(12560);
+j0 = j0 + j1;
+v10 = j0;
+j0 = v16;
+j1 = UINT64_C(12696);
+j0 = j0 + j1;
+p358 = read_at(j0, m, 8u);
+j0 = load64(p358 + 0);
+v3 = j0;
+j1 = UINT64_C(0);
+i0 = (j0 != j1);
+if (!i0) {
+j0 = v11;
+j1 = v17;
+i0 = (j0 > j1);
+if (!i0) {
+j0 = v11;
+j1 = v11;
+j2 = UINT64_C(120);
+j3 = v11;
+j4 = UINT64_C(120);
+i3 = (j3 < j4);
+j1 = i3 ? j1 : j2;
+v26 = j1;
+j0 = j0 - j1;
+v3 = j0;
+j0 = v10;
+j1 = UINT64_C(120);
+j0 = j0 + j1;
+p359 = read_at(j0, m, 8u);
+j0 = load64(p359 + 0);
+v2 = j0;
+i0 = (j0 == 0);
+v20 = i0;
+if (!i0) {
+i0 = v20;
+if (!i0) {
+j0 = v10;
+i1 = UINT32_C(0);
+j2 = v2;
+fill(m, j0, i1, j2);
+}
+j0 = v10;
+j1 = UINT64_C(120);
+j0 = j0 + j1;
+j1 = UINT64_C(0);
+p360 = write_at(j0, m, 8u);
+store64(p360 + 0, j1);
+}
+j0 = v10;
+j1 = v18;
+j2 = v3;
+j1 = j1 + j2;
+v4 = j1;
+j0 = j0 - j1;
+j1 = v26;
+i0 = (j0 >= j1);
+if (!i0) {
+j0 = v26;
+j1 = UINT64_C(3);
+j0 = j0 & j1;
+v25 = j0;
+j0 = UINT64_C(0);
+v2 = j0;
+j0 = v11;
 j1 = UINT64_C(4);
 i0 = (j0 < j1);
 if (!i0) {
-j0 = v3;
-j1 = UINT64_C(131068);
+j0 = v26;
+j1 = UINT64_C(124);
 j0 = j0 & j1;
-v6 = j0;
+v12 = j0;
 j0 = UINT64_C(0);
-v11 = j0;
+v2 = j0;
 for (;;) {
-j0 = v1;
-j1 = v11;
-j0 = j0 + j1;
-v17 = j0;
+j0 = v16;
 j1 = v2;
-j2 = v11;
-j1 = j1 + j2;
-v21 = j1;
-p325 = read_at(j1, m, 4u);
-i1 = load8(p325 + 0);
-p326 = write_at(j0, m, 4u);
-store8(p326 + 0, i1);
-j0 = v17;
-j1 = UINT64_C(1);
 j0 = j0 + j1;
-j1 = v21;
+v3 = j0;
+j1 = UINT64_C(12560);
+j0 = j0 + j1;
+j1 = v4;
+j2 = v2;
+j1 = j1 + j2;
+v5 = j1;
+p361 = read_at(j1, m, 4u);
+i1 = load8(p361 + 0);
+p362 = write_at(j0, m, 4u);
+store8(p362 + 0, i1);
+j0 = v3;
+j1 = UINT64_C(12561);
+j0 = j0 + j1;
+j1 = v5;
 j2 = UINT64_C(1);
 j1 = j1 + j2;
-i1 = load8(p325 + 1);
-store8(p326 + 1, i1);
-j0 = v17;
-j1 = UINT64_C(2);
+i1 = load8(p361 + 1);
+store8(p362 + 1, i1);
+j0 = v3;
+j1 = UINT64_C(12562);
 j0 = j0 + j1;
-j1 = v21;
+j1 = v5;
 j2 = UINT64_C(2);
 j1 = j1 + j2;
-i1 = load8(p325 + 2);
-store8(p326 + 2, i1);
-j0 = v17;
-j1 = UINT64_C(3);
+i1 = load8(p361 + 2);
+store8(p362 + 2, i1);
+j0 = v3;
+j1 = UINT64_C(12563);
 j0 = j0 + j1;
-j1 = v21;
+j1 = v5;
 j2 = UINT64_C(3);
 j1 = j1 + j2;
-i1 = load8(p325 + 3);
-store8(p326 + 3, i1);
-j0 = v6;
-j1 = v11;
+i1 = load8(p361 + 3);
+store8(p362 + 3, i1);
+j0 = v12;
+j1 = v2;
 j2 = UINT64_C(4);
 j1 = j1 + j2;
-v11 = j1;
+v2 = j1;
 i0 = (j0 != j1);
 if (!i0) break;
 }
-j0 = v20;
+j0 = v25;
 i0 = (j0 == 0);
-if (i0) { goto l625; }
+if (i0) { goto l556; }
 }
-j0 = v1;
-j1 = v11;
-j0 = j0 + j1;
-v17 = j0;
 j0 = v2;
-j1 = v11;
-j0 = j0 + j1;
-v11 = j0;
-l637:;
-j0 = v17;
-j1 = v11;
-p327 = read_at(j1, m, 1u);
-i1 = load8(p327 + 0);
-p328 = write_at(j0, m, 1u);
-store8(p328 + 0, i1);
-j0 = v17;
-j1 = UINT64_C(1);
-j0 = j0 + j1;
-v17 = j0;
-j0 = v11;
-j1 = UINT64_C(1);
-j0 = j0 + j1;
-v11 = j0;
-j0 = v20;
-j1 = UINT64_C(18446744073709551615);
-j0 = j0 + j1;
-v20 = j0;
-j1 = UINT64_C(0);
-i0 = (j0 != j1);
-if (i0) { goto l637; }
-goto l625;
-}
-i0 = v9;
-i1 = UINT32_C(1);
-i0 = i0 & i1;
-i0 = (i0 == 0);
-if (!i0) {
-j0 = v1;
-j1 = UINT64_C(238088);
+j1 = v27;
 j0 = j0 + j1;
 j1 = v1;
-j2 = UINT64_C(238096);
+j0 = j0 + j1;
+j1 = UINT64_C(12560);
+j0 = j0 + j1;
+v3 = j0;
+j0 = v18;
+j1 = v2;
+j2 = v11;
 j1 = j1 + j2;
-v11 = j1;
-p329 = write_at(j1 + UINT64_C(18446744073709551608), m, 16u);
-j1 = load64(p329 + 8);
-v3 = j1;
-store64(p329 + 0, j1);
-j0 = v11;
-j1 = v3;
-j2 = UINT64_C(1);
-j1 = j1 << (j2 & 63);
-j2 = UINT64_C(65536);
+j2 = v26;
+j1 = j1 - j2;
+j0 = j0 + j1;
+v2 = j0;
+l560:;
+j0 = v3;
+j1 = v2;
+p363 = read_at(j1, m, 1u);
+i1 = load8(p363 + 0);
+p364 = write_at(j0, m, 1u);
+store8(p364 + 0, i1);
+j0 = v3;
+j1 = UINT64_C(1);
+j0 = j0 + j1;
+v3 = j0;
+j0 = v2;
+j1 = UINT64_C(1);
+j0 = j0 + j1;
+v2 = j0;
+j0 = v25;
+j1 = UINT64_C(18446744073709551615);
+j0 = j0 + j1;
+v25 = j0;
+j1 = UINT64_C(0);
+i0 = (j0 != j1);
+if (i0) { goto l560; }
+goto l556;
+}
+j0 = v26;
+i0 = (j0 == 0);
+if (!i0) {
+j0 = v10;
+j1 = v4;
+j2 = v26;
+copy(m, j0, j1, j2);
+}
+l556:;
+j0 = v10;
+j1 = UINT64_C(128);
+j0 = j0 + j1;
+j1 = v19;
+p365 = write_at(j0 + UINT64_C(18446744073709551608), m, 16u);
+store64(p365 + 8, j1);
+j0 = v10;
+j1 = UINT64_C(120);
+j0 = j0 + j1;
+j1 = v26;
+store64(p365 + 0, j1);
+j0 = v10;
+j1 = UINT64_C(136);
+j0 = j0 + j1;
+j0 = load64(p358 + 0);
+v3 = j0;
+}
+}
+j0 = v10;
+j1 = UINT64_C(136);
+j0 = j0 + j1;
+j1 = UINT64_C(18446744073709551615);
+j2 = v3;
+j3 = UINT64_C(1);
+j2 = j2 + j3;
+v3 = j2;
 j3 = v3;
-j4 = UINT64_C(65536);
-i3 = (j3 < j4);
+i3 = (j3 == 0);
 j1 = i3 ? j1 : j2;
-store64(p329 + 8, j1);
-}
-l627:;
-j0 = v1;
-j1 = UINT64_C(65536);
+p366 = write_at(j0, m, 8u);
+store64(p366 + 0, j1);
+i0 = v28;
+i1 = UINT32_C(4);
+i0 = (i0 != i1);
+if (!i0) {
+j0 = v10;
+j1 = UINT64_C(144);
 j0 = j0 + j1;
-p330 = read_at(j0, m, 8u);
-j0 = load64(p330 + 0);
 v3 = j0;
-i0 = (j0 == 0);
-v9 = i0;
-if (!i0) {
-i0 = v9;
-if (!i0) {
-j0 = v1;
-i1 = UINT32_C(0);
+j1 = UINT64_C(18446744073709551615);
 j2 = v3;
-fill(m, j0, i1, j2);
+p367 = write_at(j2, m, 8u);
+j2 = load64(p367 + 0);
+j3 = UINT64_C(1);
+j2 = j2 + j3;
+v3 = j2;
+j3 = v3;
+i3 = (j3 == 0);
+j1 = i3 ? j1 : j2;
+store64(p367 + 0, j1);
+i0 = UINT32_C(4);
+v28 = i0;
+goto l5;
 }
-j0 = v1;
-j1 = UINT64_C(65536);
-j0 = j0 + j1;
+j0 = UINT64_C(0);
+v3 = j0;
+j0 = v6;
 j1 = UINT64_C(0);
-p331 = write_at(j0, m, 8u);
-store64(p331 + 0, j1);
-j0 = v1;
-j1 = UINT64_C(69640);
+p368 = write_at(j0 + UINT64_C(296), m, 80u);
+store64(p368 + 24, j1);
+j0 = v6;
+j1 = UINT64_C(0);
+store64(p368 + 32, j1);
+j0 = v6;
+j1 = UINT64_C(0);
+store64(p368 + 40, j1);
+j0 = v6;
+j1 = UINT64_C(0);
+store64(p368 + 0, j1);
+j0 = v6;
+j1 = UINT64_C(0);
+store64(p368 + 8, j1);
+j0 = v6;
+j1 = UINT64_C(0);
+store64(p368 + 16, j1);
+j0 = v6;
+j1 = UINT64_C(0);
+store64(p368 + 72, j1);
+j0 = v6;
+j1 = UINT64_C(0);
+store64(p368 + 64, j1);
+j0 = v6;
+j1 = UINT64_C(0);
+store64(p368 + 56, j1);
+j0 = v17;
+i0 = (j0 == 0);
+v7 = i0;
+if (!i0) {
+j0 = v18;
+v2 = j0;
+j0 = v17;
+v5 = j0;
+l564:;
+j0 = v3;
+j1 = UINT64_C(16);
+i0 = (j0 != j1);
+if (!i0) {
+j0 = v6;
+j1 = v6;
+j1 = load64(p368 + 72);
+p369 = write_at(j0 + UINT64_C(272), m, 24u);
+store64(p369 + 16, j1);
+j0 = v6;
+j1 = v6;
+j1 = load64(p368 + 64);
+store64(p369 + 8, j1);
+j0 = v6;
+j1 = v6;
+j1 = load64(p368 + 56);
+store64(p369 + 0, j1);
+goto l562;
+}
+j0 = v2;
+p370 = read_at(j0, m, 1u);
+i0 = load8(p370 + 0);
+v20 = i0;
+i1 = UINT32_C(35);
+i0 = (i0 == i1);
+if (!i0) {
+i0 = v20;
+i1 = UINT32_C(4294967248);
+i0 = i0 + i1;
+i1 = UINT32_C(255);
+i0 = i0 & i1;
+i1 = UINT32_C(10);
+i0 = (i0 < i1);
+if (!i0) {
+j0 = v6;
+j1 = UINT64_C(352);
 j0 = j0 + j1;
-j0 = load64(p315 + 0);
+j1 = v3;
+j0 = j0 + j1;
+i1 = v20;
+p371 = write_at(j0, m, 1u);
+store8(p371 + 0, i1);
+j0 = v3;
+j1 = UINT64_C(1);
+j0 = j0 + j1;
+v3 = j0;
+goto l567;
+}
+}
+j0 = v6;
+j1 = UINT64_C(352);
+j0 = j0 + j1;
+j1 = v3;
+j0 = j0 + j1;
+v25 = j0;
+j0 = v3;
+i0 = (j0 == 0);
+if (!i0) {
+j0 = v25;
+j1 = UINT64_C(18446744073709551615);
+j0 = j0 + j1;
+p372 = read_at(j0, m, 1u);
+i0 = load8(p372 + 0);
+i1 = UINT32_C(35);
+i0 = (i0 == i1);
+if (i0) { goto l566; }
+}
+j0 = v25;
+i1 = UINT32_C(35);
+p373 = write_at(j0, m, 1u);
+store8(p373 + 0, i1);
+j0 = v3;
+j1 = UINT64_C(1);
+j0 = j0 + j1;
+v3 = j0;
+l567:;
+j0 = v6;
+j1 = v3;
+store64(p368 + 72, j1);
+l566:;
+j0 = v2;
+j1 = UINT64_C(1);
+j0 = j0 + j1;
+v2 = j0;
+j0 = v5;
+j1 = UINT64_C(18446744073709551615);
+j0 = j0 + j1;
+v5 = j0;
+j1 = UINT64_C(0);
+i0 = (j0 != j1);
+if (i0) { goto l564; }
+}
+j0 = v6;
+j1 = v6;
+j1 = load64(p368 + 72);
+p374 = write_at(j0 + UINT64_C(272), m, 24u);
+store64(p374 + 16, j1);
+j0 = v6;
+j1 = v6;
+j1 = load64(p368 + 64);
+store64(p374 + 8, j1);
+j0 = v6;
+j1 = v6;
+j1 = load64(p368 + 56);
+store64(p374 + 0, j1);
+l562:;
+j0 = UINT64_C(0);
+v3 = j0;
+j0 = v6;
+j1 = UINT64_C(0);
+store64(p368 + 72, j1);
+j0 = v6;
+j1 = UINT64_C(0);
+store64(p368 + 64, j1);
+j0 = v6;
+j1 = UINT64_C(0);
+store64(p368 + 56, j1);
+i0 = v7;
+if (!i0) {
+j0 = v18;
+j1 = UINT64_C(18446744073709551615);
+j0 = j0 + j1;
+v5 = j0;
+l572:;
+j0 = v3;
+j1 = UINT64_C(16);
+i0 = (j0 != j1);
+if (!i0) {
+j0 = v6;
+j1 = v6;
+j1 = load64(p368 + 72);
+p375 = write_at(j0 + UINT64_C(248), m, 24u);
+store64(p375 + 16, j1);
+j0 = v6;
+j1 = v6;
+j1 = load64(p368 + 64);
+store64(p375 + 8, j1);
+j0 = v6;
+j1 = v6;
+j1 = load64(p368 + 56);
+store64(p375 + 0, j1);
+goto l570;
+}
+j0 = v5;
+j1 = v17;
+j0 = j0 + j1;
+p376 = read_at(j0, m, 1u);
+i0 = load8(p376 + 0);
+v20 = i0;
+i1 = UINT32_C(35);
+i0 = (i0 == i1);
+if (!i0) {
+i0 = v20;
+i1 = UINT32_C(4294967248);
+i0 = i0 + i1;
+i1 = UINT32_C(255);
+i0 = i0 & i1;
+i1 = UINT32_C(10);
+i0 = (i0 < i1);
+if (!i0) {
+j0 = v6;
+j1 = UINT64_C(352);
+j0 = j0 + j1;
+j1 = v3;
+j0 = j0 + j1;
+i1 = v20;
+p377 = write_at(j0, m, 1u);
+store8(p377 + 0, i1);
+j0 = v3;
+j1 = UINT64_C(1);
+j0 = j0 + j1;
+v3 = j0;
+goto l575;
+}
+}
+j0 = v6;
+j1 = UINT64_C(352);
+j0 = j0 + j1;
+j1 = v3;
+j0 = j0 + j1;
+v2 = j0;
+j0 = v3;
+i0 = (j0 == 0);
+if (!i0) {
+j0 = v2;
+j1 = UINT64_C(18446744073709551615);
+j0 = j0 + j1;
+p378 = read_at(j0, m, 1u);
+i0 = load8(p378 + 0);
+i1 = UINT32_C(35);
+i0 = (i0 == i1);
+if (i0) { goto l574; }
+}
+j0 = v2;
+i1 = UINT32_C(35);
+p379 = write_at(j0, m, 1u);
+store8(p379 + 0, i1);
+j0 = v3;
+j1 = UINT64_C(1);
+j0 = j0 + j1;
+v3 = j0;
+l575:;
+j0 = v6;
+j1 = v3;
+store64(p368 + 72, j1);
+l574:;
+j0 = v17;
+j1 = UINT64_C(18446744073709551615);
+j0 = j0 + j1;
 v17 = j0;
-}
-j0 = v17;
-i0 = (j0 == 0);
-if (!i0) {
-j0 = v17;
-j1 = UINT64_C(2);
-j0 = j0 << (j1 & 63);
-v3 = j0;
-i0 = (j0 == 0);
-if (!i0) {
-j0 = v1;
-j1 = UINT64_C(65544);
-j0 = j0 + j1;
-i1 = UINT32_C(0);
-j2 = v3;
-fill(m, j0, i1, j2);
-}
-j0 = v1;
-j1 = UINT64_C(69640);
-j0 = j0 + j1;
 j1 = UINT64_C(0);
-store64(p315 + 0, j1);
+i0 = (j0 != j1);
+if (i0) { goto l572; }
 }
-j0 = v1;
-j1 = UINT64_C(238056);
+j0 = v6;
+j1 = v6;
+j1 = load64(p368 + 72);
+p380 = write_at(j0 + UINT64_C(248), m, 24u);
+store64(p380 + 16, j1);
+j0 = v6;
+j1 = v6;
+j1 = load64(p368 + 64);
+store64(p380 + 8, j1);
+j0 = v6;
+j1 = v6;
+j1 = load64(p368 + 56);
+store64(p380 + 0, j1);
+l570:;
+j0 = v10;
+j1 = UINT64_C(152);
 j0 = j0 + j1;
-j0 = load64(p315 + 168416);
-v3 = j0;
+v2 = j0;
+j0 = v6;
+j1 = v6;
+p381 = read_at(j1 + UINT64_C(248), m, 48u);
+j1 = load64(p381 + 24);
+store64(p368 + 24, j1);
+j0 = v6;
+j1 = v6;
+j1 = load64(p381 + 32);
+store64(p368 + 32, j1);
+j0 = v6;
+j1 = v6;
+j1 = load64(p381 + 40);
+store64(p368 + 40, j1);
+j0 = v6;
+j1 = v6;
+j1 = load64(p381 + 0);
+store64(p368 + 0, j1);
+j0 = v6;
+j1 = v6;
+j1 = load64(p381 + 8);
+store64(p368 + 8, j1);
+j0 = v6;
+j1 = v6;
+j1 = load64(p381 + 16);
+store64(p368 + 16, j1);
+j0 = v10;
+j1 = UINT64_C(200);
+j0 = j0 + j1;
+p382 = read_at(j0, m, 1u);
+i0 = load8(p382 + 0);
+if (!i0) {
+j0 = v2;
+j1 = v6;
+j1 = load64(p381 + 40);
+p383 = write_at(j0, m, 48u);
+store64(p383 + 16, j1);
+j0 = v2;
+j1 = v6;
+j1 = load64(p381 + 32);
+store64(p383 + 8, j1);
+j0 = v2;
+j1 = v6;
+j1 = load64(p381 + 24);
+store64(p383 + 0, j1);
+j0 = v10;
+j1 = UINT64_C(176);
+j0 = j0 + j1;
+j1 = v6;
+j1 = load64(p381 + 0);
+store64(p383 + 24, j1);
+j0 = v10;
+j1 = UINT64_C(184);
+j0 = j0 + j1;
+j1 = v6;
+j1 = load64(p381 + 8);
+store64(p383 + 32, j1);
+j0 = v10;
+j1 = UINT64_C(192);
+j0 = j0 + j1;
+j1 = v6;
+j1 = load64(p381 + 16);
+store64(p383 + 40, j1);
+goto l578;
+}
+j0 = v10;
+j1 = UINT64_C(168);
+j0 = j0 + j1;
+p384 = read_at(j0, m, 8u);
+j0 = load64(p384 + 0);
+v25 = j0;
 i0 = (j0 == 0);
+i0 = (i0 == 0);
+if (!i0) {
+j0 = UINT64_C(0);
+v5 = j0;
+goto l581;
+}
+j0 = v6;
+j0 = load64(p368 + 40);
+v5 = j0;
+j0 = UINT64_C(0);
+v3 = j0;
+l583:;
+j0 = v5;
+j1 = v3;
+i0 = (j0 == j1);
+if (i0) { goto l581; }
+j0 = v2;
+j1 = v3;
+j0 = j0 + j1;
+p385 = read_at(j0, m, 1u);
+i0 = load8(p385 + 0);
+j1 = v6;
+j2 = UINT64_C(320);
+j1 = j1 + j2;
+j2 = v3;
+j1 = j1 + j2;
+p386 = read_at(j1, m, 1u);
+i1 = load8(p386 + 0);
+i0 = (i0 == i1);
 if (!i0) {
 j0 = v3;
-j1 = UINT64_C(3);
-j0 = j0 << (j1 & 63);
+v5 = j0;
+goto l581;
+}
+j0 = v25;
+j1 = v3;
+j2 = UINT64_C(1);
+j1 = j1 + j2;
+v3 = j1;
+i0 = (j0 != j1);
+if (i0) { goto l583; }
+goto l580;
+l581:;
+j0 = v25;
+j1 = v5;
+i0 = (j0 <= j1);
+if (!i0) {
+j0 = v25;
+j1 = v5;
+j0 = j0 - j1;
 v3 = j0;
 i0 = (j0 == 0);
 if (!i0) {
-j0 = v1;
-j1 = UINT64_C(237928);
+j0 = v2;
+j1 = v5;
 j0 = j0 + j1;
 i1 = UINT32_C(0);
 j2 = v3;
 fill(m, j0, i1, j2);
 }
+j0 = v10;
+j1 = UINT64_C(168);
+j0 = j0 + j1;
+j1 = v5;
+p387 = write_at(j0, m, 8u);
+store64(p387 + 0, j1);
+}
+l580:;
+j0 = v10;
+j1 = UINT64_C(176);
+j0 = j0 + j1;
+v25 = j0;
+j0 = v10;
+j1 = UINT64_C(192);
+j0 = j0 + j1;
+p388 = read_at(j0, m, 8u);
+j0 = load64(p388 + 0);
+v5 = j0;
+i0 = (j0 == 0);
+i0 = (i0 == 0);
+if (!i0) {
+j0 = UINT64_C(0);
+v2 = j0;
+goto l586;
+}
+j0 = v6;
+j0 = load64(p368 + 16);
+v2 = j0;
+j0 = UINT64_C(0);
+v3 = j0;
+l588:;
+j0 = v2;
+j1 = v3;
+i0 = (j0 == j1);
+if (i0) { goto l586; }
+j0 = v25;
+j1 = v3;
+j0 = j0 + j1;
+p389 = read_at(j0, m, 1u);
+i0 = load8(p389 + 0);
+j1 = v6;
+j2 = UINT64_C(296);
+j1 = j1 + j2;
+j2 = v3;
+j1 = j1 + j2;
+p390 = read_at(j1, m, 1u);
+i1 = load8(p390 + 0);
+i0 = (i0 == i1);
+if (!i0) {
+j0 = v3;
+v2 = j0;
+goto l586;
+}
+j0 = v5;
+j1 = v3;
+j2 = UINT64_C(1);
+j1 = j1 + j2;
+v3 = j1;
+i0 = (j0 != j1);
+if (i0) { goto l588; }
+goto l578;
+l586:;
+j0 = v5;
+j1 = v2;
+i0 = (j0 <= j1);
+if (!i0) {
+j0 = v5;
+j1 = v2;
+j0 = j0 - j1;
+v3 = j0;
+i0 = (j0 == 0);
+if (!i0) {
+j0 = v25;
+j1 = v2;
+j0 = j0 + j1;
+i1 = UINT32_C(0);
+j2 = v3;
+fill(m, j0, i1, j2);
+}
+j0 = v10;
+j1 = UINT64_C(192);
+j0 = j0 + j1;
+j1 = v2;
+p391 = write_at(j0, m, 8u);
+store64(p391 + 0, j1);
+}
+l578:;
+j0 = v10;
+j1 = UINT64_C(200);
+j0 = j0 + j1;
+v3 = j0;
+j1 = v3;
+p392 = write_at(j1, m, 1u);
+i1 = load8(p392 + 0);
+i2 = UINT32_C(1);
+i1 = i1 + i2;
+v20 = i1;
+i2 = UINT32_C(255);
+i3 = v20;
+i4 = UINT32_C(255);
+i3 = (i3 < i4);
+i1 = i3 ? i1 : i2;
+store8(p392 + 0, i1);
+}
+}
+}
+l5:;
+i0 = v15;
+i1 = UINT32_C(2);
+i0 = (i0 != i1);
+if (!i0) {
+i0 = v28;
+v20 = i0;
+goto l2;
+}
+i0 = UINT32_C(1);
+v20 = i0;
+i0 = v28;
+i1 = UINT32_C(1);
+i0 = (i0 == i1);
+if (i0) { goto l3; }
+i0 = v28;
+v20 = i0;
+l4:;
+i0 = v24;
+v32 = i0;
+j0 = v23;
+v31 = j0;
+i0 = v22;
+v33 = i0;
+i0 = v21;
+v34 = i0;
+goto l2;
+l3:;
 j0 = v1;
-j1 = UINT64_C(238056);
+j1 = UINT64_C(75553);
+j0 = j0 + j1;
+p393 = read_at(j0 + UINT64_C(18446744073709551599), m, 18u);
+i0 = load8(p393 + 17);
+v34 = i0;
+j0 = v1;
+j1 = UINT64_C(75552);
+j0 = j0 + j1;
+i0 = load8(p393 + 16);
+v33 = i0;
+j0 = v1;
+j1 = UINT64_C(75544);
+j0 = j0 + j1;
+j0 = load64(p393 + 8);
+v31 = j0;
+j0 = v1;
+j1 = UINT64_C(75536);
+j0 = j0 + j1;
+i0 = load8(p393 + 0);
+v32 = i0;
+l2:;
+j0 = v0;
+i1 = v20;
+p394 = write_at(j0, m, 56u);
+store8(p394 + 8, i1);
+j0 = v0;
+j1 = v19;
+store64(p394 + 0, j1);
+j0 = v0;
+j1 = v6;
+p395 = read_at(j1 + UINT64_C(208), m, 38u);
+i1 = load32(p395 + 32);
+store32(p394 + 10, i1);
+j0 = v0;
+j1 = v6;
+i1 = load16(p395 + 36);
+store16(p394 + 14, i1);
+j0 = v0;
+j1 = UINT64_C(0);
+store64(p394 + 16, j1);
+j0 = v0;
+j1 = UINT64_C(0);
+store64(p394 + 24, j1);
+j0 = v0;
+i1 = v34;
+store8(p394 + 49, i1);
+j0 = v0;
+i1 = v33;
+store8(p394 + 48, i1);
+j0 = v0;
+j1 = v6;
+i1 = load32(p395 + 24);
+store32(p394 + 50, i1);
+j0 = v0;
+j1 = v6;
+i1 = load16(p395 + 28);
+store16(p394 + 54, i1);
+j0 = v0;
+i1 = UINT32_C(10);
+i2 = v8;
+i3 = v14;
+i4 = UINT32_C(1);
+i3 = i3 & i4;
+i1 = i3 ? i1 : i2;
+i2 = v8;
+i3 = v20;
+i4 = UINT32_C(4294967291);
+i3 = i3 + i4;
+i4 = UINT32_C(4294967294);
+i3 = (i3 < i4);
+i1 = i3 ? i1 : i2;
+store8(p394 + 9, i1);
+j0 = v0;
+j1 = v31;
+j2 = v6;
+j2 = load64(p395 + 8);
+i3 = v32;
+i4 = UINT32_C(255);
+i3 = i3 & i4;
+i4 = UINT32_C(1);
+i3 = (i3 == i4);
+v20 = i3;
+j1 = i3 ? j1 : j2;
+store64(p394 + 40, j1);
+j0 = v0;
+i1 = UINT32_C(1);
+j2 = v6;
+i2 = load8(p395 + 0);
+i3 = v20;
+i1 = i3 ? i1 : i2;
+j1 = (uint64_t)i1;
+j2 = UINT64_C(255);
+j1 = j1 & j2;
+store64(p394 + 32, j1);
+j0 = v6;
+j1 = UINT64_C(2416);
+j0 = j0 + j1;
+m->g0 = j0;
+}
+static uint32_t fio_guess_words_may_begin(struct machine *m, uint64_t v0, uint64_t v1, uint64_t v2)
+{
+uint32_t v3 = 0;
+uint32_t v4 = 0;
+uint64_t v5 = 0;
+uint32_t v6 = 0;
+uint32_t v7 = 0;
+uint32_t i0;
+uint32_t i1;
+uint32_t i2;
+uint32_t i3;
+uint64_t j0;
+uint64_t j1;
+uint32_t r = 0;
+uint8_t *p1;
+uint8_t *p2;
+uint8_t *p3;
+uint8_t *p4;
+uint8_t *p5;
+uint8_t *p6;
+uint8_t *p7;
+uint8_t *p8;
+uint8_t *p9;
+j0 = m->g0;
+j1 = UINT64_C(16);
+i0 = (SIGNED64(j0) < SIGNED64(j1));
+if (!i0) {
+j0 = v2;
+i0 = (j0 == 0);
+i0 = (i0 == 0);
+if (!i0) {
+i0 = UINT32_C(32);
+v3 = i0;
+goto l5;
+}
+j0 = v0;
+j1 = v2;
+j0 = j0 + j1;
+j1 = UINT64_C(18446744073709551615);
+j0 = j0 + j1;
+p1 = read_at(j0, m, 1u);
+i0 = load8(p1 + 0);
+v3 = i0;
+l5:;
+i0 = UINT32_C(0);
+v4 = i0;
+j0 = v2;
+j1 = UINT64_C(1);
+j0 = j0 + j1;
+v5 = j0;
+j1 = v1;
+i0 = (j0 >= j1);
+if (!i0) {
+j0 = v0;
+j1 = v5;
+j0 = j0 + j1;
+p2 = read_at(j0, m, 1u);
+i0 = load8(p2 + 0);
+v4 = i0;
+}
+j0 = v0;
+j1 = v2;
+j0 = j0 + j1;
+v5 = j0;
+p3 = read_at(j0, m, 1u);
+i0 = load8(p3 + 0);
+v6 = i0;
+i1 = UINT32_C(48);
+i0 = (i0 < i1);
+if (!i0) {
+i0 = v6;
+i1 = UINT32_C(58);
+i0 = (i0 < i1);
+if (!i0) {
+i0 = v6;
+i1 = UINT32_C(65);
+i0 = (i0 < i1);
+if (i0) { goto l9; }
+i0 = v6;
+i1 = UINT32_C(71);
+i0 = (i0 < i1);
+if (!i0) {
+i0 = v6;
+i1 = UINT32_C(4294967199);
+i0 = i0 + i1;
+i1 = UINT32_C(255);
+i0 = i0 & i1;
+i1 = UINT32_C(5);
+i0 = (i0 > i1);
+if (i0) { goto l9; }
+}
+}
+i0 = UINT32_C(1);
+v7 = i0;
+i0 = v3;
+i1 = UINT32_C(255);
+i0 = i0 & i1;
+v6 = i0;
+i1 = UINT32_C(48);
+i0 = (i0 < i1);
+if (i0) { goto l8; }
+i0 = v6;
+i1 = UINT32_C(58);
+i0 = (i0 < i1);
+if (!i0) {
+i0 = v3;
+i1 = UINT32_C(255);
+i0 = i0 & i1;
+v6 = i0;
+i1 = UINT32_C(65);
+i0 = (i0 < i1);
+if (i0) { goto l8; }
+i0 = v6;
+i1 = UINT32_C(71);
+i0 = (i0 < i1);
+if (!i0) {
+i0 = v3;
+i1 = UINT32_C(4294967193);
+i0 = i0 + i1;
+i1 = UINT32_C(255);
+i0 = i0 & i1;
+i1 = UINT32_C(250);
+i0 = (i0 < i1);
+if (i0) { goto l8; }
+}
+}
+j0 = v2;
+j1 = UINT64_C(2);
+i0 = (j0 < j1);
+if (!i0) {
+j0 = v2;
+j1 = UINT64_C(2);
+i0 = (j0 != j1);
+if (!i0) {
+j0 = v0;
+p4 = read_at(j0, m, 1u);
+i0 = load8(p4 + 0);
+i1 = UINT32_C(48);
+i0 = (i0 != i1);
+if (i0) { goto l12; }
+j0 = v0;
+p5 = read_at(j0 + UINT64_C(1), m, 1u);
+i0 = load8(p5 + 0);
+i1 = UINT32_C(98);
+i0 = (i0 != i1);
+if (i0) { goto l12; }
+goto l8;
+}
+j0 = v5;
+j1 = UINT64_C(18446744073709551614);
+j0 = j0 + j1;
+p6 = read_at(j0, m, 2u);
+i0 = load8(p6 + 0);
+v6 = i0;
+j0 = v5;
+j1 = UINT64_C(18446744073709551615);
+j0 = j0 + j1;
+i0 = load8(p6 + 1);
+v4 = i0;
+i1 = UINT32_C(98);
+i0 = (i0 != i1);
+if (!i0) {
+i0 = v6;
+i1 = UINT32_C(4294967261);
+i0 = i0 + i1;
+switch (i0) {
+case 0:
+goto l14;
+case 1:
+goto l12;
+case 2:
+goto l12;
+case 3:
+goto l12;
+case 4:
+goto l12;
+case 5:
+goto l12;
+case 6:
+goto l12;
+case 7:
+goto l12;
+case 8:
+goto l12;
+case 9:
+goto l12;
+case 10:
+goto l12;
+case 11:
+goto l12;
+case 12:
+goto l12;
+case 13:
+goto l8;
+default:
+goto l12;
+}
+}
+i0 = v6;
+i1 = UINT32_C(35);
+i0 = (i0 != i1);
+if (i0) { goto l12; }
+j0 = v5;
+j1 = UINT64_C(18446744073709551613);
+j0 = j0 + j1;
+p7 = read_at(j0, m, 1u);
+i0 = load8(p7 + 0);
+i1 = UINT32_C(35);
+i0 = (i0 != i1);
+if (i0) { goto l12; }
+i0 = UINT32_C(16);
+v6 = i0;
+i0 = v4;
+i1 = UINT32_C(48);
+i0 = (i0 < i1);
+if (i0) { goto l2; }
+i0 = v4;
+i1 = UINT32_C(57);
+i0 = (i0 > i1);
+if (!i0) {
+i0 = v4;
+i1 = UINT32_C(4294967248);
+i0 = i0 + i1;
+v6 = i0;
+goto l2;
+}
+i0 = v4;
+i1 = UINT32_C(65);
+i0 = (i0 < i1);
+if (i0) { goto l2; }
+i0 = v4;
+i1 = UINT32_C(70);
+i0 = (i0 > i1);
+if (i0) { goto l3; }
+i0 = v4;
+i1 = UINT32_C(4294967241);
+i0 = i0 + i1;
+v6 = i0;
+goto l2;
+l14:;
+j0 = v5;
+j1 = UINT64_C(18446744073709551613);
+j0 = j0 + j1;
+p8 = read_at(j0, m, 1u);
+i0 = load8(p8 + 0);
+i1 = UINT32_C(35);
+i0 = (i0 == i1);
+if (i0) { goto l3; }
+}
+l12:;
+i0 = UINT32_C(0);
+r = i0;
+return r;
+}
+l9:;
+i0 = UINT32_C(0);
+v7 = i0;
+i0 = v6;
+i1 = UINT32_C(4294967264);
+i0 = i0 + i1;
+switch (i0) {
+case 0:
+goto l17;
+case 1:
+goto l8;
+case 2:
+goto l8;
+case 3:
+goto l8;
+case 4:
+goto l8;
+case 5:
+goto l8;
+case 6:
+goto l8;
+case 7:
+goto l8;
+case 8:
+goto l8;
+case 9:
+goto l8;
+case 10:
+goto l8;
+case 11:
+goto l8;
+case 12:
+goto l8;
+case 13:
+goto l18;
+default:
+goto l8;
+}
+l18:;
+i0 = v4;
+i1 = UINT32_C(4294967248);
+i0 = i0 + i1;
+i1 = UINT32_C(255);
+i0 = i0 & i1;
+i1 = UINT32_C(9);
+i0 = (i0 <= i1);
+if (!i0) {
+i0 = UINT32_C(0);
+r = i0;
+return r;
+}
+i0 = v3;
+i1 = UINT32_C(255);
+i0 = i0 & i1;
+i1 = UINT32_C(95);
+i0 = (i0 == i1);
+if (!i0) {
+i0 = UINT32_C(1);
+v7 = i0;
+i0 = v3;
+i1 = UINT32_C(255);
+i0 = i0 & i1;
+v6 = i0;
+i1 = UINT32_C(48);
+i0 = (i0 < i1);
+if (i0) { goto l8; }
+i0 = v6;
+i1 = UINT32_C(58);
+i0 = (i0 < i1);
+if (!i0) {
+i0 = v3;
+i1 = UINT32_C(255);
+i0 = i0 & i1;
+v6 = i0;
+i1 = UINT32_C(65);
+i0 = (i0 < i1);
+if (i0) { goto l8; }
+i0 = v6;
+i1 = UINT32_C(91);
+i0 = (i0 < i1);
+if (!i0) {
+i0 = v3;
+i1 = UINT32_C(4294967199);
+i0 = i0 + i1;
+i1 = UINT32_C(255);
+i0 = i0 & i1;
+i1 = UINT32_C(25);
+i0 = (i0 > i1);
+if (i0) { goto l8; }
+}
+}
+}
+i0 = UINT32_C(0);
+r = i0;
+return r;
+l17:;
+i0 = UINT32_C(0);
+v7 = i0;
+i0 = UINT32_C(0);
+v6 = i0;
+j0 = v2;
+j1 = UINT64_C(2);
+j0 = j0 + j1;
+v2 = j0;
+j1 = v1;
+i0 = (j0 >= j1);
+if (!i0) {
+j0 = v0;
+j1 = v2;
+j0 = j0 + j1;
+p9 = read_at(j0, m, 1u);
+i0 = load8(p9 + 0);
+i1 = UINT32_C(4294967248);
+i0 = i0 + i1;
+i1 = UINT32_C(255);
+i0 = i0 & i1;
+i1 = UINT32_C(10);
+i0 = (i0 < i1);
+v6 = i0;
+}
+i0 = v3;
+i1 = UINT32_C(255);
+i0 = i0 & i1;
+i1 = UINT32_C(4294967264);
+i0 = i0 + i1;
+v3 = i0;
+i1 = UINT32_C(59);
+i0 = (i0 > i1);
+if (!i0) {
+j0 = UINT64_C(1);
+i1 = v3;
+j1 = (uint64_t)i1;
+j0 = j0 << (j1 & 63);
+j1 = UINT64_C(576460752303427841);
+j0 = j0 & j1;
+j1 = UINT64_C(0);
+i0 = (j0 == j1);
+if (!i0) {
+i0 = UINT32_C(1);
+v7 = i0;
+i0 = v4;
+i1 = UINT32_C(4294967248);
+i0 = i0 + i1;
+i1 = UINT32_C(255);
+i0 = i0 & i1;
+i1 = UINT32_C(10);
+i0 = (i0 < i1);
+if (!i0) {
+i0 = v4;
+i1 = UINT32_C(255);
+i0 = i0 & i1;
+i1 = UINT32_C(32);
+i0 = (i0 == i1);
+i1 = v6;
+i0 = i0 & i1;
+v7 = i0;
+}
+}
+}
+l8:;
+i0 = v7;
+r = i0;
+return r;
+}
+fio2070_trap();
+l3:;
+i0 = v4;
+i1 = UINT32_C(4294967209);
+i0 = i0 + i1;
+i1 = UINT32_C(16);
+i2 = v4;
+i3 = UINT32_C(4294967199);
+i2 = i2 + i3;
+i3 = UINT32_C(255);
+i2 = i2 & i3;
+i3 = UINT32_C(6);
+i2 = (i2 < i3);
+i0 = i2 ? i0 : i1;
+v6 = i0;
+l2:;
+i0 = v6;
+i1 = UINT32_C(255);
+i0 = i0 & i1;
+i1 = UINT32_C(16);
+i0 = (i0 != i1);
+r = i0;
+return r;
+}
+static void fio_form_octets_run_in(struct machine *m, uint64_t v0, uint32_t v1, uint32_t v2, uint64_t v3, uint64_t v4, uint64_t v5, uint64_t v6, uint64_t v7)
+{
+uint64_t v8 = 0;
+uint64_t v9 = 0;
+uint32_t v10 = 0;
+uint32_t v11 = 0;
+uint64_t v12 = 0;
+uint64_t v13 = 0;
+uint64_t v14 = 0;
+uint64_t v15 = 0;
+uint64_t v16 = 0;
+uint64_t v17 = 0;
+uint32_t i0;
+uint32_t i1;
+uint32_t i2;
+uint32_t i4;
+uint32_t i5;
+uint64_t j0;
+uint64_t j1;
+uint64_t j2;
+uint64_t j3;
+uint64_t j4;
+uint64_t j6;
+uint64_t j7;
+uint64_t j8;
+uint64_t j9;
+uint8_t *p1;
+uint8_t *p2;
+uint8_t *p3;
+uint8_t *p4;
+uint8_t *p5;
+uint8_t *p6;
+uint8_t *p7;
+uint8_t *p8;
+uint8_t *p9;
+uint8_t *p10;
+uint8_t *p11;
+uint8_t *p12;
+uint8_t *p13;
+uint8_t *p14;
+uint8_t *p15;
+uint8_t *p16;
+uint8_t *p17;
+j0 = m->g0;
+j1 = UINT64_C(16);
+j0 = j0 - j1;
+p1 = write_at(j0, m, 16u);
+v8 = j0;
+m->g0 = j0;
+j0 = v8;
+v9 = j0;
+j1 = UINT64_C(16);
+i0 = (SIGNED64(j0) < SIGNED64(j1));
+if (!i0) {
+j0 = v9;
+i1 = UINT32_C(0);
+store8(p1 + 12, i1);
+j0 = v9;
+i1 = UINT32_C(0);
+store32(p1 + 8, i1);
+j0 = v7;
+j1 = UINT64_C(2048);
+j0 = j0 + j1;
+p2 = read_at(j0, m, 8u);
+j0 = load64(p2 + 0);
+v8 = j0;
+i0 = (j0 == 0);
+v10 = i0;
+if (!i0) {
+i0 = v10;
+if (!i0) {
+j0 = v7;
+i1 = UINT32_C(0);
+j2 = v8;
+fill(m, j0, i1, j2);
+}
+j0 = v7;
+j1 = UINT64_C(2048);
 j0 = j0 + j1;
 j1 = UINT64_C(0);
-store64(p315 + 168416, j1);
+p3 = write_at(j0, m, 8u);
+store64(p3 + 0, j1);
 }
+j0 = v9;
+i1 = UINT32_C(0);
+store8(p1 + 15, i1);
+j0 = v9;
+i1 = UINT32_C(0);
+store16(p1 + 13, i1);
+i0 = UINT32_C(1);
+v11 = i0;
+j0 = UINT64_C(0);
+v12 = j0;
+j0 = v6;
+i0 = (j0 == 0);
+if (i0) { goto l2; }
+j0 = v4;
+i0 = (j0 == 0);
+if (i0) { goto l2; }
+j0 = v3;
+j1 = UINT64_C(2);
+j0 = j0 + j1;
+v13 = j0;
+j0 = UINT64_C(0);
+v12 = j0;
+j0 = UINT64_C(0);
+v14 = j0;
+j0 = UINT64_C(0);
+v15 = j0;
+j0 = UINT64_C(0);
+v8 = j0;
+l7:;
+j0 = v5;
+j1 = v8;
+j2 = UINT64_C(1);
+j1 = j1 + j2;
+v16 = j1;
+j0 = j0 + j1;
+v17 = j0;
+j0 = v5;
+j1 = v8;
+j0 = j0 + j1;
+p4 = read_at(j0, m, 1u);
+i0 = load8(p4 + 0);
+v10 = i0;
+j0 = v3;
+j1 = v15;
+j2 = UINT64_C(1);
+j1 = j1 << (j2 & 63);
+j0 = j0 + j1;
+v8 = j0;
+p5 = read_at(j0, m, 1u);
+j0 = load8(p5 + 0);
+i0 = (uint32_t)j0;
+switch (i0) {
+case 0:
+goto l12;
+case 1:
+goto l15;
+case 2:
+goto l14;
+default:
+goto l12;
+}
+l15:;
+j0 = v8;
+j1 = UINT64_C(1);
+j0 = j0 + j1;
+p6 = read_at(j0, m, 1u);
+i0 = load8(p6 + 0);
+i1 = v10;
+i2 = UINT32_C(255);
+i1 = i1 & i2;
+i0 = (i0 == i1);
+if (i0) { goto l13; }
+goto l2;
+l14:;
+i0 = v10;
+i1 = UINT32_C(255);
+i0 = i0 & i1;
+i1 = UINT32_C(32);
+i0 = (i0 != i1);
+if (i0) { goto l2; }
+l13:;
+j0 = v15;
+j1 = UINT64_C(1);
+j0 = j0 + j1;
+v8 = j0;
+j1 = v4;
+i0 = (j0 >= j1);
+if (i0) { goto l9; }
+j0 = v6;
+j1 = v16;
+i0 = (j0 == j1);
+if (i0) { goto l11; }
+j0 = v13;
+j1 = v15;
+j2 = UINT64_C(1);
+j1 = j1 << (j2 & 63);
+j0 = j0 + j1;
+v15 = j0;
+l16:;
+j0 = v15;
+p7 = read_at(j0, m, 1u);
+i0 = load8(p7 + 0);
+i1 = UINT32_C(2);
+i0 = (i0 != i1);
+if (i0) { goto l9; }
+j0 = v17;
+p8 = read_at(j0, m, 1u);
+i0 = load8(p8 + 0);
+i1 = UINT32_C(32);
+i0 = (i0 == i1);
+if (i0) { goto l9; }
+j0 = v15;
+j1 = UINT64_C(2);
+j0 = j0 + j1;
+v15 = j0;
+j0 = v4;
+j1 = v8;
+j2 = UINT64_C(1);
+j1 = j1 + j2;
+v8 = j1;
+i0 = (j0 != j1);
+if (i0) { goto l16; }
+goto l10;
+l12:;
+j0 = v9;
+j1 = UINT64_C(8);
+j0 = j0 + j1;
+i1 = v1;
+i2 = v2;
+j3 = v9;
+j4 = UINT64_C(13);
+j3 = j3 + j4;
+i4 = v10;
+i5 = v1;
+j6 = v9;
+j7 = UINT64_C(13);
+j6 = j6 + j7;
+j7 = v17;
+j8 = v6;
+j9 = v16;
+j8 = j8 - j9;
+i5 = fio_form_octets_makes_longer(m, i5, j6, j7, j8);
+fio_form_octets_next_in(m, j0, i1, i2, j3, i4, i5);
+j0 = v9;
+j0 = load8(p1 + 8);
+i0 = (uint32_t)j0;
+switch (i0) {
+case 0:
+goto l19;
+case 1:
+goto l18;
+case 2:
+goto l17;
+case 3:
+goto l2;
+default:
+goto l19;
+}
+l19:;
+j0 = v9;
+j1 = v9;
+i1 = load8(p1 + 11);
+store8(p1 + 15, i1);
+j0 = v9;
+j1 = v9;
+i1 = load16(p1 + 9);
+store16(p1 + 13, i1);
+goto l8;
+l18:;
+j0 = v14;
+j1 = UINT64_C(2048);
+i0 = (j0 == j1);
+if (i0) { goto l3; }
+j0 = v7;
+j1 = v14;
+j0 = j0 + j1;
+j1 = v9;
+i1 = load8(p1 + 9);
+p9 = write_at(j0, m, 1u);
+store8(p9 + 0, i1);
+j0 = v7;
+j1 = UINT64_C(2048);
+j0 = j0 + j1;
+j1 = v14;
+j2 = UINT64_C(1);
+j1 = j1 + j2;
+v14 = j1;
+p10 = write_at(j0, m, 8u);
+store64(p10 + 0, j1);
+j0 = v15;
+j1 = UINT64_C(1);
+j0 = j0 + j1;
+v8 = j0;
+j1 = v4;
+i0 = (j0 >= j1);
+if (!i0) {
+j0 = v6;
+j1 = v16;
+i0 = (j0 == j1);
+if (!i0) {
+j0 = v13;
+j1 = v15;
+j2 = UINT64_C(1);
+j1 = j1 << (j2 & 63);
+j0 = j0 + j1;
+v15 = j0;
+l23:;
+j0 = v15;
+p11 = read_at(j0, m, 1u);
+i0 = load8(p11 + 0);
+i1 = UINT32_C(2);
+i0 = (i0 != i1);
+if (i0) { goto l20; }
+j0 = v17;
+p12 = read_at(j0, m, 1u);
+i0 = load8(p12 + 0);
+i1 = UINT32_C(32);
+i0 = (i0 == i1);
+if (i0) { goto l20; }
+j0 = v15;
+j1 = UINT64_C(2);
+j0 = j0 + j1;
+v15 = j0;
+j0 = v4;
+j1 = v8;
+j2 = UINT64_C(1);
+j1 = j1 + j2;
+v8 = j1;
+i0 = (j0 != j1);
+if (i0) { goto l23; }
+goto l21;
+}
+j0 = v13;
+j1 = v15;
+j2 = UINT64_C(1);
+j1 = j1 << (j2 & 63);
+j0 = j0 + j1;
+v15 = j0;
+l24:;
+j0 = v15;
+p13 = read_at(j0, m, 1u);
+i0 = load8(p13 + 0);
+i1 = UINT32_C(2);
+i0 = (i0 != i1);
+if (i0) { goto l20; }
+j0 = v15;
+j1 = UINT64_C(2);
+j0 = j0 + j1;
+v15 = j0;
+j0 = v4;
+j1 = v8;
+j2 = UINT64_C(1);
+j1 = j1 + j2;
+v8 = j1;
+i0 = (j0 != j1);
+if (i0) { goto l24; }
+l21:;
+j0 = v4;
+v8 = j0;
+}
+l20:;
+j0 = v9;
+i1 = UINT32_C(0);
+store8(p1 + 15, i1);
+j0 = v9;
+i1 = UINT32_C(0);
+store16(p1 + 13, i1);
+j0 = UINT64_C(0);
+j1 = v8;
+j2 = v8;
+j3 = v4;
+i2 = (j2 == j3);
+j0 = i2 ? j0 : j1;
+v15 = j0;
+j0 = v16;
+v12 = j0;
+goto l8;
+l17:;
+j0 = v14;
+j1 = UINT64_C(2048);
+i0 = (j0 == j1);
+if (i0) { goto l3; }
+j0 = v7;
+j1 = v14;
+j0 = j0 + j1;
+j1 = v9;
+i1 = load8(p1 + 9);
+p14 = write_at(j0, m, 1u);
+store8(p14 + 0, i1);
+j0 = v7;
+j1 = UINT64_C(2048);
+j0 = j0 + j1;
+j1 = v14;
+j2 = UINT64_C(1);
+j1 = j1 + j2;
+v14 = j1;
+p15 = write_at(j0, m, 8u);
+store64(p15 + 0, j1);
+j0 = v9;
+j1 = v9;
+i1 = load8(p1 + 12);
+store8(p1 + 15, i1);
+j0 = v9;
+j1 = v9;
+i1 = load16(p1 + 10);
+store16(p1 + 13, i1);
+j0 = v16;
+v12 = j0;
+goto l8;
+l11:;
+j0 = v13;
+j1 = v15;
+j2 = UINT64_C(1);
+j1 = j1 << (j2 & 63);
+j0 = j0 + j1;
+v15 = j0;
+l25:;
+j0 = v15;
+p16 = read_at(j0, m, 1u);
+i0 = load8(p16 + 0);
+i1 = UINT32_C(2);
+i0 = (i0 != i1);
+if (i0) { goto l9; }
+j0 = v15;
+j1 = UINT64_C(2);
+j0 = j0 + j1;
+v15 = j0;
+j0 = v4;
+j1 = v8;
+j2 = UINT64_C(1);
+j1 = j1 + j2;
+v8 = j1;
+i0 = (j0 != j1);
+if (i0) { goto l25; }
+l10:;
+j0 = v4;
+v8 = j0;
+l9:;
+j0 = v9;
+i1 = UINT32_C(0);
+store8(p1 + 15, i1);
+j0 = v9;
+i1 = UINT32_C(0);
+store16(p1 + 13, i1);
+j0 = UINT64_C(0);
+j1 = v8;
+j2 = v8;
+j3 = v4;
+i2 = (j2 == j3);
+j0 = i2 ? j0 : j1;
+v15 = j0;
+l8:;
+j0 = v6;
+j1 = v16;
+i0 = (j0 <= j1);
+if (i0) { goto l2; }
+j0 = v16;
+v8 = j0;
+j0 = v15;
+j1 = v4;
+i0 = (j0 < j1);
+if (i0) { goto l7; }
+goto l2;
+}
+fio2070_trap();
+l3:;
+i0 = UINT32_C(0);
+v11 = i0;
+j0 = UINT64_C(0);
+v12 = j0;
+l2:;
+j0 = v0;
+j1 = v12;
+p17 = write_at(j0, m, 16u);
+store64(p17 + 8, j1);
+j0 = v0;
+i1 = v11;
+store8(p17 + 0, i1);
+j0 = v9;
+j1 = UINT64_C(16);
+j0 = j0 + j1;
+m->g0 = j0;
+}
+static void fio_form_message_size_of(struct machine *m, uint64_t v0, uint64_t v1, uint64_t v2)
+{
+uint32_t v3 = 0;
+uint32_t v4 = 0;
+uint32_t i0;
+uint32_t i1;
+uint64_t j0;
+uint64_t j1;
+uint8_t *p1;
+uint8_t *p2;
+uint8_t *p3;
+uint8_t *p4;
+uint8_t *p5;
+j0 = m->g0;
+j1 = UINT64_C(16);
+i0 = (SIGNED64(j0) < SIGNED64(j1));
+if (!i0) {
+i0 = UINT32_C(0);
+v3 = i0;
+j0 = v2;
+j1 = UINT64_C(1);
+i0 = (j0 > j1);
+if (!i0) {
+j0 = v2;
+i0 = (uint32_t)j0;
+switch (i0) {
+case 0:
+goto l3;
+case 1:
+goto l12;
+default:
+goto l3;
+}
+l12:;
+i0 = UINT32_C(1);
+v3 = i0;
+j0 = v1;
+p1 = read_at(j0, m, 1u);
+i0 = load8(p1 + 0);
+v4 = i0;
+i1 = UINT32_C(4294967247);
+i0 = i0 + i1;
+switch (i0) {
+case 0:
+goto l4;
+case 1:
+goto l5;
+case 2:
+goto l6;
+case 3:
+goto l13;
+case 4:
+goto l13;
+case 5:
+goto l4;
+case 6:
+goto l8;
+case 7:
+goto l13;
+case 8:
+goto l13;
+case 9:
+goto l4;
+case 10:
+goto l9;
+case 11:
+goto l7;
+default:
+goto l14;
+}
+l14:;
+j0 = UINT64_C(8);
+v2 = j0;
+i0 = v4;
+i1 = UINT32_C(4294967119);
+i0 = i0 + i1;
+switch (i0) {
+case 0:
+goto l3;
+case 1:
+goto l13;
+case 2:
+goto l13;
+case 3:
+goto l13;
+case 4:
+goto l13;
+case 5:
+goto l6;
+case 6:
+goto l13;
+case 7:
+goto l13;
+case 8:
+goto l13;
+case 9:
+goto l4;
+default:
+goto l13;
+}
+l13:;
+j0 = UINT64_C(0);
+v2 = j0;
+i0 = v4;
+i1 = UINT32_C(49);
+i0 = (i0 >= i1);
+if (!i0) {
+i0 = UINT32_C(3);
+v3 = i0;
+goto l3;
+}
+i0 = v4;
+i1 = UINT32_C(54);
+i0 = (i0 < i1);
+if (i0) { goto l7; }
+i0 = v4;
+i1 = UINT32_C(58);
+i0 = (i0 < i1);
+if (i0) { goto l9; }
+i0 = v4;
+i1 = UINT32_C(177);
+i0 = (i0 >= i1);
+if (!i0) {
+i0 = UINT32_C(3);
+v3 = i0;
+goto l3;
+}
+i0 = v4;
+i1 = UINT32_C(180);
+i0 = (i0 < i1);
+if (i0) { goto l4; }
+i0 = v4;
+i1 = UINT32_C(182);
+i0 = (i0 >= i1);
+if (i0) { goto l10; }
+j0 = UINT64_C(13);
+v2 = j0;
+goto l3;
+}
+j0 = v1;
+p2 = read_at(j0, m, 1u);
+i0 = load8(p2 + 0);
+v4 = i0;
+j0 = v2;
+j1 = UINT64_C(2);
+i0 = (j0 > j1);
+if (!i0) {
+i0 = UINT32_C(1);
+v3 = i0;
+i0 = v4;
+i1 = UINT32_C(4294967247);
+i0 = i0 + i1;
+switch (i0) {
+case 0:
+goto l4;
+case 1:
+goto l5;
+case 2:
+goto l17;
+case 3:
+goto l19;
+case 4:
+goto l19;
+case 5:
+goto l4;
+case 6:
+goto l8;
+case 7:
+goto l19;
+case 8:
+goto l19;
+case 9:
+goto l4;
+case 10:
+goto l9;
+case 11:
+goto l7;
+default:
+goto l20;
+}
+l20:;
+j0 = UINT64_C(8);
+v2 = j0;
+i0 = v4;
+i1 = UINT32_C(4294967119);
+i0 = i0 + i1;
+switch (i0) {
+case 0:
+goto l3;
+case 1:
+goto l19;
+case 2:
+goto l19;
+case 3:
+goto l19;
+case 4:
+goto l19;
+case 5:
+goto l6;
+case 6:
+goto l19;
+case 7:
+goto l19;
+case 8:
+goto l19;
+case 9:
+goto l4;
+default:
+goto l19;
+}
+l19:;
+j0 = UINT64_C(0);
+v2 = j0;
+i0 = v4;
+i1 = UINT32_C(49);
+i0 = (i0 >= i1);
+if (!i0) {
+i0 = UINT32_C(3);
+v3 = i0;
+goto l3;
+}
+i0 = v4;
+i1 = UINT32_C(54);
+i0 = (i0 < i1);
+if (i0) { goto l7; }
+i0 = v4;
+i1 = UINT32_C(58);
+i0 = (i0 < i1);
+if (i0) { goto l9; }
+i0 = v4;
+i1 = UINT32_C(177);
+i0 = (i0 >= i1);
+if (!i0) {
+i0 = UINT32_C(3);
+v3 = i0;
+goto l3;
+}
+i0 = v4;
+i1 = UINT32_C(180);
+i0 = (i0 < i1);
+if (i0) { goto l4; }
+i0 = v4;
+i1 = UINT32_C(182);
+i0 = (i0 >= i1);
+if (!i0) {
+j0 = UINT64_C(13);
+v2 = j0;
+goto l3;
+}
+i0 = UINT32_C(3);
+v3 = i0;
+i0 = v4;
+i1 = UINT32_C(189);
+i0 = (i0 < i1);
+if (i0) { goto l9; }
+goto l3;
+}
+i0 = UINT32_C(1);
+v3 = i0;
+i0 = v4;
+i1 = UINT32_C(4294967247);
+i0 = i0 + i1;
+switch (i0) {
+case 0:
+goto l4;
+case 1:
+goto l5;
+case 2:
+goto l17;
+case 3:
+goto l24;
+case 4:
+goto l24;
+case 5:
+goto l4;
+case 6:
+goto l8;
+case 7:
+goto l24;
+case 8:
+goto l24;
+case 9:
+goto l4;
+case 10:
+goto l9;
+case 11:
+goto l7;
+default:
+goto l25;
+}
+l25:;
+j0 = UINT64_C(8);
+v2 = j0;
+i0 = v4;
+i1 = UINT32_C(4294967119);
+i0 = i0 + i1;
+switch (i0) {
+case 0:
+goto l3;
+case 1:
+goto l24;
+case 2:
+goto l24;
+case 3:
+goto l24;
+case 4:
+goto l24;
+case 5:
+goto l26;
+case 6:
+goto l24;
+case 7:
+goto l24;
+case 8:
+goto l24;
+case 9:
+goto l4;
+default:
+goto l24;
+}
+l26:;
+j0 = v1;
+j1 = UINT64_C(2);
+j0 = j0 + j1;
+p3 = read_at(j0, m, 1u);
+j0 = load8(p3 + 0);
+j1 = UINT64_C(3);
+j0 = j0 * j1;
+j1 = UINT64_C(8);
+j0 = j0 + j1;
+v2 = j0;
+goto l3;
+l24:;
+j0 = UINT64_C(0);
+v2 = j0;
+i0 = v4;
+i1 = UINT32_C(49);
+i0 = (i0 >= i1);
+if (!i0) {
+i0 = UINT32_C(3);
+v3 = i0;
+goto l3;
+}
+i0 = v4;
+i1 = UINT32_C(54);
+i0 = (i0 < i1);
+if (i0) { goto l7; }
+i0 = v4;
+i1 = UINT32_C(58);
+i0 = (i0 < i1);
+if (i0) { goto l9; }
+i0 = v4;
+i1 = UINT32_C(177);
+i0 = (i0 >= i1);
+if (!i0) {
+i0 = UINT32_C(3);
+v3 = i0;
+goto l3;
+}
+i0 = v4;
+i1 = UINT32_C(180);
+i0 = (i0 < i1);
+if (i0) { goto l4; }
+i0 = v4;
+i1 = UINT32_C(182);
+i0 = (i0 >= i1);
+if (!i0) {
+j0 = UINT64_C(13);
+v2 = j0;
+goto l3;
+}
+i0 = UINT32_C(3);
+v3 = i0;
+i0 = v4;
+i1 = UINT32_C(189);
+i0 = (i0 < i1);
+if (i0) { goto l9; }
+goto l3;
+l17:;
+j0 = v1;
+j1 = UINT64_C(1);
+j0 = j0 + j1;
+p4 = read_at(j0, m, 1u);
+j0 = load8(p4 + 0);
+j1 = UINT64_C(3);
+j0 = j0 * j1;
+j1 = UINT64_C(2);
+j0 = j0 + j1;
+v2 = j0;
+i0 = UINT32_C(1);
+v3 = i0;
+goto l3;
+l10:;
+i0 = UINT32_C(3);
+v3 = i0;
+i0 = v4;
+i1 = UINT32_C(189);
+i0 = (i0 >= i1);
+if (i0) { goto l3; }
+l9:;
+i0 = UINT32_C(2);
+v3 = i0;
+j0 = UINT64_C(0);
+v2 = j0;
+goto l3;
+l8:;
+i0 = UINT32_C(1);
+v3 = i0;
+j0 = UINT64_C(17);
+v2 = j0;
+goto l3;
+l7:;
+i0 = UINT32_C(1);
+v3 = i0;
+j0 = UINT64_C(1);
+v2 = j0;
+goto l3;
+l6:;
+j0 = UINT64_C(0);
+v2 = j0;
+i0 = UINT32_C(0);
+v3 = i0;
+goto l3;
+l5:;
+i0 = UINT32_C(1);
+v3 = i0;
+j0 = UINT64_C(5);
+v2 = j0;
+goto l3;
+l4:;
+i0 = UINT32_C(1);
+v3 = i0;
+j0 = UINT64_C(2);
+v2 = j0;
+l3:;
+j0 = v0;
+j1 = v2;
+p5 = write_at(j0, m, 16u);
+store64(p5 + 8, j1);
+j0 = v0;
+i1 = v3;
+store8(p5 + 0, i1);
+return;
+}
+fio2070_trap();
+}
+static uint32_t fio_form_message_is_message(struct machine *m, uint64_t v0, uint64_t v1)
+{
+uint32_t v2 = 0;
+uint32_t v3 = 0;
+uint64_t v4 = 0;
+uint32_t v5 = 0;
+uint32_t v6 = 0;
+uint32_t i0;
+uint32_t i1;
+uint32_t i2;
+uint64_t j0;
+uint64_t j1;
+uint32_t r = 0;
+uint8_t *p1;
+uint8_t *p2;
+uint8_t *p3;
+j0 = m->g0;
+j1 = UINT64_C(16);
+i0 = (SIGNED64(j0) < SIGNED64(j1));
+if (!i0) {
+j0 = v1;
+i0 = (j0 == 0);
+i0 = (i0 == 0);
+if (!i0) {
+i0 = UINT32_C(0);
+r = i0;
+return r;
+}
+j0 = v0;
+p1 = read_at(j0, m, 1u);
+i0 = (uint32_t)extend(load8(p1 + 0), 7);
+v2 = i0;
+i1 = UINT32_C(255);
+i0 = i0 & i1;
+v3 = i0;
+i0 = v2;
+i1 = UINT32_C(0);
+i0 = (SIGNED32(i0) < SIGNED32(i1));
+if (!i0) {
+j0 = UINT64_C(2);
+v4 = j0;
+i0 = UINT32_C(1);
+v5 = i0;
+i0 = v3;
+i1 = UINT32_C(4294967247);
+i0 = i0 + i1;
+switch (i0) {
+case 0:
+goto l7;
+case 1:
+goto l14;
+case 2:
+goto l13;
+case 3:
+goto l11;
+case 4:
+goto l11;
+case 5:
+goto l7;
+case 6:
+goto l12;
+case 7:
+goto l11;
+case 8:
+goto l11;
+case 9:
+goto l7;
+case 10:
+goto l10;
+case 11:
+goto l9;
+default:
+goto l11;
+}
+l14:;
+j0 = UINT64_C(5);
+v4 = j0;
+goto l8;
+l13:;
+j0 = v1;
+j1 = UINT64_C(1);
+i0 = (j0 != j1);
+if (!i0) {
+j0 = UINT64_C(0);
+v0 = j0;
+j0 = UINT64_C(2);
+v4 = j0;
+goto l6;
+}
+j0 = v0;
+j1 = UINT64_C(1);
+j0 = j0 + j1;
+p2 = read_at(j0, m, 1u);
+j0 = load8(p2 + 0);
+j1 = UINT64_C(3);
+j0 = j0 * j1;
+j1 = UINT64_C(2);
+j0 = j0 + j1;
+v4 = j0;
+goto l8;
+l12:;
+j0 = UINT64_C(17);
+v4 = j0;
+goto l8;
+l11:;
+i0 = UINT32_C(0);
+v5 = i0;
+j0 = UINT64_C(0);
+v4 = j0;
+i0 = v2;
+i1 = UINT32_C(49);
+i0 = (i0 < i1);
+if (i0) { goto l7; }
+i0 = v2;
+i1 = UINT32_C(54);
+i0 = (i0 < i1);
+if (i0) { goto l9; }
+i0 = v2;
+i1 = UINT32_C(57);
+i0 = (i0 > i1);
+if (i0) { goto l7; }
+l10:;
+j0 = v1;
+v4 = j0;
+goto l8;
+l9:;
+j0 = UINT64_C(1);
+v4 = j0;
+l8:;
+i0 = UINT32_C(1);
+v5 = i0;
+l7:;
+i0 = UINT32_C(0);
+v6 = i0;
+j0 = v1;
+j1 = UINT64_C(773);
+i0 = (j0 > j1);
+if (i0) { goto l4; }
+i0 = v5;
+i0 = (i0 == 0);
+if (i0) { goto l4; }
+j0 = v1;
+j1 = UINT64_C(18446744073709551615);
+j0 = j0 + j1;
+v0 = j0;
+l6:;
+j0 = v4;
+j1 = v1;
+i0 = (j0 == j1);
+if (!i0) {
+i0 = UINT32_C(0);
+r = i0;
+return r;
+}
+i0 = v3;
+i1 = UINT32_C(60);
+i0 = (i0 > i1);
+if (i0) { goto l2; }
+i0 = UINT32_C(1);
+v6 = i0;
+j0 = UINT64_C(1);
+i1 = v3;
+j1 = (uint64_t)i1;
+v1 = j1;
+j0 = j0 << (j1 & 63);
+j1 = UINT64_C(2269251262241308672);
+j0 = j0 & j1;
+j1 = UINT64_C(0);
+i0 = (j0 != j1);
+if (i0) { goto l4; }
+j0 = v1;
+j1 = UINT64_C(55);
+i0 = (j0 != j1);
+if (i0) { goto l2; }
+j0 = v0;
+j1 = UINT64_C(7);
+i0 = (j0 <= j1);
+if (i0) { goto l2; }
+j0 = v0;
+j1 = UINT64_C(15);
+i0 = (j0 > j1);
+if (i0) { goto l4; }
+goto l2;
+}
+j0 = UINT64_C(8);
+v4 = j0;
+i0 = v3;
+i1 = UINT32_C(4294967119);
+i0 = i0 + i1;
+switch (i0) {
+case 0:
+goto l18;
+case 1:
+goto l21;
+case 2:
+goto l21;
+case 3:
+goto l21;
+case 4:
+goto l21;
+case 5:
+goto l22;
+case 6:
+goto l21;
+case 7:
+goto l21;
+case 8:
+goto l21;
+case 9:
+goto l20;
+default:
+goto l21;
+}
+l22:;
+j0 = UINT64_C(8);
+v4 = j0;
+j0 = v1;
+j1 = UINT64_C(3);
+i0 = (j0 < j1);
+if (i0) { goto l17; }
+j0 = v0;
+j1 = UINT64_C(2);
+j0 = j0 + j1;
+p3 = read_at(j0, m, 1u);
+j0 = load8(p3 + 0);
+j1 = UINT64_C(3);
+j0 = j0 * j1;
+j1 = UINT64_C(8);
+j0 = j0 + j1;
+v4 = j0;
+goto l18;
+l21:;
+i0 = UINT32_C(0);
+v6 = i0;
+i0 = v2;
+i1 = UINT32_C(4294967217);
+i0 = (i0 < i1);
+if (i0) { goto l4; }
+i0 = v2;
+i1 = UINT32_C(4294967220);
+i0 = (i0 < i1);
+if (!i0) {
+i0 = v2;
+i1 = UINT32_C(4294967222);
+i0 = (i0 >= i1);
+if (i0) { goto l19; }
+j0 = UINT64_C(13);
+v4 = j0;
+goto l18;
+}
+l20:;
+j0 = UINT64_C(2);
+v4 = j0;
+goto l18;
+l19:;
+j0 = v1;
+v4 = j0;
+i0 = v2;
+i1 = UINT32_C(4294967229);
+i0 = (i0 >= i1);
+if (i0) { goto l4; }
+l18:;
+j0 = v1;
+j1 = UINT64_C(773);
+i0 = (j0 <= j1);
+if (!i0) {
+i0 = UINT32_C(0);
+r = i0;
+return r;
+}
+l17:;
+j0 = v4;
+j1 = v1;
+i0 = (j0 == j1);
+if (!i0) {
+i0 = UINT32_C(0);
+r = i0;
+return r;
+}
+i0 = UINT32_C(1);
+v6 = i0;
+i0 = UINT32_C(1);
+i1 = v3;
+i2 = UINT32_C(4294967119);
+i1 = i1 + i2;
+v3 = i1;
+i0 = i0 << (i1 & 31);
+i1 = UINT32_C(4071);
+i0 = i0 & i1;
+if (!i0) {
+i0 = v3;
+i1 = UINT32_C(3);
+i0 = (i0 != i1);
+if (!i0) {
+j0 = v1;
+j1 = UINT64_C(8);
+i0 = (j0 <= j1);
+if (i0) { goto l2; }
+i0 = UINT32_C(1);
+r = i0;
+return r;
+}
+j0 = v1;
+j1 = UINT64_C(8);
+i0 = (j0 <= j1);
+if (i0) { goto l2; }
+i0 = UINT32_C(1);
+r = i0;
+return r;
+}
+l4:;
+i0 = v6;
+r = i0;
+return r;
+}
+l2:;
+fio2070_trap();
+return r;
+}
+static void fio_log_learning_Learning_look(struct machine *m, uint64_t v0, uint64_t v1)
+{
+uint64_t v2 = 0;
+uint64_t v3 = 0;
+uint64_t v4 = 0;
+uint64_t v5 = 0;
+uint64_t v6 = 0;
+uint64_t v7 = 0;
+uint64_t v8 = 0;
+uint64_t v9 = 0;
+uint64_t v10 = 0;
+uint64_t v11 = 0;
+uint64_t v12 = 0;
+uint64_t v13 = 0;
+uint64_t v14 = 0;
+uint64_t v15 = 0;
+uint32_t v16 = 0;
+uint32_t i0;
+uint32_t i1;
+uint32_t i2;
+uint32_t i3;
+uint64_t j0;
+uint64_t j1;
+uint64_t j2;
+uint64_t j3;
+uint64_t j4;
+uint64_t j5;
+uint64_t j6;
+uint64_t j7;
+uint64_t j8;
+uint8_t *p1;
+uint8_t *p2;
+uint8_t *p3;
+uint8_t *p4;
+uint8_t *p5;
+uint8_t *p6;
+uint8_t *p7;
+uint8_t *p8;
+uint8_t *p9;
+uint8_t *p10;
+uint8_t *p11;
+uint8_t *p12;
+uint8_t *p13;
+uint8_t *p14;
+uint8_t *p15;
+uint8_t *p16;
+uint8_t *p17;
+uint8_t *p18;
+uint8_t *p19;
+uint8_t *p20;
+uint8_t *p21;
+uint8_t *p22;
+uint8_t *p23;
+uint8_t *p24;
+uint8_t *p25;
+uint8_t *p26;
+uint8_t *p27;
+uint8_t *p28;
+uint8_t *p29;
+uint8_t *p30;
+j0 = m->g0;
+j1 = UINT64_C(39888);
+j0 = j0 - j1;
+p1 = write_at(j0, m, 39888u);
+v2 = j0;
+m->g0 = j0;
+j0 = v2;
+v3 = j0;
+j1 = UINT64_C(16);
+i0 = (SIGNED64(j0) < SIGNED64(j1));
+if (!i0) {
+j0 = v3;
+j1 = UINT64_C(40);
+j0 = j0 + j1;
+i1 = UINT32_C(0);
+j2 = UINT64_C(12552);
+fill(m, j0, i1, j2);
+j0 = v3;
+j1 = UINT64_C(12592);
+j0 = j0 + j1;
+i1 = UINT32_C(0);
+j2 = UINT64_C(12552);
+fill(m, j0, i1, j2);
 j0 = v1;
 j1 = UINT64_C(238080);
 j0 = j0 + j1;
-i1 = UINT32_C(0);
-store16(p315 + 168440, i1);
-j0 = v1;
-j1 = UINT64_C(238072);
-j0 = j0 + j1;
-j1 = UINT64_C(2);
-store64(p315 + 168432, j1);
-j0 = v1;
-j1 = UINT64_C(238064);
-j0 = j0 + j1;
-i1 = UINT32_C(0);
-store8(p315 + 168424, i1);
-goto l588;
-l626:;
-j0 = v3;
-i0 = (j0 == 0);
+p2 = read_at(j0, m, 8u);
+j0 = load64(p2 + 0);
+v2 = j0;
+j1 = UINT64_C(1023);
+i0 = (j0 > j1);
 if (!i0) {
-j0 = v1;
-j1 = v2;
-j2 = v3;
-copy(m, j0, j1, j2);
-}
-l625:;
-j0 = v1;
-j1 = UINT64_C(65536);
-j0 = j0 + j1;
-j1 = v3;
-p332 = write_at(j0, m, 8u);
-store64(p332 + 0, j1);
 j0 = v1;
 j1 = UINT64_C(69640);
 j0 = j0 + j1;
-v11 = j0;
-j0 = load64(p315 + 0);
-v17 = j0;
-j1 = UINT64_C(1024);
-i0 = (j0 == j1);
-if (!i0) {
-j0 = v1;
-j1 = v17;
+p3 = read_at(j0, m, 8u);
+j0 = load64(p3 + 0);
+v4 = j0;
+j1 = v2;
 j2 = UINT64_C(2);
-j1 = j1 << (j2 & 63);
-j0 = j0 + j1;
-j1 = UINT64_C(65544);
-j0 = j0 + j1;
-j1 = v3;
-p333 = write_at(j0, m, 4u);
-store32(p333 + 0, j1);
-j0 = v11;
-j1 = v17;
-j2 = UINT64_C(1);
-j1 = j1 + j2;
-store64(p315 + 0, j1);
+j3 = v2;
+j4 = UINT64_C(2);
+i3 = (j3 > j4);
+j1 = i3 ? j1 : j2;
+i0 = (j0 >= j1);
+if (i0) { goto l5; }
 }
-l618:;
-j0 = v1;
-j1 = UINT64_C(238081);
-j0 = j0 + j1;
-i0 = load8(p315 + 168441);
-i1 = UINT32_C(1);
-i0 = (i0 != i1);
-if (!i0) {
-j0 = v7;
-j1 = UINT64_C(12976);
+j0 = v3;
+j1 = UINT64_C(40);
 j0 = j0 + j1;
 i1 = UINT32_C(0);
-j2 = UINT64_C(12560);
+j2 = UINT64_C(12552);
 fill(m, j0, i1, j2);
-j0 = v7;
-j1 = UINT64_C(12976);
+goto l4;
+l5:;
+j0 = v1;
+j1 = UINT64_C(238080);
+j0 = j0 + j1;
+j1 = v4;
+j2 = UINT64_C(1);
+j1 = j1 << (j2 & 63);
+j2 = UINT64_C(18446744073709551615);
+j3 = v4;
+j4 = UINT64_C(18446744073709551615);
+i3 = (SIGNED64(j3) > SIGNED64(j4));
+j1 = i3 ? j1 : j2;
+p4 = write_at(j0, m, 8u);
+store64(p4 + 0, j1);
+j0 = v3;
+j1 = UINT64_C(12592);
 j0 = j0 + j1;
 j1 = v1;
-fio_log_learning_Learning_look(m, j0, j1);
+j2 = UINT64_C(69648);
+j1 = j1 + j2;
+j2 = v1;
+i3 = UINT32_C(0);
+fio_sniff_sniffing_Sniffer_sniff(m, j0, j1, j2, i3);
+j0 = v3;
+j1 = UINT64_C(25280);
+j0 = j0 + j1;
+j1 = v3;
+j2 = UINT64_C(12592);
+j1 = j1 + j2;
+j2 = UINT64_C(12552);
+copy(m, j0, j1, j2);
+j0 = v3;
+j1 = UINT64_C(25144);
+j0 = j0 + j1;
+i1 = UINT32_C(0);
+j2 = UINT64_C(136);
+fill(m, j0, i1, j2);
+j0 = v3;
+j0 = load64(p1 + 37824);
+v5 = j0;
+i0 = (j0 == 0);
+if (!i0) {
+j0 = v3;
+j1 = UINT64_C(25280);
+j0 = j0 + j1;
+v6 = j0;
+j0 = UINT64_C(0);
+v7 = j0;
+j0 = v5;
+v8 = j0;
+l9:;
+j0 = v6;
+j0 = fio_guess_hashes_hash_of(m, j0);
+j1 = v6;
+j2 = UINT64_C(778);
+j1 = j1 + j2;
+p5 = read_at(j1 + UINT64_C(18446744073709551598), m, 19u);
+j1 = load8(p5 + 18);
+j0 = j0 ^ j1;
+v4 = j0;
+j0 = v6;
+j1 = UINT64_C(760);
+j0 = j0 + j1;
+j0 = load64(p5 + 0);
+v9 = j0;
+i0 = (j0 == 0);
+if (!i0) {
+j0 = v9;
+j1 = UINT64_C(3);
+j0 = j0 & j1;
+v2 = j0;
+i0 = (j0 == 0);
+i0 = (i0 == 0);
+if (!i0) {
+j0 = v6;
+j1 = UINT64_C(664);
+j0 = j0 + j1;
+v2 = j0;
+j0 = v9;
+v10 = j0;
+goto l11;
+}
+j0 = v2;
+j1 = UINT64_C(2);
+j0 = j0 << (j1 & 63);
+v11 = j0;
+j0 = UINT64_C(0);
+v2 = j0;
+j0 = v9;
+v10 = j0;
+for (;;) {
+j0 = v10;
+j1 = UINT64_C(18446744073709551615);
+j0 = j0 + j1;
+v10 = j0;
+j0 = v4;
+j1 = v6;
+j2 = v2;
+j1 = j1 + j2;
+j2 = UINT64_C(664);
+j1 = j1 + j2;
+p6 = read_at(j1, m, 4u);
+j1 = load32(p6 + 0);
+j0 = j0 ^ j1;
+j1 = UINT64_C(1099511628211);
+j0 = j0 * j1;
+v4 = j0;
+j0 = v11;
+j1 = v2;
+j2 = UINT64_C(4);
+j1 = j1 + j2;
+v2 = j1;
+i0 = (j0 != j1);
+if (!i0) break;
+}
+j0 = v6;
+j1 = v2;
+j0 = j0 + j1;
+j1 = UINT64_C(664);
+j0 = j0 + j1;
+v2 = j0;
+l11:;
+j0 = v9;
+j1 = UINT64_C(4);
+i0 = (j0 < j1);
+if (!i0) {
+p7 = read_at(v2 + UINT64_C(0), m, run(16u, 16u, turns(v10, UINT64_C(0), 4u)));
+for (;;) {
+j0 = v4;
+j1 = v2;
+j1 = load32(p7 + 0);
+j0 = j0 ^ j1;
+j1 = UINT64_C(1099511628211);
+j0 = j0 * j1;
+j1 = v2;
+j2 = UINT64_C(4);
+j1 = j1 + j2;
+j1 = load32(p7 + 4);
+j0 = j0 ^ j1;
+j1 = UINT64_C(1099511628211);
+j0 = j0 * j1;
+j1 = v2;
+j2 = UINT64_C(8);
+j1 = j1 + j2;
+j1 = load32(p7 + 8);
+j0 = j0 ^ j1;
+j1 = UINT64_C(1099511628211);
+j0 = j0 * j1;
+j1 = v2;
+j2 = UINT64_C(12);
+j1 = j1 + j2;
+j1 = load32(p7 + 12);
+j0 = j0 ^ j1;
+j1 = UINT64_C(1099511628211);
+j0 = j0 * j1;
+v4 = j0;
+j0 = v2;
+j1 = UINT64_C(16);
+j0 = j0 + j1;
+v2 = j0;
+j0 = v10;
+j1 = UINT64_C(18446744073709551612);
+j0 = j0 + j1;
+v10 = j0;
+j1 = UINT64_C(0);
+i0 = (j0 != j1);
+if (!i0) break;
+p7 += 16;
+}
+}
+}
+j0 = v8;
+j1 = UINT64_C(18446744073709551615);
+j0 = j0 + j1;
+v8 = j0;
+j0 = UINT64_C(16);
+v2 = j0;
 j0 = v7;
-p334 = read_at(j0 + UINT64_C(12976), m, 1u);
-i0 = load8(p334 + 0);
+j1 = UINT64_C(16);
+i0 = (j0 == j1);
+if (!i0) {
+j0 = v3;
+j1 = UINT64_C(25144);
+j0 = j0 + j1;
+j1 = v7;
+j2 = UINT64_C(3);
+j1 = j1 << (j2 & 63);
+j0 = j0 + j1;
+j1 = v4;
+p8 = write_at(j0, m, 8u);
+store64(p8 + 0, j1);
+j0 = v3;
+j1 = v7;
+j2 = UINT64_C(1);
+j1 = j1 + j2;
+v2 = j1;
+store64(p1 + 25272, j1);
+}
+j0 = v6;
+j1 = UINT64_C(784);
+j0 = j0 + j1;
+v6 = j0;
+j0 = v2;
+v7 = j0;
+j0 = v8;
+j1 = UINT64_C(0);
+i0 = (j0 != j1);
+if (i0) { goto l9; }
+j0 = v2;
+j1 = v1;
+j2 = UINT64_C(238064);
+j1 = j1 + j2;
+p9 = read_at(j1, m, 8u);
+j1 = load64(p9 + 0);
+i0 = (j0 != j1);
+if (!i0) {
+j0 = UINT64_C(4);
+v4 = j0;
+j0 = UINT64_C(0);
+v7 = j0;
+j0 = v2;
+j1 = UINT64_C(4);
+i0 = (j0 < j1);
+if (!i0) {
+j0 = v2;
+j1 = UINT64_C(18446744073709551612);
+j0 = j0 & j1;
+v7 = j0;
+j0 = UINT64_C(0);
+v10 = j0;
+j0 = v2;
+v11 = j0;
+j0 = UINT64_C(0);
+v6 = j0;
+l17:;
+j0 = v4;
+i0 = (j0 == 0);
+if (!i0) {
+j0 = v3;
+j1 = UINT64_C(25144);
+j0 = j0 + j1;
+j1 = v10;
+j0 = j0 + j1;
+v8 = j0;
+p10 = read_at(j0, m, 8u);
+j0 = load64(p10 + 0);
+j1 = v1;
+j2 = v10;
+j1 = j1 + j2;
+v9 = j1;
+j2 = UINT64_C(237936);
+j1 = j1 + j2;
+p11 = read_at(j1, m, 8u);
+j1 = load64(p11 + 0);
+i0 = (j0 == j1);
+if (!i0) {
+j0 = v4;
+j1 = UINT64_C(18446744073709551612);
+j0 = j0 + j1;
+v8 = j0;
+goto l19;
+}
+j0 = v8;
+j1 = UINT64_C(8);
+j0 = j0 + j1;
+p12 = read_at(j0, m, 8u);
+j0 = load64(p12 + 0);
+j1 = v9;
+j2 = UINT64_C(237944);
+j1 = j1 + j2;
+p13 = read_at(j1, m, 8u);
+j1 = load64(p13 + 0);
+i0 = (j0 == j1);
+if (!i0) {
+j0 = v6;
+j1 = UINT64_C(1);
+j0 = j0 | j1;
+v8 = j0;
+goto l19;
+}
+j0 = v8;
+j1 = UINT64_C(16);
+j0 = j0 + j1;
+p14 = read_at(j0, m, 8u);
+j0 = load64(p14 + 0);
+j1 = v9;
+j2 = UINT64_C(237952);
+j1 = j1 + j2;
+p15 = read_at(j1, m, 8u);
+j1 = load64(p15 + 0);
+i0 = (j0 == j1);
+if (!i0) {
+j0 = v6;
+j1 = UINT64_C(2);
+j0 = j0 | j1;
+v8 = j0;
+goto l19;
+}
+j0 = v4;
+j1 = v4;
+j2 = UINT64_C(18446744073709551615);
+j1 = j1 + j2;
+j2 = v8;
+j3 = UINT64_C(24);
+j2 = j2 + j3;
+p16 = read_at(j2, m, 8u);
+j2 = load64(p16 + 0);
+j3 = v9;
+j4 = UINT64_C(237960);
+j3 = j3 + j4;
+p17 = read_at(j3, m, 8u);
+j3 = load64(p17 + 0);
+i2 = (j2 == j3);
+j0 = i2 ? j0 : j1;
+v8 = j0;
+l19:;
+j0 = v8;
+j1 = v4;
+i0 = (j0 < j1);
+if (i0) { goto l8; }
+}
+j0 = v6;
+j1 = UINT64_C(4);
+j0 = j0 + j1;
+v6 = j0;
+j0 = v4;
+j1 = UINT64_C(4);
+j0 = j0 + j1;
+v4 = j0;
+j0 = v10;
+j1 = UINT64_C(32);
+j0 = j0 + j1;
+v10 = j0;
+j0 = v11;
+j1 = UINT64_C(18446744073709551612);
+j0 = j0 + j1;
+v11 = j0;
+j1 = UINT64_C(3);
+i0 = (j0 > j1);
+if (i0) { goto l17; }
+}
+j0 = v7;
+j1 = v2;
+i0 = (j0 >= j1);
+if (!i0) {
+j0 = v7;
+j1 = UINT64_C(3);
+j0 = j0 << (j1 & 63);
+v10 = j0;
+j1 = v1;
+j0 = j0 + j1;
+j1 = UINT64_C(237936);
+j0 = j0 + j1;
+v4 = j0;
+j0 = v3;
+j1 = UINT64_C(25144);
+j0 = j0 + j1;
+j1 = v10;
+j0 = j0 + j1;
+v10 = j0;
+l25:;
+j0 = v10;
+p18 = read_at(j0, m, 8u);
+j0 = load64(p18 + 0);
+j1 = v4;
+p19 = read_at(j1, m, 8u);
+j1 = load64(p19 + 0);
+i0 = (j0 != j1);
+if (i0) { goto l24; }
+j0 = v10;
+j1 = UINT64_C(8);
+j0 = j0 + j1;
+v10 = j0;
+j0 = v4;
+j1 = UINT64_C(8);
+j0 = j0 + j1;
+v4 = j0;
+j0 = v2;
+j1 = v7;
+j2 = UINT64_C(1);
+j1 = j1 + j2;
+v7 = j1;
+i0 = (j0 != j1);
+if (i0) { goto l25; }
+goto l23;
+l24:;
+j0 = v7;
+j1 = v2;
+i0 = (j0 < j1);
+if (i0) { goto l8; }
+}
+l23:;
+j0 = v1;
+j1 = UINT64_C(238072);
+j0 = j0 + j1;
+p20 = read_at(j0, m, 1u);
+i0 = load8(p20 + 0);
+if (!i0) {
+j0 = v3;
+j1 = UINT64_C(37832);
+j0 = j0 + j1;
+i1 = UINT32_C(0);
+j2 = UINT64_C(2056);
+fill(m, j0, i1, j2);
+j0 = v1;
+j1 = UINT64_C(69640);
+j0 = j0 + j1;
+p21 = read_at(j0, m, 8u);
+j0 = load64(p21 + 0);
+v12 = j0;
+i0 = (j0 == 0);
+if (!i0) {
+j0 = v1;
+j1 = UINT64_C(181056);
+j0 = j0 + j1;
+v13 = j0;
+j0 = v1;
+j1 = UINT64_C(65544);
+j0 = j0 + j1;
+v14 = j0;
+j0 = UINT64_C(0);
+v15 = j0;
+l28:;
+j0 = v15;
+j1 = UINT64_C(1024);
+i0 = (j0 < j1);
+if (!i0) {
+j0 = v14;
+j1 = v15;
+j2 = UINT64_C(2);
+j1 = j1 << (j2 & 63);
+v2 = j1;
+j0 = j0 + j1;
+p22 = read_at(j0, m, 4u);
+j0 = load32(p22 + 0);
+v11 = j0;
+goto l31;
+}
+j0 = v13;
+j1 = v15;
+j0 = j0 + j1;
+p23 = read_at(j0, m, 1u);
+i0 = load8(p23 + 0);
+if (i0) { goto l29; }
+j0 = v14;
+j1 = v15;
+j2 = UINT64_C(2);
+j1 = j1 << (j2 & 63);
+v2 = j1;
+j0 = j0 + j1;
+p24 = read_at(j0, m, 4u);
+j0 = load32(p24 + 0);
+v11 = j0;
+j0 = v1;
+v10 = j0;
+j0 = v15;
+i0 = (j0 == 0);
+if (i0) { goto l30; }
+l31:;
+j0 = v11;
+j1 = v14;
+j2 = v2;
+j1 = j1 + j2;
+j2 = UINT64_C(18446744073709551612);
+j1 = j1 + j2;
+p25 = read_at(j1, m, 4u);
+j1 = load32(p25 + 0);
+v2 = j1;
+j0 = j0 - j1;
+v11 = j0;
+j0 = v1;
+j1 = v2;
+j0 = j0 + j1;
+v10 = j0;
+l30:;
+j0 = v11;
+i0 = (j0 == 0);
+if (!i0) {
+j0 = UINT64_C(0);
+v9 = j0;
+l33:;
+j0 = v3;
+j1 = UINT64_C(25280);
+j0 = j0 + j1;
+j1 = v9;
+j2 = UINT64_C(784);
+j1 = j1 * j2;
+j0 = j0 + j1;
+v6 = j0;
+j1 = UINT64_C(520);
+j0 = j0 + j1;
+p26 = read_at(j0, m, 1u);
+i0 = load8(p26 + 0);
+v16 = i0;
+i1 = UINT32_C(4294967286);
+i0 = i0 + i1;
+i1 = UINT32_C(255);
+i0 = i0 & i1;
+i1 = UINT32_C(252);
+i0 = (i0 > i1);
+if (!i0) {
+j0 = v6;
+j1 = UINT64_C(528);
+j0 = j0 + j1;
+v7 = j0;
+j0 = UINT64_C(0);
+v2 = j0;
+j0 = v11;
+v4 = j0;
+l35:;
+j0 = v10;
+j1 = v11;
+j2 = v2;
+i0 = fio_guess_words_may_begin(m, j0, j1, j2);
+i0 = (i0 == 0);
+if (!i0) {
+j0 = v3;
+j1 = UINT64_C(24);
+j0 = j0 + j1;
+i1 = v16;
+j2 = v6;
+j3 = UINT64_C(521);
+j2 = j2 + j3;
+p27 = read_at(j2, m, 143u);
+i2 = load8(p27 + 0);
+j3 = v7;
+j4 = v6;
+j5 = UINT64_C(656);
+j4 = j4 + j5;
+j4 = load64(p27 + 135);
+j5 = v10;
+j6 = v2;
+j5 = j5 + j6;
+j6 = v4;
+j7 = v3;
+j8 = UINT64_C(37832);
+j7 = j7 + j8;
+fio_form_octets_run_in(m, j0, i1, i2, j3, j4, j5, j6, j7);
+j0 = v3;
+i0 = load8(p1 + 24);
 i1 = UINT32_C(1);
 i0 = (i0 != i1);
 if (!i0) {
+j0 = v3;
+j0 = load64(p1 + 39880);
+v8 = j0;
+j1 = UINT64_C(2);
+i0 = (j0 < j1);
+if (!i0) {
+j0 = v3;
+j1 = UINT64_C(37832);
+j0 = j0 + j1;
+j1 = v8;
+i0 = fio_form_message_is_message(m, j0, j1);
+if (i0) { goto l26; }
+j0 = v3;
+j1 = UINT64_C(8);
+j0 = j0 + j1;
+j1 = v3;
+j2 = UINT64_C(37832);
+j1 = j1 + j2;
+j2 = v8;
+fio_form_message_size_of(m, j0, j1, j2);
+j0 = v3;
+i0 = load8(p1 + 8);
+j0 = (uint64_t)i0;
+j1 = UINT64_C(255);
+j0 = j0 & j1;
+i0 = (uint32_t)j0;
+switch (i0) {
+case 0:
+goto l26;
+case 1:
+goto l37;
+case 2:
+goto l36;
+case 3:
+goto l36;
+default:
+goto l26;
+}
+l37:;
+j0 = v8;
+j1 = v3;
+j1 = load64(p1 + 16);
+i0 = (j0 < j1);
+if (i0) { goto l26; }
+}
+}
+}
+l36:;
+j0 = v2;
+j1 = UINT64_C(1);
+j0 = j0 + j1;
+v2 = j0;
+j0 = v4;
+j1 = UINT64_C(18446744073709551615);
+j0 = j0 + j1;
+v4 = j0;
+j1 = UINT64_C(0);
+i0 = (j0 != j1);
+if (i0) { goto l35; }
+}
+j0 = v9;
+j1 = UINT64_C(1);
+j0 = j0 + j1;
+v9 = j0;
+j1 = v5;
+i0 = (j0 != j1);
+if (i0) { goto l33; }
+}
+l29:;
+j0 = v15;
+j1 = UINT64_C(1);
+j0 = j0 + j1;
+v15 = j0;
+j1 = v12;
+i0 = (j0 != j1);
+if (i0) { goto l28; }
+}
+}
+j0 = v3;
+j1 = UINT64_C(40);
+j0 = j0 + j1;
+j1 = v3;
+j2 = UINT64_C(12592);
+j1 = j1 + j2;
+j2 = UINT64_C(12552);
+copy(m, j0, j1, j2);
+j0 = UINT64_C(1);
+v2 = j0;
+goto l3;
+l26:;
 j0 = v1;
-j1 = UINT64_C(238081);
+j1 = UINT64_C(238072);
+j0 = j0 + j1;
+i1 = UINT32_C(1);
+p28 = write_at(j0, m, 1u);
+store8(p28 + 0, i1);
+j0 = v1;
+j1 = UINT64_C(238080);
+j0 = j0 + j1;
+j1 = UINT64_C(18446744073709551615);
+j2 = v12;
+j3 = UINT64_C(1);
+j2 = j2 >> (j3 & 63);
+v2 = j2;
+j3 = v12;
+j2 = j2 + j3;
+v4 = j2;
+j3 = v4;
+j4 = v2;
+i3 = (j3 < j4);
+j1 = i3 ? j1 : j2;
+store64(p4 + 0, j1);
+goto l7;
+}
+}
+l8:;
+j0 = v1;
+j1 = UINT64_C(238072);
 j0 = j0 + j1;
 i1 = UINT32_C(0);
-store8(p315 + 168441, i1);
-j0 = v7;
-j1 = UINT64_C(424);
+p29 = write_at(j0, m, 1u);
+store8(p29 + 0, i1);
+l7:;
+j0 = v1;
+j1 = UINT64_C(237936);
 j0 = j0 + j1;
-j1 = v7;
-j2 = UINT64_C(12984);
+j1 = v3;
+j2 = UINT64_C(25144);
+j1 = j1 + j2;
+j2 = UINT64_C(136);
+copy(m, j0, j1, j2);
+j0 = v3;
+j1 = UINT64_C(40);
+j0 = j0 + j1;
+i1 = UINT32_C(0);
+j2 = UINT64_C(12552);
+fill(m, j0, i1, j2);
+l4:;
+j0 = UINT64_C(0);
+v2 = j0;
+l3:;
+j0 = v0;
+j1 = v2;
+p30 = write_at(j0, m, 8u);
+store64(p30 + 0, j1);
+j0 = v0;
+j1 = UINT64_C(8);
+j0 = j0 + j1;
+j1 = v3;
+j2 = UINT64_C(40);
 j1 = j1 + j2;
 j2 = UINT64_C(12552);
 copy(m, j0, j1, j2);
-j0 = v1;
-j1 = UINT64_C(323960);
-j0 = j0 + j1;
-j1 = UINT64_C(1);
-p335 = write_at(j0, m, 8u);
-store64(p335 + 0, j1);
-j0 = v1;
-j1 = UINT64_C(323968);
-j0 = j0 + j1;
-j1 = v7;
-j2 = UINT64_C(424);
-j1 = j1 + j2;
-j2 = UINT64_C(12552);
-copy(m, j0, j1, j2);
-}
-}
-}
-}
-}
-l588:;
-j0 = v0;
-i1 = v8;
-p336 = write_at(j0, m, 56u);
-store8(p336 + 9, i1);
-j0 = v0;
-i1 = v22;
-store8(p336 + 8, i1);
-j0 = v0;
-j1 = v18;
-store64(p336 + 0, j1);
-j0 = v0;
-j1 = UINT64_C(0);
-store64(p336 + 24, j1);
-j0 = v0;
-i1 = v38;
-store8(p336 + 49, i1);
-j0 = v0;
-i1 = v37;
-store8(p336 + 48, i1);
-j0 = v0;
-j1 = v5;
-store64(p336 + 40, j1);
-j0 = v0;
-j1 = v4;
-store64(p336 + 32, j1);
-j0 = v7;
-j1 = v7;
-i1 = load16(p294 + 12);
-store16(p294 + 20, i1);
-j0 = v7;
-j1 = v7;
-i1 = load32(p294 + 8);
-store32(p294 + 16, i1);
-j0 = v7;
-j1 = UINT64_C(0);
-store64(p294 + 22, j1);
-j0 = v0;
-j1 = v7;
-j1 = load64(p294 + 16);
-store64(p336 + 10, j1);
-j0 = v7;
-j1 = UINT64_C(0);
-store64(p294 + 30, j1);
-j0 = v0;
-j1 = v7;
-j1 = load64(p294 + 24);
-store64(p336 + 18, j1);
-j0 = v0;
-j1 = v7;
-i1 = load16(p294 + 4);
-store16(p336 + 54, i1);
-j0 = v0;
-j1 = v7;
-i1 = load32(p294 + 0);
-store32(p336 + 50, i1);
-l2:;
-j0 = v7;
-j1 = UINT64_C(25536);
+j0 = v3;
+j1 = UINT64_C(39888);
 j0 = j0 + j1;
 m->g0 = j0;
+return;
+}
+fio2070_trap();
 }
 static void fio_log_heading_Heading_of(struct machine *m, uint64_t v0, uint64_t v1, uint64_t v2, uint64_t v3)
 {
@@ -45152,7 +48271,7 @@ j0 = v19;
 j1 = UINT64_C(4);
 j0 = j0 << (j1 & 63);
 v4 = j0;
-p5 = read_at(j0 + UINT64_C(65544), m, 8u);
+p5 = read_at(j0 + UINT64_C(1048584), m, 8u);
 j0 = load64(p5 + 0);
 v20 = j0;
 i0 = (j0 == 0);
@@ -45177,7 +48296,7 @@ v27 = j0;
 goto l20;
 }
 j0 = v4;
-p6 = read_at(j0 + UINT64_C(65536), m, 8u);
+p6 = read_at(j0 + UINT64_C(1048576), m, 8u);
 j0 = load64(p6 + 0);
 v28 = j0;
 j0 = UINT64_C(1970);
@@ -51993,894 +55112,6 @@ j0 = j0 + j1;
 i1 = v9;
 store32(p2 + 1, i1);
 }
-static void fio_log_second_second_in(struct machine *m, uint64_t v0, uint64_t v1, uint64_t v2, uint64_t v3, uint64_t v4, uint64_t v5, uint64_t v6, uint64_t v7)
-{
-uint64_t v8 = 0;
-uint64_t v9 = 0;
-uint64_t v10 = 0;
-uint64_t v11 = 0;
-uint64_t v12 = 0;
-uint64_t v13 = 0;
-uint64_t v14 = 0;
-uint64_t v15 = 0;
-uint64_t v16 = 0;
-uint32_t v17 = 0;
-uint64_t v18 = 0;
-uint64_t v19 = 0;
-uint32_t i0;
-uint32_t i1;
-uint32_t i2;
-uint64_t j0;
-uint64_t j1;
-uint64_t j2;
-uint64_t j3;
-uint64_t j4;
-uint64_t j5;
-uint64_t j6;
-uint64_t j7;
-uint8_t *p1;
-uint8_t *p2;
-uint8_t *p3;
-uint8_t *p4;
-uint8_t *p5;
-uint8_t *p6;
-uint8_t *p7;
-uint8_t *p8;
-uint8_t *p9;
-uint8_t *p10;
-uint8_t *p11;
-uint8_t *p12;
-uint8_t *p13;
-uint8_t *p14;
-uint8_t *p15;
-uint8_t *p16;
-uint8_t *p17;
-uint8_t *p18;
-uint8_t *p19;
-uint8_t *p20;
-uint8_t *p21;
-uint8_t *p22;
-uint8_t *p23;
-uint8_t *p24;
-j0 = m->g0;
-j1 = UINT64_C(80);
-j0 = j0 - j1;
-p1 = write_at(j0, m, 80u);
-v8 = j0;
-m->g0 = j0;
-j0 = v8;
-v9 = j0;
-j1 = UINT64_C(16);
-i0 = (SIGNED64(j0) < SIGNED64(j1));
-if (!i0) {
-j0 = v9;
-j1 = UINT64_C(0);
-store64(p1 + 72, j1);
-j0 = v9;
-j1 = UINT64_C(0);
-store64(p1 + 64, j1);
-j0 = v9;
-j1 = UINT64_C(0);
-store64(p1 + 56, j1);
-j0 = v9;
-j1 = UINT64_C(0);
-store64(p1 + 24, j1);
-j0 = v9;
-j1 = UINT64_C(0);
-store64(p1 + 32, j1);
-j0 = v9;
-j1 = UINT64_C(0);
-store64(p1 + 40, j1);
-j0 = v9;
-j1 = UINT64_C(0);
-store64(p1 + 48, j1);
-j0 = v5;
-j1 = v4;
-i0 = (j0 >= j1);
-if (!i0) {
-j0 = v2;
-i0 = (j0 == 0);
-if (!i0) {
-l6:;
-j0 = v4;
-j1 = v5;
-j0 = j0 - j1;
-v10 = j0;
-j0 = v3;
-j1 = v5;
-j0 = j0 + j1;
-v11 = j0;
-j0 = UINT64_C(0);
-v12 = j0;
-j0 = v1;
-v13 = j0;
-l7:;
-j0 = v1;
-j1 = v12;
-j2 = UINT64_C(784);
-j1 = j1 * j2;
-j0 = j0 + j1;
-v14 = j0;
-j1 = UINT64_C(512);
-j0 = j0 + j1;
-p2 = read_at(j0, m, 8u);
-j0 = load64(p2 + 0);
-v15 = j0;
-i0 = (j0 == 0);
-if (!i0) {
-j0 = v15;
-j1 = UINT64_C(1);
-i0 = (j0 != j1);
-if (!i0) {
-j0 = UINT64_C(0);
-v16 = j0;
-i0 = UINT32_C(0);
-v17 = i0;
-goto l10;
-}
-j0 = v15;
-j1 = UINT64_C(1);
-j0 = j0 & j1;
-v18 = j0;
-j0 = v15;
-j1 = UINT64_C(18446744073709551614);
-j0 = j0 & j1;
-v19 = j0;
-j0 = UINT64_C(0);
-v16 = j0;
-i0 = UINT32_C(0);
-v17 = i0;
-j0 = v13;
-v8 = j0;
-l12:;
-j0 = v8;
-p3 = read_at(j0, m, 1u);
-i0 = load8(p3 + 0);
-if (!i0) {
-j0 = v8;
-j1 = UINT64_C(1);
-j0 = j0 + j1;
-p4 = read_at(j0, m, 1u);
-i0 = load8(p4 + 0);
-i1 = UINT32_C(32);
-i0 = (i0 != i1);
-i1 = v17;
-i0 = i0 | i1;
-v17 = i0;
-}
-j0 = v8;
-j1 = UINT64_C(2);
-j0 = j0 + j1;
-p5 = read_at(j0, m, 1u);
-i0 = load8(p5 + 0);
-if (!i0) {
-j0 = v8;
-j1 = UINT64_C(3);
-j0 = j0 + j1;
-p6 = read_at(j0, m, 1u);
-i0 = load8(p6 + 0);
-i1 = UINT32_C(32);
-i0 = (i0 != i1);
-i1 = v17;
-i0 = i0 | i1;
-v17 = i0;
-}
-j0 = v8;
-j1 = UINT64_C(4);
-j0 = j0 + j1;
-v8 = j0;
-j0 = v19;
-j1 = v16;
-j2 = UINT64_C(2);
-j1 = j1 + j2;
-v16 = j1;
-i0 = (j0 != j1);
-if (i0) { goto l12; }
-j0 = v18;
-i0 = (j0 == 0);
-if (i0) { goto l9; }
-l10:;
-j0 = v14;
-j1 = v16;
-j2 = UINT64_C(1);
-j1 = j1 << (j2 & 63);
-j0 = j0 + j1;
-v8 = j0;
-p7 = read_at(j0, m, 1u);
-i0 = load8(p7 + 0);
-if (!i0) {
-j0 = v8;
-j1 = UINT64_C(1);
-j0 = j0 + j1;
-p8 = read_at(j0, m, 1u);
-i0 = load8(p8 + 0);
-i1 = UINT32_C(32);
-i0 = (i0 != i1);
-i1 = v17;
-i0 = i0 | i1;
-v17 = i0;
-}
-l9:;
-i0 = v17;
-i1 = UINT32_C(1);
-i0 = i0 & i1;
-i0 = (i0 == 0);
-if (!i0) {
-j0 = v14;
-j1 = UINT64_C(772);
-j0 = j0 + j1;
-p9 = read_at(j0, m, 1u);
-i0 = load8(p9 + 0);
-if (!i0) {
-j0 = v14;
-j1 = UINT64_C(778);
-j0 = j0 + j1;
-p10 = read_at(j0, m, 1u);
-i0 = load8(p10 + 0);
-if (!i0) {
-j0 = v14;
-j1 = UINT64_C(664);
-j0 = j0 + j1;
-v19 = j0;
-j0 = v14;
-j1 = UINT64_C(760);
-j0 = j0 + j1;
-p11 = read_at(j0, m, 8u);
-j0 = load64(p11 + 0);
-v18 = j0;
-j0 = UINT64_C(0);
-v8 = j0;
-j0 = v13;
-v16 = j0;
-l15:;
-j0 = v9;
-j1 = UINT64_C(8);
-j0 = j0 + j1;
-j1 = v16;
-p12 = read_at(j1, m, 2u);
-i1 = load8(p12 + 0);
-j2 = v16;
-j3 = UINT64_C(1);
-j2 = j2 + j3;
-i2 = load8(p12 + 1);
-j3 = v19;
-j4 = v18;
-j5 = v11;
-j6 = v8;
-j5 = j5 + j6;
-j6 = v10;
-j7 = v8;
-j6 = j6 - j7;
-fio_form_form_Piece_length_in(m, j0, i1, i2, j3, j4, j5, j6);
-j0 = v9;
-i0 = load8(p1 + 8);
-i1 = UINT32_C(1);
-i0 = (i0 != i1);
-if (i0) { goto l8; }
-j0 = v16;
-j1 = UINT64_C(2);
-j0 = j0 + j1;
-v16 = j0;
-j0 = v9;
-j0 = load64(p1 + 16);
-j1 = v8;
-j0 = j0 + j1;
-v8 = j0;
-j0 = v15;
-j1 = UINT64_C(18446744073709551615);
-j0 = j0 + j1;
-v15 = j0;
-j1 = UINT64_C(0);
-i0 = (j0 != j1);
-if (i0) { goto l15; }
-j0 = v9;
-j1 = UINT64_C(24);
-j0 = j0 + j1;
-j1 = v14;
-j2 = v11;
-j3 = v10;
-j4 = v6;
-fio_form_reading_find(m, j0, j1, j2, j3, j4);
-j0 = v9;
-i0 = load8(p1 + 24);
-i1 = UINT32_C(1);
-i0 = (i0 != i1);
-if (!i0) {
-j0 = v9;
-j0 = load64(p1 + 48);
-v8 = j0;
-j0 = v9;
-j0 = load64(p1 + 40);
-v16 = j0;
-j0 = v9;
-j0 = load64(p1 + 32);
-v19 = j0;
-j0 = v9;
-j1 = UINT64_C(56);
-j0 = j0 + j1;
-j1 = v14;
-j2 = v6;
-j3 = v6;
-j4 = UINT64_C(2048);
-j3 = j3 + j4;
-p13 = read_at(j3, m, 8u);
-j3 = load64(p13 + 0);
-j4 = v7;
-fio_form_wholes_whole_of(m, j0, j1, j2, j3, j4);
-j0 = v9;
-j0 = load8(p1 + 56);
-v15 = j0;
-j1 = UINT64_C(2);
-i0 = (j0 < j1);
-if (i0) { goto l4; }
-}
-}
-}
-}
-}
-l8:;
-j0 = v13;
-j1 = UINT64_C(784);
-j0 = j0 + j1;
-v13 = j0;
-j0 = v12;
-j1 = UINT64_C(1);
-j0 = j0 + j1;
-v12 = j0;
-j1 = v2;
-i0 = (j0 != j1);
-if (i0) { goto l7; }
-j0 = v5;
-j1 = UINT64_C(1);
-j0 = j0 + j1;
-v5 = j0;
-j1 = v4;
-i0 = (j0 != j1);
-if (i0) { goto l6; }
-}
-}
-j0 = v0;
-j1 = UINT64_C(0);
-p14 = write_at(j0, m, 56u);
-store64(p14 + 48, j1);
-j0 = v0;
-j1 = UINT64_C(0);
-store64(p14 + 40, j1);
-j0 = v0;
-j1 = UINT64_C(0);
-store64(p14 + 32, j1);
-j0 = v0;
-j1 = UINT64_C(0);
-store64(p14 + 24, j1);
-j0 = v0;
-j1 = UINT64_C(0);
-store64(p14 + 16, j1);
-j0 = v0;
-j1 = UINT64_C(0);
-store64(p14 + 8, j1);
-j0 = v0;
-j1 = UINT64_C(0);
-store64(p14 + 0, j1);
-goto l3;
-l4:;
-j0 = v8;
-j1 = v5;
-j0 = j0 + j1;
-v1 = j0;
-j0 = v16;
-j1 = v5;
-j0 = j0 + j1;
-v11 = j0;
-j0 = v19;
-j1 = v5;
-j0 = j0 + j1;
-v10 = j0;
-j0 = v14;
-j1 = UINT64_C(771);
-j0 = j0 + j1;
-p15 = read_at(j0, m, 1u);
-i0 = load8(p15 + 0);
-i1 = UINT32_C(1);
-i0 = (i0 != i1);
-if (!i0) {
-j0 = v6;
-j1 = UINT64_C(2048);
-j0 = j0 + j1;
-p16 = read_at(j0, m, 8u);
-j0 = load64(p16 + 0);
-v8 = j0;
-i0 = (j0 == 0);
-v17 = i0;
-if (!i0) {
-i0 = v17;
-if (!i0) {
-j0 = v6;
-i1 = UINT32_C(0);
-j2 = v8;
-fill(m, j0, i1, j2);
-}
-j0 = v6;
-j1 = UINT64_C(2048);
-j0 = j0 + j1;
-j1 = UINT64_C(0);
-p17 = write_at(j0, m, 8u);
-store64(p17 + 0, j1);
-}
-j0 = v7;
-j1 = UINT64_C(2048);
-j0 = j0 + j1;
-p18 = read_at(j0, m, 8u);
-j0 = load64(p18 + 0);
-v14 = j0;
-j1 = UINT64_C(2048);
-i0 = (j0 > j1);
-if (!i0) {
-j0 = v6;
-j1 = v7;
-j0 = j0 - j1;
-j1 = v14;
-i0 = (j0 >= j1);
-if (!i0) {
-j0 = v14;
-j1 = UINT64_C(3);
-j0 = j0 & j1;
-v12 = j0;
-j0 = UINT64_C(0);
-v16 = j0;
-j0 = v14;
-j1 = UINT64_C(4);
-i0 = (j0 < j1);
-if (!i0) {
-j0 = v14;
-j1 = UINT64_C(4092);
-j0 = j0 & j1;
-v13 = j0;
-j0 = UINT64_C(0);
-v16 = j0;
-for (;;) {
-j0 = v6;
-j1 = v16;
-j0 = j0 + j1;
-v8 = j0;
-j1 = v7;
-j2 = v16;
-j1 = j1 + j2;
-v19 = j1;
-p19 = read_at(j1, m, 4u);
-i1 = load8(p19 + 0);
-p20 = write_at(j0, m, 4u);
-store8(p20 + 0, i1);
-j0 = v8;
-j1 = UINT64_C(1);
-j0 = j0 + j1;
-j1 = v19;
-j2 = UINT64_C(1);
-j1 = j1 + j2;
-i1 = load8(p19 + 1);
-store8(p20 + 1, i1);
-j0 = v8;
-j1 = UINT64_C(2);
-j0 = j0 + j1;
-j1 = v19;
-j2 = UINT64_C(2);
-j1 = j1 + j2;
-i1 = load8(p19 + 2);
-store8(p20 + 2, i1);
-j0 = v8;
-j1 = UINT64_C(3);
-j0 = j0 + j1;
-j1 = v19;
-j2 = UINT64_C(3);
-j1 = j1 + j2;
-i1 = load8(p19 + 3);
-store8(p20 + 3, i1);
-j0 = v13;
-j1 = v16;
-j2 = UINT64_C(4);
-j1 = j1 + j2;
-v16 = j1;
-i0 = (j0 != j1);
-if (!i0) break;
-}
-j0 = v12;
-i0 = (j0 == 0);
-if (i0) { goto l19; }
-}
-j0 = v6;
-j1 = v16;
-j0 = j0 + j1;
-v8 = j0;
-j0 = v7;
-j1 = v16;
-j0 = j0 + j1;
-v16 = j0;
-l23:;
-j0 = v8;
-j1 = v16;
-p21 = read_at(j1, m, 1u);
-i1 = load8(p21 + 0);
-p22 = write_at(j0, m, 1u);
-store8(p22 + 0, i1);
-j0 = v8;
-j1 = UINT64_C(1);
-j0 = j0 + j1;
-v8 = j0;
-j0 = v16;
-j1 = UINT64_C(1);
-j0 = j0 + j1;
-v16 = j0;
-j0 = v12;
-j1 = UINT64_C(18446744073709551615);
-j0 = j0 + j1;
-v12 = j0;
-j1 = UINT64_C(0);
-i0 = (j0 != j1);
-if (i0) { goto l23; }
-goto l19;
-}
-j0 = v14;
-i0 = (j0 == 0);
-if (!i0) {
-j0 = v6;
-j1 = v7;
-j2 = v14;
-copy(m, j0, j1, j2);
-}
-l19:;
-j0 = v6;
-j1 = UINT64_C(2048);
-j0 = j0 + j1;
-j1 = v14;
-p23 = write_at(j0, m, 8u);
-store64(p23 + 0, j1);
-}
-}
-j0 = v0;
-j1 = UINT64_C(1);
-p24 = write_at(j0, m, 56u);
-store64(p24 + 0, j1);
-j0 = v0;
-j1 = UINT64_C(48);
-j0 = j0 + j1;
-j1 = v9;
-j1 = load64(p1 + 72);
-store64(p24 + 48, j1);
-j0 = v0;
-j1 = UINT64_C(40);
-j0 = j0 + j1;
-j1 = v9;
-j1 = load64(p1 + 64);
-store64(p24 + 40, j1);
-j0 = v0;
-j1 = UINT64_C(32);
-j0 = j0 + j1;
-j1 = v15;
-store64(p24 + 32, j1);
-j0 = v0;
-j1 = UINT64_C(24);
-j0 = j0 + j1;
-j1 = v1;
-store64(p24 + 24, j1);
-j0 = v0;
-j1 = UINT64_C(16);
-j0 = j0 + j1;
-j1 = v11;
-store64(p24 + 16, j1);
-j0 = v0;
-j1 = UINT64_C(8);
-j0 = j0 + j1;
-j1 = v10;
-store64(p24 + 8, j1);
-l3:;
-j0 = v9;
-j1 = UINT64_C(80);
-j0 = j0 + j1;
-m->g0 = j0;
-return;
-}
-fio2070_trap();
-}
-static uint32_t fio_log_own_texts_spells(struct machine *m, uint64_t v0, uint64_t v1)
-{
-uint32_t v2 = 0;
-uint32_t v3 = 0;
-uint32_t v4 = 0;
-uint64_t v5 = 0;
-uint32_t v6 = 0;
-uint32_t i0;
-uint32_t i1;
-uint32_t i2;
-uint64_t j0;
-uint64_t j1;
-uint32_t r = 0;
-uint8_t *p1;
-uint8_t *p2;
-uint8_t *p3;
-j0 = m->g0;
-j1 = UINT64_C(16);
-i0 = (SIGNED64(j0) < SIGNED64(j1));
-if (!i0) {
-i0 = UINT32_C(0);
-v2 = i0;
-j0 = v1;
-i0 = (j0 == 0);
-if (!i0) {
-j0 = v0;
-p1 = read_at(j0, m, 1u);
-i0 = (uint32_t)extend(load8(p1 + 0), 7);
-v3 = i0;
-i1 = UINT32_C(255);
-i0 = i0 & i1;
-v4 = i0;
-i0 = v3;
-i1 = UINT32_C(4294967295);
-i0 = (SIGNED32(i0) > SIGNED32(i1));
-if (!i0) {
-j0 = UINT64_C(8);
-v5 = j0;
-i0 = v4;
-i1 = UINT32_C(4294967119);
-i0 = i0 + i1;
-switch (i0) {
-case 0:
-goto l6;
-case 1:
-goto l8;
-case 2:
-goto l8;
-case 3:
-goto l8;
-case 4:
-goto l8;
-case 5:
-goto l9;
-case 6:
-goto l8;
-case 7:
-goto l8;
-case 8:
-goto l8;
-case 9:
-goto l7;
-default:
-goto l8;
-}
-l9:;
-j0 = UINT64_C(8);
-v5 = j0;
-j0 = v1;
-j1 = UINT64_C(3);
-i0 = (j0 < j1);
-if (i0) { goto l5; }
-j0 = v0;
-j1 = UINT64_C(2);
-j0 = j0 + j1;
-p2 = read_at(j0, m, 1u);
-j0 = load8(p2 + 0);
-j1 = UINT64_C(3);
-j0 = j0 * j1;
-j1 = UINT64_C(8);
-j0 = j0 + j1;
-v5 = j0;
-goto l6;
-l8:;
-i0 = v3;
-i1 = UINT32_C(4294967217);
-i0 = (i0 < i1);
-if (i0) { goto l3; }
-i0 = v3;
-i1 = UINT32_C(4294967220);
-i0 = (i0 < i1);
-if (!i0) {
-i0 = v3;
-i1 = UINT32_C(4294967222);
-i0 = (i0 >= i1);
-if (!i0) {
-j0 = UINT64_C(13);
-v5 = j0;
-goto l6;
-}
-j0 = v1;
-v5 = j0;
-i0 = v3;
-i1 = UINT32_C(4294967229);
-i0 = (i0 < i1);
-if (i0) { goto l6; }
-goto l3;
-}
-l7:;
-j0 = UINT64_C(2);
-v5 = j0;
-l6:;
-j0 = v1;
-j1 = UINT64_C(773);
-i0 = (j0 > j1);
-if (i0) { goto l3; }
-l5:;
-j0 = v5;
-j1 = v1;
-i0 = (j0 != j1);
-if (i0) { goto l3; }
-i0 = UINT32_C(1);
-v2 = i0;
-i0 = UINT32_C(1);
-i1 = v4;
-i2 = UINT32_C(4294967119);
-i1 = i1 + i2;
-v4 = i1;
-i0 = i0 << (i1 & 31);
-i1 = UINT32_C(4071);
-i0 = i0 & i1;
-if (i0) { goto l3; }
-i0 = v4;
-i1 = UINT32_C(3);
-i0 = (i0 != i1);
-if (!i0) {
-j0 = v1;
-j1 = UINT64_C(8);
-i0 = (j0 <= j1);
-if (i0) { goto l2; }
-i0 = UINT32_C(1);
-r = i0;
-return r;
-}
-j0 = v1;
-j1 = UINT64_C(8);
-i0 = (j0 <= j1);
-if (i0) { goto l2; }
-i0 = UINT32_C(1);
-r = i0;
-return r;
-}
-j0 = UINT64_C(2);
-v5 = j0;
-i0 = UINT32_C(1);
-v6 = i0;
-i0 = v4;
-i1 = UINT32_C(4294967247);
-i0 = i0 + i1;
-switch (i0) {
-case 0:
-goto l13;
-case 1:
-goto l20;
-case 2:
-goto l19;
-case 3:
-goto l17;
-case 4:
-goto l17;
-case 5:
-goto l13;
-case 6:
-goto l18;
-case 7:
-goto l17;
-case 8:
-goto l17;
-case 9:
-goto l13;
-case 10:
-goto l16;
-case 11:
-goto l15;
-default:
-goto l17;
-}
-l20:;
-j0 = UINT64_C(5);
-v5 = j0;
-goto l14;
-l19:;
-j0 = v1;
-j1 = UINT64_C(1);
-i0 = (j0 != j1);
-if (!i0) {
-j0 = UINT64_C(0);
-v0 = j0;
-j0 = UINT64_C(2);
-v5 = j0;
-goto l12;
-}
-j0 = v0;
-j1 = UINT64_C(1);
-j0 = j0 + j1;
-p3 = read_at(j0, m, 1u);
-j0 = load8(p3 + 0);
-j1 = UINT64_C(3);
-j0 = j0 * j1;
-j1 = UINT64_C(2);
-j0 = j0 + j1;
-v5 = j0;
-goto l14;
-l18:;
-j0 = UINT64_C(17);
-v5 = j0;
-goto l14;
-l17:;
-i0 = UINT32_C(0);
-v6 = i0;
-j0 = UINT64_C(0);
-v5 = j0;
-i0 = v3;
-i1 = UINT32_C(49);
-i0 = (i0 < i1);
-if (i0) { goto l13; }
-i0 = v3;
-i1 = UINT32_C(54);
-i0 = (i0 < i1);
-if (i0) { goto l15; }
-i0 = v3;
-i1 = UINT32_C(57);
-i0 = (i0 > i1);
-if (i0) { goto l13; }
-l16:;
-j0 = v1;
-v5 = j0;
-goto l14;
-l15:;
-j0 = UINT64_C(1);
-v5 = j0;
-l14:;
-i0 = UINT32_C(1);
-v6 = i0;
-l13:;
-j0 = v1;
-j1 = UINT64_C(773);
-i0 = (j0 > j1);
-if (i0) { goto l3; }
-i0 = v6;
-i0 = (i0 == 0);
-if (i0) { goto l3; }
-j0 = v1;
-j1 = UINT64_C(18446744073709551615);
-j0 = j0 + j1;
-v0 = j0;
-l12:;
-j0 = v5;
-j1 = v1;
-i0 = (j0 != j1);
-if (!i0) {
-i0 = v4;
-i1 = UINT32_C(60);
-i0 = (i0 > i1);
-if (i0) { goto l2; }
-i0 = UINT32_C(1);
-v2 = i0;
-j0 = UINT64_C(1);
-i1 = v4;
-j1 = (uint64_t)i1;
-v1 = j1;
-j0 = j0 << (j1 & 63);
-j1 = UINT64_C(2269251262241308672);
-j0 = j0 & j1;
-j1 = UINT64_C(0);
-i0 = (j0 != j1);
-if (!i0) {
-j0 = v1;
-j1 = UINT64_C(55);
-i0 = (j0 != j1);
-if (i0) { goto l2; }
-j0 = v0;
-j1 = UINT64_C(7);
-i0 = (j0 <= j1);
-if (i0) { goto l2; }
-j0 = v0;
-j1 = UINT64_C(15);
-i0 = (j0 <= j1);
-if (i0) { goto l2; }
-}
-}
-}
-l3:;
-i0 = v2;
-r = i0;
-return r;
-}
-l2:;
-fio2070_trap();
-return r;
-}
 static uint32_t fio_log_quiet_held_by_text(struct machine *m, uint64_t v0, uint64_t v1, uint64_t v2, uint64_t v3, uint64_t v4)
 {
 uint64_t v5 = 0;
@@ -53141,7 +55372,7 @@ i0 = (i0 != i1);
 if (!i0) {
 j0 = v17;
 j1 = v22;
-j2 = UINT64_C(66296);
+j2 = UINT64_C(1049336);
 i0 = core_slice_reads_slice_T_contains_i8_31_core_cmp_numbers_U8PartialEq(m, j0, j1, j2);
 i0 = (i0 == 0);
 if (i0) { goto l11; }
@@ -54452,325 +56683,6 @@ j0 = j0 + j1;
 m->g0 = j0;
 i0 = v6;
 r = i0;
-return r;
-}
-static uint32_t fio_form_message_is_message(struct machine *m, uint64_t v0, uint64_t v1)
-{
-uint32_t v2 = 0;
-uint32_t v3 = 0;
-uint64_t v4 = 0;
-uint32_t v5 = 0;
-uint32_t v6 = 0;
-uint32_t i0;
-uint32_t i1;
-uint32_t i2;
-uint64_t j0;
-uint64_t j1;
-uint32_t r = 0;
-uint8_t *p1;
-uint8_t *p2;
-uint8_t *p3;
-j0 = m->g0;
-j1 = UINT64_C(16);
-i0 = (SIGNED64(j0) < SIGNED64(j1));
-if (!i0) {
-j0 = v1;
-i0 = (j0 == 0);
-i0 = (i0 == 0);
-if (!i0) {
-i0 = UINT32_C(0);
-r = i0;
-return r;
-}
-j0 = v0;
-p1 = read_at(j0, m, 1u);
-i0 = (uint32_t)extend(load8(p1 + 0), 7);
-v2 = i0;
-i1 = UINT32_C(255);
-i0 = i0 & i1;
-v3 = i0;
-i0 = v2;
-i1 = UINT32_C(0);
-i0 = (SIGNED32(i0) < SIGNED32(i1));
-if (!i0) {
-j0 = UINT64_C(2);
-v4 = j0;
-i0 = UINT32_C(1);
-v5 = i0;
-i0 = v3;
-i1 = UINT32_C(4294967247);
-i0 = i0 + i1;
-switch (i0) {
-case 0:
-goto l7;
-case 1:
-goto l14;
-case 2:
-goto l13;
-case 3:
-goto l11;
-case 4:
-goto l11;
-case 5:
-goto l7;
-case 6:
-goto l12;
-case 7:
-goto l11;
-case 8:
-goto l11;
-case 9:
-goto l7;
-case 10:
-goto l10;
-case 11:
-goto l9;
-default:
-goto l11;
-}
-l14:;
-j0 = UINT64_C(5);
-v4 = j0;
-goto l8;
-l13:;
-j0 = v1;
-j1 = UINT64_C(1);
-i0 = (j0 != j1);
-if (!i0) {
-j0 = UINT64_C(0);
-v0 = j0;
-j0 = UINT64_C(2);
-v4 = j0;
-goto l6;
-}
-j0 = v0;
-j1 = UINT64_C(1);
-j0 = j0 + j1;
-p2 = read_at(j0, m, 1u);
-j0 = load8(p2 + 0);
-j1 = UINT64_C(3);
-j0 = j0 * j1;
-j1 = UINT64_C(2);
-j0 = j0 + j1;
-v4 = j0;
-goto l8;
-l12:;
-j0 = UINT64_C(17);
-v4 = j0;
-goto l8;
-l11:;
-i0 = UINT32_C(0);
-v5 = i0;
-j0 = UINT64_C(0);
-v4 = j0;
-i0 = v2;
-i1 = UINT32_C(49);
-i0 = (i0 < i1);
-if (i0) { goto l7; }
-i0 = v2;
-i1 = UINT32_C(54);
-i0 = (i0 < i1);
-if (i0) { goto l9; }
-i0 = v2;
-i1 = UINT32_C(57);
-i0 = (i0 > i1);
-if (i0) { goto l7; }
-l10:;
-j0 = v1;
-v4 = j0;
-goto l8;
-l9:;
-j0 = UINT64_C(1);
-v4 = j0;
-l8:;
-i0 = UINT32_C(1);
-v5 = i0;
-l7:;
-i0 = UINT32_C(0);
-v6 = i0;
-j0 = v1;
-j1 = UINT64_C(773);
-i0 = (j0 > j1);
-if (i0) { goto l4; }
-i0 = v5;
-i0 = (i0 == 0);
-if (i0) { goto l4; }
-j0 = v1;
-j1 = UINT64_C(18446744073709551615);
-j0 = j0 + j1;
-v0 = j0;
-l6:;
-j0 = v4;
-j1 = v1;
-i0 = (j0 == j1);
-if (!i0) {
-i0 = UINT32_C(0);
-r = i0;
-return r;
-}
-i0 = v3;
-i1 = UINT32_C(60);
-i0 = (i0 > i1);
-if (i0) { goto l2; }
-i0 = UINT32_C(1);
-v6 = i0;
-j0 = UINT64_C(1);
-i1 = v3;
-j1 = (uint64_t)i1;
-v1 = j1;
-j0 = j0 << (j1 & 63);
-j1 = UINT64_C(2269251262241308672);
-j0 = j0 & j1;
-j1 = UINT64_C(0);
-i0 = (j0 != j1);
-if (i0) { goto l4; }
-j0 = v1;
-j1 = UINT64_C(55);
-i0 = (j0 != j1);
-if (i0) { goto l2; }
-j0 = v0;
-j1 = UINT64_C(7);
-i0 = (j0 <= j1);
-if (i0) { goto l2; }
-j0 = v0;
-j1 = UINT64_C(15);
-i0 = (j0 > j1);
-if (i0) { goto l4; }
-goto l2;
-}
-j0 = UINT64_C(8);
-v4 = j0;
-i0 = v3;
-i1 = UINT32_C(4294967119);
-i0 = i0 + i1;
-switch (i0) {
-case 0:
-goto l18;
-case 1:
-goto l21;
-case 2:
-goto l21;
-case 3:
-goto l21;
-case 4:
-goto l21;
-case 5:
-goto l22;
-case 6:
-goto l21;
-case 7:
-goto l21;
-case 8:
-goto l21;
-case 9:
-goto l20;
-default:
-goto l21;
-}
-l22:;
-j0 = UINT64_C(8);
-v4 = j0;
-j0 = v1;
-j1 = UINT64_C(3);
-i0 = (j0 < j1);
-if (i0) { goto l17; }
-j0 = v0;
-j1 = UINT64_C(2);
-j0 = j0 + j1;
-p3 = read_at(j0, m, 1u);
-j0 = load8(p3 + 0);
-j1 = UINT64_C(3);
-j0 = j0 * j1;
-j1 = UINT64_C(8);
-j0 = j0 + j1;
-v4 = j0;
-goto l18;
-l21:;
-i0 = UINT32_C(0);
-v6 = i0;
-i0 = v2;
-i1 = UINT32_C(4294967217);
-i0 = (i0 < i1);
-if (i0) { goto l4; }
-i0 = v2;
-i1 = UINT32_C(4294967220);
-i0 = (i0 < i1);
-if (!i0) {
-i0 = v2;
-i1 = UINT32_C(4294967222);
-i0 = (i0 >= i1);
-if (i0) { goto l19; }
-j0 = UINT64_C(13);
-v4 = j0;
-goto l18;
-}
-l20:;
-j0 = UINT64_C(2);
-v4 = j0;
-goto l18;
-l19:;
-j0 = v1;
-v4 = j0;
-i0 = v2;
-i1 = UINT32_C(4294967229);
-i0 = (i0 >= i1);
-if (i0) { goto l4; }
-l18:;
-j0 = v1;
-j1 = UINT64_C(773);
-i0 = (j0 <= j1);
-if (!i0) {
-i0 = UINT32_C(0);
-r = i0;
-return r;
-}
-l17:;
-j0 = v4;
-j1 = v1;
-i0 = (j0 == j1);
-if (!i0) {
-i0 = UINT32_C(0);
-r = i0;
-return r;
-}
-i0 = UINT32_C(1);
-v6 = i0;
-i0 = UINT32_C(1);
-i1 = v3;
-i2 = UINT32_C(4294967119);
-i1 = i1 + i2;
-v3 = i1;
-i0 = i0 << (i1 & 31);
-i1 = UINT32_C(4071);
-i0 = i0 & i1;
-if (!i0) {
-i0 = v3;
-i1 = UINT32_C(3);
-i0 = (i0 != i1);
-if (!i0) {
-j0 = v1;
-j1 = UINT64_C(8);
-i0 = (j0 <= j1);
-if (i0) { goto l2; }
-i0 = UINT32_C(1);
-r = i0;
-return r;
-}
-j0 = v1;
-j1 = UINT64_C(8);
-i0 = (j0 <= j1);
-if (i0) { goto l2; }
-i0 = UINT32_C(1);
-r = i0;
-return r;
-}
-l4:;
-i0 = v6;
-r = i0;
-return r;
-}
-l2:;
-fio2070_trap();
 return r;
 }
 static void fio_rows_stream_Stream_divide(struct machine *m, uint64_t v0, uint64_t v1)
@@ -61053,472 +62965,6 @@ i0 = i0 & i1;
 r = i0;
 return r;
 }
-static void fio_form_octets_run_in(struct machine *m, uint64_t v0, uint32_t v1, uint32_t v2, uint64_t v3, uint64_t v4, uint64_t v5, uint64_t v6, uint64_t v7)
-{
-uint64_t v8 = 0;
-uint64_t v9 = 0;
-uint32_t v10 = 0;
-uint32_t v11 = 0;
-uint64_t v12 = 0;
-uint64_t v13 = 0;
-uint64_t v14 = 0;
-uint64_t v15 = 0;
-uint64_t v16 = 0;
-uint64_t v17 = 0;
-uint32_t i0;
-uint32_t i1;
-uint32_t i2;
-uint32_t i4;
-uint32_t i5;
-uint64_t j0;
-uint64_t j1;
-uint64_t j2;
-uint64_t j3;
-uint64_t j4;
-uint64_t j6;
-uint64_t j7;
-uint64_t j8;
-uint64_t j9;
-uint8_t *p1;
-uint8_t *p2;
-uint8_t *p3;
-uint8_t *p4;
-uint8_t *p5;
-uint8_t *p6;
-uint8_t *p7;
-uint8_t *p8;
-uint8_t *p9;
-uint8_t *p10;
-uint8_t *p11;
-uint8_t *p12;
-uint8_t *p13;
-uint8_t *p14;
-uint8_t *p15;
-uint8_t *p16;
-uint8_t *p17;
-j0 = m->g0;
-j1 = UINT64_C(16);
-j0 = j0 - j1;
-p1 = write_at(j0, m, 16u);
-v8 = j0;
-m->g0 = j0;
-j0 = v8;
-v9 = j0;
-j1 = UINT64_C(16);
-i0 = (SIGNED64(j0) < SIGNED64(j1));
-if (!i0) {
-j0 = v9;
-i1 = UINT32_C(0);
-store8(p1 + 12, i1);
-j0 = v9;
-i1 = UINT32_C(0);
-store32(p1 + 8, i1);
-j0 = v7;
-j1 = UINT64_C(2048);
-j0 = j0 + j1;
-p2 = read_at(j0, m, 8u);
-j0 = load64(p2 + 0);
-v8 = j0;
-i0 = (j0 == 0);
-v10 = i0;
-if (!i0) {
-i0 = v10;
-if (!i0) {
-j0 = v7;
-i1 = UINT32_C(0);
-j2 = v8;
-fill(m, j0, i1, j2);
-}
-j0 = v7;
-j1 = UINT64_C(2048);
-j0 = j0 + j1;
-j1 = UINT64_C(0);
-p3 = write_at(j0, m, 8u);
-store64(p3 + 0, j1);
-}
-j0 = v9;
-i1 = UINT32_C(0);
-store8(p1 + 15, i1);
-j0 = v9;
-i1 = UINT32_C(0);
-store16(p1 + 13, i1);
-i0 = UINT32_C(1);
-v11 = i0;
-j0 = UINT64_C(0);
-v12 = j0;
-j0 = v6;
-i0 = (j0 == 0);
-if (i0) { goto l2; }
-j0 = v4;
-i0 = (j0 == 0);
-if (i0) { goto l2; }
-j0 = v3;
-j1 = UINT64_C(2);
-j0 = j0 + j1;
-v13 = j0;
-j0 = UINT64_C(0);
-v12 = j0;
-j0 = UINT64_C(0);
-v14 = j0;
-j0 = UINT64_C(0);
-v15 = j0;
-j0 = UINT64_C(0);
-v8 = j0;
-l7:;
-j0 = v5;
-j1 = v8;
-j2 = UINT64_C(1);
-j1 = j1 + j2;
-v16 = j1;
-j0 = j0 + j1;
-v17 = j0;
-j0 = v5;
-j1 = v8;
-j0 = j0 + j1;
-p4 = read_at(j0, m, 1u);
-i0 = load8(p4 + 0);
-v10 = i0;
-j0 = v3;
-j1 = v15;
-j2 = UINT64_C(1);
-j1 = j1 << (j2 & 63);
-j0 = j0 + j1;
-v8 = j0;
-p5 = read_at(j0, m, 1u);
-j0 = load8(p5 + 0);
-i0 = (uint32_t)j0;
-switch (i0) {
-case 0:
-goto l12;
-case 1:
-goto l15;
-case 2:
-goto l14;
-default:
-goto l12;
-}
-l15:;
-j0 = v8;
-j1 = UINT64_C(1);
-j0 = j0 + j1;
-p6 = read_at(j0, m, 1u);
-i0 = load8(p6 + 0);
-i1 = v10;
-i2 = UINT32_C(255);
-i1 = i1 & i2;
-i0 = (i0 == i1);
-if (i0) { goto l13; }
-goto l2;
-l14:;
-i0 = v10;
-i1 = UINT32_C(255);
-i0 = i0 & i1;
-i1 = UINT32_C(32);
-i0 = (i0 != i1);
-if (i0) { goto l2; }
-l13:;
-j0 = v15;
-j1 = UINT64_C(1);
-j0 = j0 + j1;
-v8 = j0;
-j1 = v4;
-i0 = (j0 >= j1);
-if (i0) { goto l9; }
-j0 = v6;
-j1 = v16;
-i0 = (j0 == j1);
-if (i0) { goto l11; }
-j0 = v13;
-j1 = v15;
-j2 = UINT64_C(1);
-j1 = j1 << (j2 & 63);
-j0 = j0 + j1;
-v15 = j0;
-l16:;
-j0 = v15;
-p7 = read_at(j0, m, 1u);
-i0 = load8(p7 + 0);
-i1 = UINT32_C(2);
-i0 = (i0 != i1);
-if (i0) { goto l9; }
-j0 = v17;
-p8 = read_at(j0, m, 1u);
-i0 = load8(p8 + 0);
-i1 = UINT32_C(32);
-i0 = (i0 == i1);
-if (i0) { goto l9; }
-j0 = v15;
-j1 = UINT64_C(2);
-j0 = j0 + j1;
-v15 = j0;
-j0 = v4;
-j1 = v8;
-j2 = UINT64_C(1);
-j1 = j1 + j2;
-v8 = j1;
-i0 = (j0 != j1);
-if (i0) { goto l16; }
-goto l10;
-l12:;
-j0 = v9;
-j1 = UINT64_C(8);
-j0 = j0 + j1;
-i1 = v1;
-i2 = v2;
-j3 = v9;
-j4 = UINT64_C(13);
-j3 = j3 + j4;
-i4 = v10;
-i5 = v1;
-j6 = v9;
-j7 = UINT64_C(13);
-j6 = j6 + j7;
-j7 = v17;
-j8 = v6;
-j9 = v16;
-j8 = j8 - j9;
-i5 = fio_form_octets_makes_longer(m, i5, j6, j7, j8);
-fio_form_octets_next_in(m, j0, i1, i2, j3, i4, i5);
-j0 = v9;
-j0 = load8(p1 + 8);
-i0 = (uint32_t)j0;
-switch (i0) {
-case 0:
-goto l19;
-case 1:
-goto l18;
-case 2:
-goto l17;
-case 3:
-goto l2;
-default:
-goto l19;
-}
-l19:;
-j0 = v9;
-j1 = v9;
-i1 = load8(p1 + 11);
-store8(p1 + 15, i1);
-j0 = v9;
-j1 = v9;
-i1 = load16(p1 + 9);
-store16(p1 + 13, i1);
-goto l8;
-l18:;
-j0 = v14;
-j1 = UINT64_C(2048);
-i0 = (j0 == j1);
-if (i0) { goto l3; }
-j0 = v7;
-j1 = v14;
-j0 = j0 + j1;
-j1 = v9;
-i1 = load8(p1 + 9);
-p9 = write_at(j0, m, 1u);
-store8(p9 + 0, i1);
-j0 = v7;
-j1 = UINT64_C(2048);
-j0 = j0 + j1;
-j1 = v14;
-j2 = UINT64_C(1);
-j1 = j1 + j2;
-v14 = j1;
-p10 = write_at(j0, m, 8u);
-store64(p10 + 0, j1);
-j0 = v15;
-j1 = UINT64_C(1);
-j0 = j0 + j1;
-v8 = j0;
-j1 = v4;
-i0 = (j0 >= j1);
-if (!i0) {
-j0 = v6;
-j1 = v16;
-i0 = (j0 == j1);
-if (!i0) {
-j0 = v13;
-j1 = v15;
-j2 = UINT64_C(1);
-j1 = j1 << (j2 & 63);
-j0 = j0 + j1;
-v15 = j0;
-l23:;
-j0 = v15;
-p11 = read_at(j0, m, 1u);
-i0 = load8(p11 + 0);
-i1 = UINT32_C(2);
-i0 = (i0 != i1);
-if (i0) { goto l20; }
-j0 = v17;
-p12 = read_at(j0, m, 1u);
-i0 = load8(p12 + 0);
-i1 = UINT32_C(32);
-i0 = (i0 == i1);
-if (i0) { goto l20; }
-j0 = v15;
-j1 = UINT64_C(2);
-j0 = j0 + j1;
-v15 = j0;
-j0 = v4;
-j1 = v8;
-j2 = UINT64_C(1);
-j1 = j1 + j2;
-v8 = j1;
-i0 = (j0 != j1);
-if (i0) { goto l23; }
-goto l21;
-}
-j0 = v13;
-j1 = v15;
-j2 = UINT64_C(1);
-j1 = j1 << (j2 & 63);
-j0 = j0 + j1;
-v15 = j0;
-l24:;
-j0 = v15;
-p13 = read_at(j0, m, 1u);
-i0 = load8(p13 + 0);
-i1 = UINT32_C(2);
-i0 = (i0 != i1);
-if (i0) { goto l20; }
-j0 = v15;
-j1 = UINT64_C(2);
-j0 = j0 + j1;
-v15 = j0;
-j0 = v4;
-j1 = v8;
-j2 = UINT64_C(1);
-j1 = j1 + j2;
-v8 = j1;
-i0 = (j0 != j1);
-if (i0) { goto l24; }
-l21:;
-j0 = v4;
-v8 = j0;
-}
-l20:;
-j0 = v9;
-i1 = UINT32_C(0);
-store8(p1 + 15, i1);
-j0 = v9;
-i1 = UINT32_C(0);
-store16(p1 + 13, i1);
-j0 = UINT64_C(0);
-j1 = v8;
-j2 = v8;
-j3 = v4;
-i2 = (j2 == j3);
-j0 = i2 ? j0 : j1;
-v15 = j0;
-j0 = v16;
-v12 = j0;
-goto l8;
-l17:;
-j0 = v14;
-j1 = UINT64_C(2048);
-i0 = (j0 == j1);
-if (i0) { goto l3; }
-j0 = v7;
-j1 = v14;
-j0 = j0 + j1;
-j1 = v9;
-i1 = load8(p1 + 9);
-p14 = write_at(j0, m, 1u);
-store8(p14 + 0, i1);
-j0 = v7;
-j1 = UINT64_C(2048);
-j0 = j0 + j1;
-j1 = v14;
-j2 = UINT64_C(1);
-j1 = j1 + j2;
-v14 = j1;
-p15 = write_at(j0, m, 8u);
-store64(p15 + 0, j1);
-j0 = v9;
-j1 = v9;
-i1 = load8(p1 + 12);
-store8(p1 + 15, i1);
-j0 = v9;
-j1 = v9;
-i1 = load16(p1 + 10);
-store16(p1 + 13, i1);
-j0 = v16;
-v12 = j0;
-goto l8;
-l11:;
-j0 = v13;
-j1 = v15;
-j2 = UINT64_C(1);
-j1 = j1 << (j2 & 63);
-j0 = j0 + j1;
-v15 = j0;
-l25:;
-j0 = v15;
-p16 = read_at(j0, m, 1u);
-i0 = load8(p16 + 0);
-i1 = UINT32_C(2);
-i0 = (i0 != i1);
-if (i0) { goto l9; }
-j0 = v15;
-j1 = UINT64_C(2);
-j0 = j0 + j1;
-v15 = j0;
-j0 = v4;
-j1 = v8;
-j2 = UINT64_C(1);
-j1 = j1 + j2;
-v8 = j1;
-i0 = (j0 != j1);
-if (i0) { goto l25; }
-l10:;
-j0 = v4;
-v8 = j0;
-l9:;
-j0 = v9;
-i1 = UINT32_C(0);
-store8(p1 + 15, i1);
-j0 = v9;
-i1 = UINT32_C(0);
-store16(p1 + 13, i1);
-j0 = UINT64_C(0);
-j1 = v8;
-j2 = v8;
-j3 = v4;
-i2 = (j2 == j3);
-j0 = i2 ? j0 : j1;
-v15 = j0;
-l8:;
-j0 = v6;
-j1 = v16;
-i0 = (j0 <= j1);
-if (i0) { goto l2; }
-j0 = v16;
-v8 = j0;
-j0 = v15;
-j1 = v4;
-i0 = (j0 < j1);
-if (i0) { goto l7; }
-goto l2;
-}
-fio2070_trap();
-l3:;
-i0 = UINT32_C(0);
-v11 = i0;
-j0 = UINT64_C(0);
-v12 = j0;
-l2:;
-j0 = v0;
-j1 = v12;
-p17 = write_at(j0, m, 16u);
-store64(p17 + 8, j1);
-j0 = v0;
-i1 = v11;
-store8(p17 + 0, i1);
-j0 = v9;
-j1 = UINT64_C(16);
-j0 = j0 + j1;
-m->g0 = j0;
-}
 static uint32_t core_slice_reads_slice_T_contains_i8_31_core_cmp_numbers_U8PartialEq(struct machine *m, uint64_t v0, uint64_t v1, uint64_t v2)
 {
 uint32_t v3 = 0;
@@ -63512,7 +64958,7 @@ j0 = v9;
 j1 = UINT64_C(4);
 j0 = j0 << (j1 & 63);
 v7 = j0;
-j1 = UINT64_C(66312);
+j1 = UINT64_C(1049352);
 j0 = j0 + j1;
 p8 = read_at(j0, m, 8u);
 j0 = load64(p8 + 0);
@@ -63520,7 +64966,7 @@ j1 = v2;
 i0 = (j0 != j1);
 if (!i0) {
 j0 = v7;
-j1 = UINT64_C(66304);
+j1 = UINT64_C(1049344);
 j0 = j0 + j1;
 p9 = read_at(j0, m, 8u);
 j0 = load64(p9 + 0);
@@ -63664,7 +65110,7 @@ j0 = v9;
 j1 = UINT64_C(4);
 j0 = j0 << (j1 & 63);
 v2 = j0;
-j1 = UINT64_C(66696);
+j1 = UINT64_C(1049736);
 j0 = j0 + j1;
 p13 = read_at(j0, m, 8u);
 j0 = load64(p13 + 0);
@@ -63672,7 +65118,7 @@ j1 = v10;
 i0 = (j0 != j1);
 if (!i0) {
 j0 = v2;
-j1 = UINT64_C(66688);
+j1 = UINT64_C(1049728);
 j0 = j0 + j1;
 p14 = read_at(j0, m, 8u);
 j0 = load64(p14 + 0);
@@ -66585,7 +68031,7 @@ goto l6;
 l14:;
 j0 = v2;
 j1 = v3;
-j2 = UINT64_C(65754);
+j2 = UINT64_C(1048794);
 i0 = core_slice_reads_slice_T_contains_i8_31_core_cmp_numbers_U8PartialEq(m, j0, j1, j2);
 i0 = (i0 == 0);
 if (i0) { goto l3; }
@@ -66598,7 +68044,7 @@ if (i0) { goto l6; }
 l13:;
 j0 = v2;
 j1 = v3;
-j2 = UINT64_C(65755);
+j2 = UINT64_C(1048795);
 i0 = core_slice_reads_slice_T_contains_i8_31_core_cmp_numbers_U8PartialEq(m, j0, j1, j2);
 i0 = (i0 == 0);
 if (i0) { goto l5; }
@@ -66612,14 +68058,14 @@ j1 = v6;
 j2 = UINT64_C(24);
 j1 = j1 * j2;
 v7 = j1;
-j2 = UINT64_C(65768);
+j2 = UINT64_C(1048808);
 j1 = j1 + j2;
 p10 = read_at(j1, m, 8u);
 j1 = load64(p10 + 0);
 i0 = (j0 != j1);
 if (!i0) {
 j0 = v7;
-j1 = UINT64_C(65760);
+j1 = UINT64_C(1048800);
 j0 = j0 + j1;
 p11 = read_at(j0, m, 8u);
 j0 = load64(p11 + 0);
@@ -66688,7 +68134,7 @@ j1 = UINT64_C(18);
 i0 = (j0 > j1);
 if (i0) { goto l6; }
 j0 = v7;
-j1 = UINT64_C(65776);
+j1 = UINT64_C(1048816);
 j0 = j0 + j1;
 p14 = read_at(j0, m, 1u);
 i0 = load8(p14 + 0);
@@ -67316,902 +68762,8 @@ j1 = UINT64_C(2096);
 j0 = j0 + j1;
 m->g0 = j0;
 }
-static uint32_t fio_guess_words_may_begin(struct machine *m, uint64_t v0, uint64_t v1, uint64_t v2)
+static void fio_log_second_second_in(struct machine *m, uint64_t v0, uint64_t v1, uint64_t v2, uint64_t v3, uint64_t v4, uint64_t v5, uint64_t v6, uint64_t v7)
 {
-uint32_t v3 = 0;
-uint32_t v4 = 0;
-uint64_t v5 = 0;
-uint32_t v6 = 0;
-uint32_t v7 = 0;
-uint32_t i0;
-uint32_t i1;
-uint32_t i2;
-uint32_t i3;
-uint64_t j0;
-uint64_t j1;
-uint32_t r = 0;
-uint8_t *p1;
-uint8_t *p2;
-uint8_t *p3;
-uint8_t *p4;
-uint8_t *p5;
-uint8_t *p6;
-uint8_t *p7;
-uint8_t *p8;
-uint8_t *p9;
-j0 = m->g0;
-j1 = UINT64_C(16);
-i0 = (SIGNED64(j0) < SIGNED64(j1));
-if (!i0) {
-j0 = v2;
-i0 = (j0 == 0);
-i0 = (i0 == 0);
-if (!i0) {
-i0 = UINT32_C(32);
-v3 = i0;
-goto l5;
-}
-j0 = v0;
-j1 = v2;
-j0 = j0 + j1;
-j1 = UINT64_C(18446744073709551615);
-j0 = j0 + j1;
-p1 = read_at(j0, m, 1u);
-i0 = load8(p1 + 0);
-v3 = i0;
-l5:;
-i0 = UINT32_C(0);
-v4 = i0;
-j0 = v2;
-j1 = UINT64_C(1);
-j0 = j0 + j1;
-v5 = j0;
-j1 = v1;
-i0 = (j0 >= j1);
-if (!i0) {
-j0 = v0;
-j1 = v5;
-j0 = j0 + j1;
-p2 = read_at(j0, m, 1u);
-i0 = load8(p2 + 0);
-v4 = i0;
-}
-j0 = v0;
-j1 = v2;
-j0 = j0 + j1;
-v5 = j0;
-p3 = read_at(j0, m, 1u);
-i0 = load8(p3 + 0);
-v6 = i0;
-i1 = UINT32_C(48);
-i0 = (i0 < i1);
-if (!i0) {
-i0 = v6;
-i1 = UINT32_C(58);
-i0 = (i0 < i1);
-if (!i0) {
-i0 = v6;
-i1 = UINT32_C(65);
-i0 = (i0 < i1);
-if (i0) { goto l9; }
-i0 = v6;
-i1 = UINT32_C(71);
-i0 = (i0 < i1);
-if (!i0) {
-i0 = v6;
-i1 = UINT32_C(4294967199);
-i0 = i0 + i1;
-i1 = UINT32_C(255);
-i0 = i0 & i1;
-i1 = UINT32_C(5);
-i0 = (i0 > i1);
-if (i0) { goto l9; }
-}
-}
-i0 = UINT32_C(1);
-v7 = i0;
-i0 = v3;
-i1 = UINT32_C(255);
-i0 = i0 & i1;
-v6 = i0;
-i1 = UINT32_C(48);
-i0 = (i0 < i1);
-if (i0) { goto l8; }
-i0 = v6;
-i1 = UINT32_C(58);
-i0 = (i0 < i1);
-if (!i0) {
-i0 = v3;
-i1 = UINT32_C(255);
-i0 = i0 & i1;
-v6 = i0;
-i1 = UINT32_C(65);
-i0 = (i0 < i1);
-if (i0) { goto l8; }
-i0 = v6;
-i1 = UINT32_C(71);
-i0 = (i0 < i1);
-if (!i0) {
-i0 = v3;
-i1 = UINT32_C(4294967193);
-i0 = i0 + i1;
-i1 = UINT32_C(255);
-i0 = i0 & i1;
-i1 = UINT32_C(250);
-i0 = (i0 < i1);
-if (i0) { goto l8; }
-}
-}
-j0 = v2;
-j1 = UINT64_C(2);
-i0 = (j0 < j1);
-if (!i0) {
-j0 = v2;
-j1 = UINT64_C(2);
-i0 = (j0 != j1);
-if (!i0) {
-j0 = v0;
-p4 = read_at(j0, m, 1u);
-i0 = load8(p4 + 0);
-i1 = UINT32_C(48);
-i0 = (i0 != i1);
-if (i0) { goto l12; }
-j0 = v0;
-p5 = read_at(j0 + UINT64_C(1), m, 1u);
-i0 = load8(p5 + 0);
-i1 = UINT32_C(98);
-i0 = (i0 != i1);
-if (i0) { goto l12; }
-goto l8;
-}
-j0 = v5;
-j1 = UINT64_C(18446744073709551614);
-j0 = j0 + j1;
-p6 = read_at(j0, m, 2u);
-i0 = load8(p6 + 0);
-v6 = i0;
-j0 = v5;
-j1 = UINT64_C(18446744073709551615);
-j0 = j0 + j1;
-i0 = load8(p6 + 1);
-v4 = i0;
-i1 = UINT32_C(98);
-i0 = (i0 != i1);
-if (!i0) {
-i0 = v6;
-i1 = UINT32_C(4294967261);
-i0 = i0 + i1;
-switch (i0) {
-case 0:
-goto l14;
-case 1:
-goto l12;
-case 2:
-goto l12;
-case 3:
-goto l12;
-case 4:
-goto l12;
-case 5:
-goto l12;
-case 6:
-goto l12;
-case 7:
-goto l12;
-case 8:
-goto l12;
-case 9:
-goto l12;
-case 10:
-goto l12;
-case 11:
-goto l12;
-case 12:
-goto l12;
-case 13:
-goto l8;
-default:
-goto l12;
-}
-}
-i0 = v6;
-i1 = UINT32_C(35);
-i0 = (i0 != i1);
-if (i0) { goto l12; }
-j0 = v5;
-j1 = UINT64_C(18446744073709551613);
-j0 = j0 + j1;
-p7 = read_at(j0, m, 1u);
-i0 = load8(p7 + 0);
-i1 = UINT32_C(35);
-i0 = (i0 != i1);
-if (i0) { goto l12; }
-i0 = UINT32_C(16);
-v6 = i0;
-i0 = v4;
-i1 = UINT32_C(48);
-i0 = (i0 < i1);
-if (i0) { goto l2; }
-i0 = v4;
-i1 = UINT32_C(57);
-i0 = (i0 > i1);
-if (!i0) {
-i0 = v4;
-i1 = UINT32_C(4294967248);
-i0 = i0 + i1;
-v6 = i0;
-goto l2;
-}
-i0 = v4;
-i1 = UINT32_C(65);
-i0 = (i0 < i1);
-if (i0) { goto l2; }
-i0 = v4;
-i1 = UINT32_C(70);
-i0 = (i0 > i1);
-if (i0) { goto l3; }
-i0 = v4;
-i1 = UINT32_C(4294967241);
-i0 = i0 + i1;
-v6 = i0;
-goto l2;
-l14:;
-j0 = v5;
-j1 = UINT64_C(18446744073709551613);
-j0 = j0 + j1;
-p8 = read_at(j0, m, 1u);
-i0 = load8(p8 + 0);
-i1 = UINT32_C(35);
-i0 = (i0 == i1);
-if (i0) { goto l3; }
-}
-l12:;
-i0 = UINT32_C(0);
-r = i0;
-return r;
-}
-l9:;
-i0 = UINT32_C(0);
-v7 = i0;
-i0 = v6;
-i1 = UINT32_C(4294967264);
-i0 = i0 + i1;
-switch (i0) {
-case 0:
-goto l17;
-case 1:
-goto l8;
-case 2:
-goto l8;
-case 3:
-goto l8;
-case 4:
-goto l8;
-case 5:
-goto l8;
-case 6:
-goto l8;
-case 7:
-goto l8;
-case 8:
-goto l8;
-case 9:
-goto l8;
-case 10:
-goto l8;
-case 11:
-goto l8;
-case 12:
-goto l8;
-case 13:
-goto l18;
-default:
-goto l8;
-}
-l18:;
-i0 = v4;
-i1 = UINT32_C(4294967248);
-i0 = i0 + i1;
-i1 = UINT32_C(255);
-i0 = i0 & i1;
-i1 = UINT32_C(9);
-i0 = (i0 <= i1);
-if (!i0) {
-i0 = UINT32_C(0);
-r = i0;
-return r;
-}
-i0 = v3;
-i1 = UINT32_C(255);
-i0 = i0 & i1;
-i1 = UINT32_C(95);
-i0 = (i0 == i1);
-if (!i0) {
-i0 = UINT32_C(1);
-v7 = i0;
-i0 = v3;
-i1 = UINT32_C(255);
-i0 = i0 & i1;
-v6 = i0;
-i1 = UINT32_C(48);
-i0 = (i0 < i1);
-if (i0) { goto l8; }
-i0 = v6;
-i1 = UINT32_C(58);
-i0 = (i0 < i1);
-if (!i0) {
-i0 = v3;
-i1 = UINT32_C(255);
-i0 = i0 & i1;
-v6 = i0;
-i1 = UINT32_C(65);
-i0 = (i0 < i1);
-if (i0) { goto l8; }
-i0 = v6;
-i1 = UINT32_C(91);
-i0 = (i0 < i1);
-if (!i0) {
-i0 = v3;
-i1 = UINT32_C(4294967199);
-i0 = i0 + i1;
-i1 = UINT32_C(255);
-i0 = i0 & i1;
-i1 = UINT32_C(25);
-i0 = (i0 > i1);
-if (i0) { goto l8; }
-}
-}
-}
-i0 = UINT32_C(0);
-r = i0;
-return r;
-l17:;
-i0 = UINT32_C(0);
-v7 = i0;
-i0 = UINT32_C(0);
-v6 = i0;
-j0 = v2;
-j1 = UINT64_C(2);
-j0 = j0 + j1;
-v2 = j0;
-j1 = v1;
-i0 = (j0 >= j1);
-if (!i0) {
-j0 = v0;
-j1 = v2;
-j0 = j0 + j1;
-p9 = read_at(j0, m, 1u);
-i0 = load8(p9 + 0);
-i1 = UINT32_C(4294967248);
-i0 = i0 + i1;
-i1 = UINT32_C(255);
-i0 = i0 & i1;
-i1 = UINT32_C(10);
-i0 = (i0 < i1);
-v6 = i0;
-}
-i0 = v3;
-i1 = UINT32_C(255);
-i0 = i0 & i1;
-i1 = UINT32_C(4294967264);
-i0 = i0 + i1;
-v3 = i0;
-i1 = UINT32_C(59);
-i0 = (i0 > i1);
-if (!i0) {
-j0 = UINT64_C(1);
-i1 = v3;
-j1 = (uint64_t)i1;
-j0 = j0 << (j1 & 63);
-j1 = UINT64_C(576460752303427841);
-j0 = j0 & j1;
-j1 = UINT64_C(0);
-i0 = (j0 == j1);
-if (!i0) {
-i0 = UINT32_C(1);
-v7 = i0;
-i0 = v4;
-i1 = UINT32_C(4294967248);
-i0 = i0 + i1;
-i1 = UINT32_C(255);
-i0 = i0 & i1;
-i1 = UINT32_C(10);
-i0 = (i0 < i1);
-if (!i0) {
-i0 = v4;
-i1 = UINT32_C(255);
-i0 = i0 & i1;
-i1 = UINT32_C(32);
-i0 = (i0 == i1);
-i1 = v6;
-i0 = i0 & i1;
-v7 = i0;
-}
-}
-}
-l8:;
-i0 = v7;
-r = i0;
-return r;
-}
-fio2070_trap();
-l3:;
-i0 = v4;
-i1 = UINT32_C(4294967209);
-i0 = i0 + i1;
-i1 = UINT32_C(16);
-i2 = v4;
-i3 = UINT32_C(4294967199);
-i2 = i2 + i3;
-i3 = UINT32_C(255);
-i2 = i2 & i3;
-i3 = UINT32_C(6);
-i2 = (i2 < i3);
-i0 = i2 ? i0 : i1;
-v6 = i0;
-l2:;
-i0 = v6;
-i1 = UINT32_C(255);
-i0 = i0 & i1;
-i1 = UINT32_C(16);
-i0 = (i0 != i1);
-r = i0;
-return r;
-}
-static void fio_form_message_size_of(struct machine *m, uint64_t v0, uint64_t v1, uint64_t v2)
-{
-uint32_t v3 = 0;
-uint32_t v4 = 0;
-uint32_t i0;
-uint32_t i1;
-uint64_t j0;
-uint64_t j1;
-uint8_t *p1;
-uint8_t *p2;
-uint8_t *p3;
-uint8_t *p4;
-uint8_t *p5;
-j0 = m->g0;
-j1 = UINT64_C(16);
-i0 = (SIGNED64(j0) < SIGNED64(j1));
-if (!i0) {
-i0 = UINT32_C(0);
-v3 = i0;
-j0 = v2;
-j1 = UINT64_C(1);
-i0 = (j0 > j1);
-if (!i0) {
-j0 = v2;
-i0 = (uint32_t)j0;
-switch (i0) {
-case 0:
-goto l3;
-case 1:
-goto l12;
-default:
-goto l3;
-}
-l12:;
-i0 = UINT32_C(1);
-v3 = i0;
-j0 = v1;
-p1 = read_at(j0, m, 1u);
-i0 = load8(p1 + 0);
-v4 = i0;
-i1 = UINT32_C(4294967247);
-i0 = i0 + i1;
-switch (i0) {
-case 0:
-goto l4;
-case 1:
-goto l5;
-case 2:
-goto l6;
-case 3:
-goto l13;
-case 4:
-goto l13;
-case 5:
-goto l4;
-case 6:
-goto l8;
-case 7:
-goto l13;
-case 8:
-goto l13;
-case 9:
-goto l4;
-case 10:
-goto l9;
-case 11:
-goto l7;
-default:
-goto l14;
-}
-l14:;
-j0 = UINT64_C(8);
-v2 = j0;
-i0 = v4;
-i1 = UINT32_C(4294967119);
-i0 = i0 + i1;
-switch (i0) {
-case 0:
-goto l3;
-case 1:
-goto l13;
-case 2:
-goto l13;
-case 3:
-goto l13;
-case 4:
-goto l13;
-case 5:
-goto l6;
-case 6:
-goto l13;
-case 7:
-goto l13;
-case 8:
-goto l13;
-case 9:
-goto l4;
-default:
-goto l13;
-}
-l13:;
-j0 = UINT64_C(0);
-v2 = j0;
-i0 = v4;
-i1 = UINT32_C(49);
-i0 = (i0 >= i1);
-if (!i0) {
-i0 = UINT32_C(3);
-v3 = i0;
-goto l3;
-}
-i0 = v4;
-i1 = UINT32_C(54);
-i0 = (i0 < i1);
-if (i0) { goto l7; }
-i0 = v4;
-i1 = UINT32_C(58);
-i0 = (i0 < i1);
-if (i0) { goto l9; }
-i0 = v4;
-i1 = UINT32_C(177);
-i0 = (i0 >= i1);
-if (!i0) {
-i0 = UINT32_C(3);
-v3 = i0;
-goto l3;
-}
-i0 = v4;
-i1 = UINT32_C(180);
-i0 = (i0 < i1);
-if (i0) { goto l4; }
-i0 = v4;
-i1 = UINT32_C(182);
-i0 = (i0 >= i1);
-if (i0) { goto l10; }
-j0 = UINT64_C(13);
-v2 = j0;
-goto l3;
-}
-j0 = v1;
-p2 = read_at(j0, m, 1u);
-i0 = load8(p2 + 0);
-v4 = i0;
-j0 = v2;
-j1 = UINT64_C(2);
-i0 = (j0 > j1);
-if (!i0) {
-i0 = UINT32_C(1);
-v3 = i0;
-i0 = v4;
-i1 = UINT32_C(4294967247);
-i0 = i0 + i1;
-switch (i0) {
-case 0:
-goto l4;
-case 1:
-goto l5;
-case 2:
-goto l17;
-case 3:
-goto l19;
-case 4:
-goto l19;
-case 5:
-goto l4;
-case 6:
-goto l8;
-case 7:
-goto l19;
-case 8:
-goto l19;
-case 9:
-goto l4;
-case 10:
-goto l9;
-case 11:
-goto l7;
-default:
-goto l20;
-}
-l20:;
-j0 = UINT64_C(8);
-v2 = j0;
-i0 = v4;
-i1 = UINT32_C(4294967119);
-i0 = i0 + i1;
-switch (i0) {
-case 0:
-goto l3;
-case 1:
-goto l19;
-case 2:
-goto l19;
-case 3:
-goto l19;
-case 4:
-goto l19;
-case 5:
-goto l6;
-case 6:
-goto l19;
-case 7:
-goto l19;
-case 8:
-goto l19;
-case 9:
-goto l4;
-default:
-goto l19;
-}
-l19:;
-j0 = UINT64_C(0);
-v2 = j0;
-i0 = v4;
-i1 = UINT32_C(49);
-i0 = (i0 >= i1);
-if (!i0) {
-i0 = UINT32_C(3);
-v3 = i0;
-goto l3;
-}
-i0 = v4;
-i1 = UINT32_C(54);
-i0 = (i0 < i1);
-if (i0) { goto l7; }
-i0 = v4;
-i1 = UINT32_C(58);
-i0 = (i0 < i1);
-if (i0) { goto l9; }
-i0 = v4;
-i1 = UINT32_C(177);
-i0 = (i0 >= i1);
-if (!i0) {
-i0 = UINT32_C(3);
-v3 = i0;
-goto l3;
-}
-i0 = v4;
-i1 = UINT32_C(180);
-i0 = (i0 < i1);
-if (i0) { goto l4; }
-i0 = v4;
-i1 = UINT32_C(182);
-i0 = (i0 >= i1);
-if (!i0) {
-j0 = UINT64_C(13);
-v2 = j0;
-goto l3;
-}
-i0 = UINT32_C(3);
-v3 = i0;
-i0 = v4;
-i1 = UINT32_C(189);
-i0 = (i0 < i1);
-if (i0) { goto l9; }
-goto l3;
-}
-i0 = UINT32_C(1);
-v3 = i0;
-i0 = v4;
-i1 = UINT32_C(4294967247);
-i0 = i0 + i1;
-switch (i0) {
-case 0:
-goto l4;
-case 1:
-goto l5;
-case 2:
-goto l17;
-case 3:
-goto l24;
-case 4:
-goto l24;
-case 5:
-goto l4;
-case 6:
-goto l8;
-case 7:
-goto l24;
-case 8:
-goto l24;
-case 9:
-goto l4;
-case 10:
-goto l9;
-case 11:
-goto l7;
-default:
-goto l25;
-}
-l25:;
-j0 = UINT64_C(8);
-v2 = j0;
-i0 = v4;
-i1 = UINT32_C(4294967119);
-i0 = i0 + i1;
-switch (i0) {
-case 0:
-goto l3;
-case 1:
-goto l24;
-case 2:
-goto l24;
-case 3:
-goto l24;
-case 4:
-goto l24;
-case 5:
-goto l26;
-case 6:
-goto l24;
-case 7:
-goto l24;
-case 8:
-goto l24;
-case 9:
-goto l4;
-default:
-goto l24;
-}
-l26:;
-j0 = v1;
-j1 = UINT64_C(2);
-j0 = j0 + j1;
-p3 = read_at(j0, m, 1u);
-j0 = load8(p3 + 0);
-j1 = UINT64_C(3);
-j0 = j0 * j1;
-j1 = UINT64_C(8);
-j0 = j0 + j1;
-v2 = j0;
-goto l3;
-l24:;
-j0 = UINT64_C(0);
-v2 = j0;
-i0 = v4;
-i1 = UINT32_C(49);
-i0 = (i0 >= i1);
-if (!i0) {
-i0 = UINT32_C(3);
-v3 = i0;
-goto l3;
-}
-i0 = v4;
-i1 = UINT32_C(54);
-i0 = (i0 < i1);
-if (i0) { goto l7; }
-i0 = v4;
-i1 = UINT32_C(58);
-i0 = (i0 < i1);
-if (i0) { goto l9; }
-i0 = v4;
-i1 = UINT32_C(177);
-i0 = (i0 >= i1);
-if (!i0) {
-i0 = UINT32_C(3);
-v3 = i0;
-goto l3;
-}
-i0 = v4;
-i1 = UINT32_C(180);
-i0 = (i0 < i1);
-if (i0) { goto l4; }
-i0 = v4;
-i1 = UINT32_C(182);
-i0 = (i0 >= i1);
-if (!i0) {
-j0 = UINT64_C(13);
-v2 = j0;
-goto l3;
-}
-i0 = UINT32_C(3);
-v3 = i0;
-i0 = v4;
-i1 = UINT32_C(189);
-i0 = (i0 < i1);
-if (i0) { goto l9; }
-goto l3;
-l17:;
-j0 = v1;
-j1 = UINT64_C(1);
-j0 = j0 + j1;
-p4 = read_at(j0, m, 1u);
-j0 = load8(p4 + 0);
-j1 = UINT64_C(3);
-j0 = j0 * j1;
-j1 = UINT64_C(2);
-j0 = j0 + j1;
-v2 = j0;
-i0 = UINT32_C(1);
-v3 = i0;
-goto l3;
-l10:;
-i0 = UINT32_C(3);
-v3 = i0;
-i0 = v4;
-i1 = UINT32_C(189);
-i0 = (i0 >= i1);
-if (i0) { goto l3; }
-l9:;
-i0 = UINT32_C(2);
-v3 = i0;
-j0 = UINT64_C(0);
-v2 = j0;
-goto l3;
-l8:;
-i0 = UINT32_C(1);
-v3 = i0;
-j0 = UINT64_C(17);
-v2 = j0;
-goto l3;
-l7:;
-i0 = UINT32_C(1);
-v3 = i0;
-j0 = UINT64_C(1);
-v2 = j0;
-goto l3;
-l6:;
-j0 = UINT64_C(0);
-v2 = j0;
-i0 = UINT32_C(0);
-v3 = i0;
-goto l3;
-l5:;
-i0 = UINT32_C(1);
-v3 = i0;
-j0 = UINT64_C(5);
-v2 = j0;
-goto l3;
-l4:;
-i0 = UINT32_C(1);
-v3 = i0;
-j0 = UINT64_C(2);
-v2 = j0;
-l3:;
-j0 = v0;
-j1 = v2;
-p5 = write_at(j0, m, 16u);
-store64(p5 + 8, j1);
-j0 = v0;
-i1 = v3;
-store8(p5 + 0, i1);
-return;
-}
-fio2070_trap();
-}
-static void fio_log_learning_Learning_look(struct machine *m, uint64_t v0, uint64_t v1)
-{
-uint64_t v2 = 0;
-uint64_t v3 = 0;
-uint64_t v4 = 0;
-uint64_t v5 = 0;
-uint64_t v6 = 0;
-uint64_t v7 = 0;
 uint64_t v8 = 0;
 uint64_t v9 = 0;
 uint64_t v10 = 0;
@@ -68220,11 +68772,13 @@ uint64_t v12 = 0;
 uint64_t v13 = 0;
 uint64_t v14 = 0;
 uint64_t v15 = 0;
-uint32_t v16 = 0;
+uint64_t v16 = 0;
+uint32_t v17 = 0;
+uint64_t v18 = 0;
+uint64_t v19 = 0;
 uint32_t i0;
 uint32_t i1;
 uint32_t i2;
-uint32_t i3;
 uint64_t j0;
 uint64_t j1;
 uint64_t j2;
@@ -68233,7 +68787,6 @@ uint64_t j4;
 uint64_t j5;
 uint64_t j6;
 uint64_t j7;
-uint64_t j8;
 uint8_t *p1;
 uint8_t *p2;
 uint8_t *p3;
@@ -68258,762 +68811,844 @@ uint8_t *p21;
 uint8_t *p22;
 uint8_t *p23;
 uint8_t *p24;
-uint8_t *p25;
-uint8_t *p26;
-uint8_t *p27;
-uint8_t *p28;
-uint8_t *p29;
 j0 = m->g0;
-j1 = UINT64_C(39888);
+j1 = UINT64_C(80);
 j0 = j0 - j1;
-p1 = write_at(j0, m, 39888u);
-v2 = j0;
+p1 = write_at(j0, m, 80u);
+v8 = j0;
 m->g0 = j0;
-j0 = v2;
-v3 = j0;
+j0 = v8;
+v9 = j0;
 j1 = UINT64_C(16);
 i0 = (SIGNED64(j0) < SIGNED64(j1));
 if (!i0) {
-j0 = v3;
-j1 = UINT64_C(40);
-j0 = j0 + j1;
-i1 = UINT32_C(0);
-j2 = UINT64_C(12552);
-fill(m, j0, i1, j2);
-j0 = v3;
-j1 = UINT64_C(12592);
-j0 = j0 + j1;
-i1 = UINT32_C(0);
-j2 = UINT64_C(12552);
-fill(m, j0, i1, j2);
-j0 = v1;
-j1 = UINT64_C(69640);
-j0 = j0 + j1;
-p2 = read_at(j0, m, 168440u);
-j0 = load64(p2 + 0);
-v2 = j0;
-j1 = v1;
-j2 = UINT64_C(238072);
-j1 = j1 + j2;
-j1 = load64(p2 + 168432);
-v4 = j1;
-i0 = (j0 < j1);
-if (!i0) {
-j0 = v4;
-j1 = UINT64_C(1024);
-i0 = (j0 < j1);
-if (i0) { goto l5; }
-}
-j0 = v3;
-j1 = UINT64_C(40);
-j0 = j0 + j1;
-i1 = UINT32_C(0);
-j2 = UINT64_C(12552);
-fill(m, j0, i1, j2);
-goto l4;
-l5:;
-j0 = v1;
-j1 = UINT64_C(238072);
-j0 = j0 + j1;
-j1 = v2;
-j2 = UINT64_C(1);
-j1 = j1 << (j2 & 63);
-j2 = UINT64_C(18446744073709551615);
-j3 = v2;
-j4 = UINT64_C(18446744073709551615);
-i3 = (SIGNED64(j3) > SIGNED64(j4));
-j1 = i3 ? j1 : j2;
-p3 = write_at(j0, m, 8u);
-store64(p3 + 0, j1);
-j0 = v3;
-j1 = UINT64_C(12592);
-j0 = j0 + j1;
-j1 = v1;
-j2 = UINT64_C(69648);
-j1 = j1 + j2;
-j2 = v1;
-i3 = UINT32_C(0);
-fio_sniff_sniffing_Sniffer_sniff(m, j0, j1, j2, i3);
-j0 = v3;
-j1 = UINT64_C(25280);
-j0 = j0 + j1;
-j1 = v3;
-j2 = UINT64_C(12592);
-j1 = j1 + j2;
-j2 = UINT64_C(12552);
-copy(m, j0, j1, j2);
-j0 = v3;
-j1 = UINT64_C(25144);
-j0 = j0 + j1;
-i1 = UINT32_C(0);
-j2 = UINT64_C(136);
-fill(m, j0, i1, j2);
-j0 = v3;
-j0 = load64(p1 + 37824);
-v5 = j0;
-i0 = (j0 == 0);
-if (!i0) {
-j0 = v3;
-j1 = UINT64_C(25280);
-j0 = j0 + j1;
-v6 = j0;
-j0 = UINT64_C(0);
-v7 = j0;
+j0 = v9;
+j1 = UINT64_C(0);
+store64(p1 + 72, j1);
+j0 = v9;
+j1 = UINT64_C(0);
+store64(p1 + 64, j1);
+j0 = v9;
+j1 = UINT64_C(0);
+store64(p1 + 56, j1);
+j0 = v9;
+j1 = UINT64_C(0);
+store64(p1 + 24, j1);
+j0 = v9;
+j1 = UINT64_C(0);
+store64(p1 + 32, j1);
+j0 = v9;
+j1 = UINT64_C(0);
+store64(p1 + 40, j1);
+j0 = v9;
+j1 = UINT64_C(0);
+store64(p1 + 48, j1);
 j0 = v5;
-v8 = j0;
-l9:;
-j0 = v6;
-j0 = fio_guess_hashes_hash_of(m, j0);
-j1 = v6;
-j2 = UINT64_C(778);
-j1 = j1 + j2;
-p4 = read_at(j1 + UINT64_C(18446744073709551598), m, 19u);
-j1 = load8(p4 + 18);
-j0 = j0 ^ j1;
-v4 = j0;
-j0 = v6;
-j1 = UINT64_C(760);
-j0 = j0 + j1;
-j0 = load64(p4 + 0);
-v9 = j0;
-i0 = (j0 == 0);
-if (!i0) {
-j0 = v9;
-j1 = UINT64_C(3);
-j0 = j0 & j1;
-v2 = j0;
-i0 = (j0 == 0);
-i0 = (i0 == 0);
-if (!i0) {
-j0 = v6;
-j1 = UINT64_C(664);
-j0 = j0 + j1;
-v2 = j0;
-j0 = v9;
-v10 = j0;
-goto l11;
-}
-j0 = v2;
-j1 = UINT64_C(2);
-j0 = j0 << (j1 & 63);
-v11 = j0;
-j0 = UINT64_C(0);
-v2 = j0;
-j0 = v9;
-v10 = j0;
-for (;;) {
-j0 = v10;
-j1 = UINT64_C(18446744073709551615);
-j0 = j0 + j1;
-v10 = j0;
-j0 = v4;
-j1 = v6;
-j2 = v2;
-j1 = j1 + j2;
-j2 = UINT64_C(664);
-j1 = j1 + j2;
-p5 = read_at(j1, m, 4u);
-j1 = load32(p5 + 0);
-j0 = j0 ^ j1;
-j1 = UINT64_C(1099511628211);
-j0 = j0 * j1;
-v4 = j0;
-j0 = v11;
-j1 = v2;
-j2 = UINT64_C(4);
-j1 = j1 + j2;
-v2 = j1;
-i0 = (j0 != j1);
-if (!i0) break;
-}
-j0 = v6;
-j1 = v2;
-j0 = j0 + j1;
-j1 = UINT64_C(664);
-j0 = j0 + j1;
-v2 = j0;
-l11:;
-j0 = v9;
-j1 = UINT64_C(4);
-i0 = (j0 < j1);
-if (!i0) {
-p6 = read_at(v2 + UINT64_C(0), m, run(16u, 16u, turns(v10, UINT64_C(0), 4u)));
-for (;;) {
-j0 = v4;
-j1 = v2;
-j1 = load32(p6 + 0);
-j0 = j0 ^ j1;
-j1 = UINT64_C(1099511628211);
-j0 = j0 * j1;
-j1 = v2;
-j2 = UINT64_C(4);
-j1 = j1 + j2;
-j1 = load32(p6 + 4);
-j0 = j0 ^ j1;
-j1 = UINT64_C(1099511628211);
-j0 = j0 * j1;
-j1 = v2;
-j2 = UINT64_C(8);
-j1 = j1 + j2;
-j1 = load32(p6 + 8);
-j0 = j0 ^ j1;
-j1 = UINT64_C(1099511628211);
-j0 = j0 * j1;
-j1 = v2;
-j2 = UINT64_C(12);
-j1 = j1 + j2;
-j1 = load32(p6 + 12);
-j0 = j0 ^ j1;
-j1 = UINT64_C(1099511628211);
-j0 = j0 * j1;
-v4 = j0;
-j0 = v2;
-j1 = UINT64_C(16);
-j0 = j0 + j1;
-v2 = j0;
-j0 = v10;
-j1 = UINT64_C(18446744073709551612);
-j0 = j0 + j1;
-v10 = j0;
-j1 = UINT64_C(0);
-i0 = (j0 != j1);
-if (!i0) break;
-p6 += 16;
-}
-}
-}
-j0 = v8;
-j1 = UINT64_C(18446744073709551615);
-j0 = j0 + j1;
-v8 = j0;
-j0 = UINT64_C(16);
-v2 = j0;
-j0 = v7;
-j1 = UINT64_C(16);
-i0 = (j0 == j1);
-if (!i0) {
-j0 = v3;
-j1 = UINT64_C(25144);
-j0 = j0 + j1;
-j1 = v7;
-j2 = UINT64_C(3);
-j1 = j1 << (j2 & 63);
-j0 = j0 + j1;
 j1 = v4;
-p7 = write_at(j0, m, 8u);
-store64(p7 + 0, j1);
-j0 = v3;
-j1 = v7;
-j2 = UINT64_C(1);
-j1 = j1 + j2;
-v2 = j1;
-store64(p1 + 25272, j1);
-}
-j0 = v6;
-j1 = UINT64_C(784);
-j0 = j0 + j1;
-v6 = j0;
-j0 = v2;
-v7 = j0;
-j0 = v8;
-j1 = UINT64_C(0);
-i0 = (j0 != j1);
-if (i0) { goto l9; }
-j0 = v2;
-j1 = v1;
-j2 = UINT64_C(238056);
-j1 = j1 + j2;
-p8 = read_at(j1, m, 8u);
-j1 = load64(p8 + 0);
-i0 = (j0 != j1);
-if (!i0) {
-j0 = UINT64_C(4);
-v4 = j0;
-j0 = UINT64_C(0);
-v7 = j0;
-j0 = v2;
-j1 = UINT64_C(4);
-i0 = (j0 < j1);
-if (!i0) {
-j0 = v2;
-j1 = UINT64_C(18446744073709551612);
-j0 = j0 & j1;
-v7 = j0;
-j0 = UINT64_C(0);
-v10 = j0;
-j0 = v2;
-v11 = j0;
-j0 = UINT64_C(0);
-v6 = j0;
-l17:;
-j0 = v4;
-i0 = (j0 == 0);
-if (!i0) {
-j0 = v3;
-j1 = UINT64_C(25144);
-j0 = j0 + j1;
-j1 = v10;
-j0 = j0 + j1;
-v8 = j0;
-p9 = read_at(j0, m, 8u);
-j0 = load64(p9 + 0);
-j1 = v1;
-j2 = v10;
-j1 = j1 + j2;
-v9 = j1;
-j2 = UINT64_C(237928);
-j1 = j1 + j2;
-p10 = read_at(j1, m, 8u);
-j1 = load64(p10 + 0);
-i0 = (j0 == j1);
-if (!i0) {
-j0 = v4;
-j1 = UINT64_C(18446744073709551612);
-j0 = j0 + j1;
-v8 = j0;
-goto l19;
-}
-j0 = v8;
-j1 = UINT64_C(8);
-j0 = j0 + j1;
-p11 = read_at(j0, m, 8u);
-j0 = load64(p11 + 0);
-j1 = v9;
-j2 = UINT64_C(237936);
-j1 = j1 + j2;
-p12 = read_at(j1, m, 8u);
-j1 = load64(p12 + 0);
-i0 = (j0 == j1);
-if (!i0) {
-j0 = v6;
-j1 = UINT64_C(1);
-j0 = j0 | j1;
-v8 = j0;
-goto l19;
-}
-j0 = v8;
-j1 = UINT64_C(16);
-j0 = j0 + j1;
-p13 = read_at(j0, m, 8u);
-j0 = load64(p13 + 0);
-j1 = v9;
-j2 = UINT64_C(237944);
-j1 = j1 + j2;
-p14 = read_at(j1, m, 8u);
-j1 = load64(p14 + 0);
-i0 = (j0 == j1);
-if (!i0) {
-j0 = v6;
-j1 = UINT64_C(2);
-j0 = j0 | j1;
-v8 = j0;
-goto l19;
-}
-j0 = v4;
-j1 = v4;
-j2 = UINT64_C(18446744073709551615);
-j1 = j1 + j2;
-j2 = v8;
-j3 = UINT64_C(24);
-j2 = j2 + j3;
-p15 = read_at(j2, m, 8u);
-j2 = load64(p15 + 0);
-j3 = v9;
-j4 = UINT64_C(237952);
-j3 = j3 + j4;
-p16 = read_at(j3, m, 8u);
-j3 = load64(p16 + 0);
-i2 = (j2 == j3);
-j0 = i2 ? j0 : j1;
-v8 = j0;
-l19:;
-j0 = v8;
-j1 = v4;
-i0 = (j0 < j1);
-if (i0) { goto l8; }
-}
-j0 = v6;
-j1 = UINT64_C(4);
-j0 = j0 + j1;
-v6 = j0;
-j0 = v4;
-j1 = UINT64_C(4);
-j0 = j0 + j1;
-v4 = j0;
-j0 = v10;
-j1 = UINT64_C(32);
-j0 = j0 + j1;
-v10 = j0;
-j0 = v11;
-j1 = UINT64_C(18446744073709551612);
-j0 = j0 + j1;
-v11 = j0;
-j1 = UINT64_C(3);
-i0 = (j0 > j1);
-if (i0) { goto l17; }
-}
-j0 = v7;
-j1 = v2;
 i0 = (j0 >= j1);
 if (!i0) {
-j0 = v7;
-j1 = UINT64_C(3);
-j0 = j0 << (j1 & 63);
-v10 = j0;
-j1 = v1;
-j0 = j0 + j1;
-j1 = UINT64_C(237928);
-j0 = j0 + j1;
-v4 = j0;
-j0 = v3;
-j1 = UINT64_C(25144);
-j0 = j0 + j1;
-j1 = v10;
-j0 = j0 + j1;
-v10 = j0;
-l25:;
-j0 = v10;
-p17 = read_at(j0, m, 8u);
-j0 = load64(p17 + 0);
-j1 = v4;
-p18 = read_at(j1, m, 8u);
-j1 = load64(p18 + 0);
-i0 = (j0 != j1);
-if (i0) { goto l24; }
-j0 = v10;
-j1 = UINT64_C(8);
-j0 = j0 + j1;
-v10 = j0;
-j0 = v4;
-j1 = UINT64_C(8);
-j0 = j0 + j1;
-v4 = j0;
 j0 = v2;
-j1 = v7;
-j2 = UINT64_C(1);
-j1 = j1 + j2;
-v7 = j1;
-i0 = (j0 != j1);
-if (i0) { goto l25; }
-goto l23;
-l24:;
-j0 = v7;
-j1 = v2;
-i0 = (j0 < j1);
-if (i0) { goto l8; }
-}
-l23:;
-j0 = v1;
-j1 = UINT64_C(238064);
-j0 = j0 + j1;
-p19 = read_at(j0, m, 1u);
-i0 = load8(p19 + 0);
-if (!i0) {
-j0 = v3;
-j1 = UINT64_C(37832);
-j0 = j0 + j1;
-i1 = UINT32_C(0);
-j2 = UINT64_C(2056);
-fill(m, j0, i1, j2);
-j0 = v1;
-j1 = UINT64_C(69640);
-j0 = j0 + j1;
-p20 = read_at(j0, m, 8u);
-j0 = load64(p20 + 0);
-v12 = j0;
 i0 = (j0 == 0);
 if (!i0) {
-j0 = v1;
-j1 = UINT64_C(181056);
-j0 = j0 + j1;
-v13 = j0;
-j0 = v1;
-j1 = UINT64_C(65544);
-j0 = j0 + j1;
-v14 = j0;
-j0 = UINT64_C(0);
-v15 = j0;
-l28:;
-j0 = v15;
-j1 = UINT64_C(1024);
-i0 = (j0 < j1);
-if (!i0) {
-j0 = v14;
-j1 = v15;
-j2 = UINT64_C(2);
-j1 = j1 << (j2 & 63);
-v2 = j1;
-j0 = j0 + j1;
-p21 = read_at(j0, m, 4u);
-j0 = load32(p21 + 0);
-v11 = j0;
-goto l31;
-}
-j0 = v13;
-j1 = v15;
-j0 = j0 + j1;
-p22 = read_at(j0, m, 1u);
-i0 = load8(p22 + 0);
-if (i0) { goto l29; }
-j0 = v14;
-j1 = v15;
-j2 = UINT64_C(2);
-j1 = j1 << (j2 & 63);
-v2 = j1;
-j0 = j0 + j1;
-p23 = read_at(j0, m, 4u);
-j0 = load32(p23 + 0);
-v11 = j0;
-j0 = v1;
-v10 = j0;
-j0 = v15;
-i0 = (j0 == 0);
-if (i0) { goto l30; }
-l31:;
-j0 = v11;
-j1 = v14;
-j2 = v2;
-j1 = j1 + j2;
-j2 = UINT64_C(18446744073709551612);
-j1 = j1 + j2;
-p24 = read_at(j1, m, 4u);
-j1 = load32(p24 + 0);
-v2 = j1;
+l6:;
+j0 = v4;
+j1 = v5;
 j0 = j0 - j1;
-v11 = j0;
-j0 = v1;
-j1 = v2;
-j0 = j0 + j1;
 v10 = j0;
-l30:;
-j0 = v11;
-i0 = (j0 == 0);
-if (!i0) {
-j0 = UINT64_C(0);
-v9 = j0;
-l33:;
 j0 = v3;
-j1 = UINT64_C(25280);
+j1 = v5;
 j0 = j0 + j1;
-j1 = v9;
+v11 = j0;
+j0 = UINT64_C(0);
+v12 = j0;
+j0 = v1;
+v13 = j0;
+l7:;
+j0 = v1;
+j1 = v12;
 j2 = UINT64_C(784);
 j1 = j1 * j2;
 j0 = j0 + j1;
-v6 = j0;
-j1 = UINT64_C(520);
+v14 = j0;
+j1 = UINT64_C(512);
 j0 = j0 + j1;
-p25 = read_at(j0, m, 1u);
-i0 = load8(p25 + 0);
-v16 = i0;
-i1 = UINT32_C(4294967286);
-i0 = i0 + i1;
-i1 = UINT32_C(255);
-i0 = i0 & i1;
-i1 = UINT32_C(252);
-i0 = (i0 > i1);
+p2 = read_at(j0, m, 8u);
+j0 = load64(p2 + 0);
+v15 = j0;
+i0 = (j0 == 0);
 if (!i0) {
-j0 = v6;
-j1 = UINT64_C(528);
-j0 = j0 + j1;
-v7 = j0;
+j0 = v15;
+j1 = UINT64_C(1);
+i0 = (j0 != j1);
+if (!i0) {
 j0 = UINT64_C(0);
-v2 = j0;
-j0 = v11;
-v4 = j0;
-l35:;
-j0 = v10;
-j1 = v11;
-j2 = v2;
-i0 = fio_guess_words_may_begin(m, j0, j1, j2);
+v16 = j0;
+i0 = UINT32_C(0);
+v17 = i0;
+goto l10;
+}
+j0 = v15;
+j1 = UINT64_C(1);
+j0 = j0 & j1;
+v18 = j0;
+j0 = v15;
+j1 = UINT64_C(18446744073709551614);
+j0 = j0 & j1;
+v19 = j0;
+j0 = UINT64_C(0);
+v16 = j0;
+i0 = UINT32_C(0);
+v17 = i0;
+j0 = v13;
+v8 = j0;
+l12:;
+j0 = v8;
+p3 = read_at(j0, m, 1u);
+i0 = load8(p3 + 0);
+if (!i0) {
+j0 = v8;
+j1 = UINT64_C(1);
+j0 = j0 + j1;
+p4 = read_at(j0, m, 1u);
+i0 = load8(p4 + 0);
+i1 = UINT32_C(32);
+i0 = (i0 != i1);
+i1 = v17;
+i0 = i0 | i1;
+v17 = i0;
+}
+j0 = v8;
+j1 = UINT64_C(2);
+j0 = j0 + j1;
+p5 = read_at(j0, m, 1u);
+i0 = load8(p5 + 0);
+if (!i0) {
+j0 = v8;
+j1 = UINT64_C(3);
+j0 = j0 + j1;
+p6 = read_at(j0, m, 1u);
+i0 = load8(p6 + 0);
+i1 = UINT32_C(32);
+i0 = (i0 != i1);
+i1 = v17;
+i0 = i0 | i1;
+v17 = i0;
+}
+j0 = v8;
+j1 = UINT64_C(4);
+j0 = j0 + j1;
+v8 = j0;
+j0 = v19;
+j1 = v16;
+j2 = UINT64_C(2);
+j1 = j1 + j2;
+v16 = j1;
+i0 = (j0 != j1);
+if (i0) { goto l12; }
+j0 = v18;
+i0 = (j0 == 0);
+if (i0) { goto l9; }
+l10:;
+j0 = v14;
+j1 = v16;
+j2 = UINT64_C(1);
+j1 = j1 << (j2 & 63);
+j0 = j0 + j1;
+v8 = j0;
+p7 = read_at(j0, m, 1u);
+i0 = load8(p7 + 0);
+if (!i0) {
+j0 = v8;
+j1 = UINT64_C(1);
+j0 = j0 + j1;
+p8 = read_at(j0, m, 1u);
+i0 = load8(p8 + 0);
+i1 = UINT32_C(32);
+i0 = (i0 != i1);
+i1 = v17;
+i0 = i0 | i1;
+v17 = i0;
+}
+l9:;
+i0 = v17;
+i1 = UINT32_C(1);
+i0 = i0 & i1;
 i0 = (i0 == 0);
 if (!i0) {
-j0 = v3;
+j0 = v14;
+j1 = UINT64_C(772);
+j0 = j0 + j1;
+p9 = read_at(j0, m, 1u);
+i0 = load8(p9 + 0);
+if (!i0) {
+j0 = v14;
+j1 = UINT64_C(778);
+j0 = j0 + j1;
+p10 = read_at(j0, m, 1u);
+i0 = load8(p10 + 0);
+if (!i0) {
+j0 = v14;
+j1 = UINT64_C(664);
+j0 = j0 + j1;
+v19 = j0;
+j0 = v14;
+j1 = UINT64_C(760);
+j0 = j0 + j1;
+p11 = read_at(j0, m, 8u);
+j0 = load64(p11 + 0);
+v18 = j0;
+j0 = UINT64_C(0);
+v8 = j0;
+j0 = v13;
+v16 = j0;
+l15:;
+j0 = v9;
+j1 = UINT64_C(8);
+j0 = j0 + j1;
+j1 = v16;
+p12 = read_at(j1, m, 2u);
+i1 = load8(p12 + 0);
+j2 = v16;
+j3 = UINT64_C(1);
+j2 = j2 + j3;
+i2 = load8(p12 + 1);
+j3 = v19;
+j4 = v18;
+j5 = v11;
+j6 = v8;
+j5 = j5 + j6;
+j6 = v10;
+j7 = v8;
+j6 = j6 - j7;
+fio_form_form_Piece_length_in(m, j0, i1, i2, j3, j4, j5, j6);
+j0 = v9;
+i0 = load8(p1 + 8);
+i1 = UINT32_C(1);
+i0 = (i0 != i1);
+if (i0) { goto l8; }
+j0 = v16;
+j1 = UINT64_C(2);
+j0 = j0 + j1;
+v16 = j0;
+j0 = v9;
+j0 = load64(p1 + 16);
+j1 = v8;
+j0 = j0 + j1;
+v8 = j0;
+j0 = v15;
+j1 = UINT64_C(18446744073709551615);
+j0 = j0 + j1;
+v15 = j0;
+j1 = UINT64_C(0);
+i0 = (j0 != j1);
+if (i0) { goto l15; }
+j0 = v9;
 j1 = UINT64_C(24);
 j0 = j0 + j1;
-i1 = v16;
-j2 = v6;
-j3 = UINT64_C(521);
-j2 = j2 + j3;
-p26 = read_at(j2, m, 143u);
-i2 = load8(p26 + 0);
-j3 = v7;
+j1 = v14;
+j2 = v11;
+j3 = v10;
 j4 = v6;
-j5 = UINT64_C(656);
-j4 = j4 + j5;
-j4 = load64(p26 + 135);
-j5 = v10;
-j6 = v2;
-j5 = j5 + j6;
-j6 = v4;
-j7 = v3;
-j8 = UINT64_C(37832);
-j7 = j7 + j8;
-fio_form_octets_run_in(m, j0, i1, i2, j3, j4, j5, j6, j7);
-j0 = v3;
+fio_form_reading_find(m, j0, j1, j2, j3, j4);
+j0 = v9;
 i0 = load8(p1 + 24);
 i1 = UINT32_C(1);
 i0 = (i0 != i1);
 if (!i0) {
-j0 = v3;
-j0 = load64(p1 + 39880);
+j0 = v9;
+j0 = load64(p1 + 48);
 v8 = j0;
+j0 = v9;
+j0 = load64(p1 + 40);
+v16 = j0;
+j0 = v9;
+j0 = load64(p1 + 32);
+v19 = j0;
+j0 = v9;
+j1 = UINT64_C(56);
+j0 = j0 + j1;
+j1 = v14;
+j2 = v6;
+j3 = v6;
+j4 = UINT64_C(2048);
+j3 = j3 + j4;
+p13 = read_at(j3, m, 8u);
+j3 = load64(p13 + 0);
+j4 = v7;
+fio_form_wholes_whole_of(m, j0, j1, j2, j3, j4);
+j0 = v9;
+j0 = load8(p1 + 56);
+v15 = j0;
 j1 = UINT64_C(2);
 i0 = (j0 < j1);
-if (!i0) {
-j0 = v3;
-j1 = UINT64_C(37832);
-j0 = j0 + j1;
-j1 = v8;
-i0 = fio_form_message_is_message(m, j0, j1);
-if (i0) { goto l26; }
-j0 = v3;
-j1 = UINT64_C(8);
-j0 = j0 + j1;
-j1 = v3;
-j2 = UINT64_C(37832);
-j1 = j1 + j2;
-j2 = v8;
-fio_form_message_size_of(m, j0, j1, j2);
-j0 = v3;
-i0 = load8(p1 + 8);
-j0 = (uint64_t)i0;
-j1 = UINT64_C(255);
-j0 = j0 & j1;
-i0 = (uint32_t)j0;
-switch (i0) {
-case 0:
-goto l26;
-case 1:
-goto l37;
-case 2:
-goto l36;
-case 3:
-goto l36;
-default:
-goto l26;
-}
-l37:;
-j0 = v8;
-j1 = v3;
-j1 = load64(p1 + 16);
-i0 = (j0 < j1);
-if (i0) { goto l26; }
+if (i0) { goto l4; }
 }
 }
 }
-l36:;
-j0 = v2;
-j1 = UINT64_C(1);
-j0 = j0 + j1;
-v2 = j0;
-j0 = v4;
-j1 = UINT64_C(18446744073709551615);
-j0 = j0 + j1;
-v4 = j0;
-j1 = UINT64_C(0);
-i0 = (j0 != j1);
-if (i0) { goto l35; }
-}
-j0 = v9;
-j1 = UINT64_C(1);
-j0 = j0 + j1;
-v9 = j0;
-j1 = v5;
-i0 = (j0 != j1);
-if (i0) { goto l33; }
-}
-l29:;
-j0 = v15;
-j1 = UINT64_C(1);
-j0 = j0 + j1;
-v15 = j0;
-j1 = v12;
-i0 = (j0 != j1);
-if (i0) { goto l28; }
-}
-}
-j0 = v3;
-j1 = UINT64_C(40);
-j0 = j0 + j1;
-j1 = v3;
-j2 = UINT64_C(12592);
-j1 = j1 + j2;
-j2 = UINT64_C(12552);
-copy(m, j0, j1, j2);
-j0 = UINT64_C(1);
-v2 = j0;
-goto l3;
-l26:;
-j0 = v1;
-j1 = UINT64_C(238064);
-j0 = j0 + j1;
-i1 = UINT32_C(1);
-p27 = write_at(j0, m, 1u);
-store8(p27 + 0, i1);
-j0 = v1;
-j1 = UINT64_C(238072);
-j0 = j0 + j1;
-j1 = UINT64_C(18446744073709551615);
-j2 = v12;
-j3 = UINT64_C(1);
-j2 = j2 >> (j3 & 63);
-v2 = j2;
-j3 = v12;
-j2 = j2 + j3;
-v4 = j2;
-j3 = v4;
-j4 = v2;
-i3 = (j3 < j4);
-j1 = i3 ? j1 : j2;
-store64(p3 + 0, j1);
-goto l7;
 }
 }
 l8:;
-j0 = v1;
-j1 = UINT64_C(238064);
+j0 = v13;
+j1 = UINT64_C(784);
 j0 = j0 + j1;
+v13 = j0;
+j0 = v12;
+j1 = UINT64_C(1);
+j0 = j0 + j1;
+v12 = j0;
+j1 = v2;
+i0 = (j0 != j1);
+if (i0) { goto l7; }
+j0 = v5;
+j1 = UINT64_C(1);
+j0 = j0 + j1;
+v5 = j0;
+j1 = v4;
+i0 = (j0 != j1);
+if (i0) { goto l6; }
+}
+}
+j0 = v0;
+j1 = UINT64_C(0);
+p14 = write_at(j0, m, 56u);
+store64(p14 + 48, j1);
+j0 = v0;
+j1 = UINT64_C(0);
+store64(p14 + 40, j1);
+j0 = v0;
+j1 = UINT64_C(0);
+store64(p14 + 32, j1);
+j0 = v0;
+j1 = UINT64_C(0);
+store64(p14 + 24, j1);
+j0 = v0;
+j1 = UINT64_C(0);
+store64(p14 + 16, j1);
+j0 = v0;
+j1 = UINT64_C(0);
+store64(p14 + 8, j1);
+j0 = v0;
+j1 = UINT64_C(0);
+store64(p14 + 0, j1);
+goto l3;
+l4:;
+j0 = v8;
+j1 = v5;
+j0 = j0 + j1;
+v1 = j0;
+j0 = v16;
+j1 = v5;
+j0 = j0 + j1;
+v11 = j0;
+j0 = v19;
+j1 = v5;
+j0 = j0 + j1;
+v10 = j0;
+j0 = v14;
+j1 = UINT64_C(771);
+j0 = j0 + j1;
+p15 = read_at(j0, m, 1u);
+i0 = load8(p15 + 0);
+i1 = UINT32_C(1);
+i0 = (i0 != i1);
+if (!i0) {
+j0 = v6;
+j1 = UINT64_C(2048);
+j0 = j0 + j1;
+p16 = read_at(j0, m, 8u);
+j0 = load64(p16 + 0);
+v8 = j0;
+i0 = (j0 == 0);
+v17 = i0;
+if (!i0) {
+i0 = v17;
+if (!i0) {
+j0 = v6;
 i1 = UINT32_C(0);
-p28 = write_at(j0, m, 1u);
-store8(p28 + 0, i1);
-l7:;
-j0 = v1;
-j1 = UINT64_C(237928);
+j2 = v8;
+fill(m, j0, i1, j2);
+}
+j0 = v6;
+j1 = UINT64_C(2048);
 j0 = j0 + j1;
-j1 = v3;
-j2 = UINT64_C(25144);
+j1 = UINT64_C(0);
+p17 = write_at(j0, m, 8u);
+store64(p17 + 0, j1);
+}
+j0 = v7;
+j1 = UINT64_C(2048);
+j0 = j0 + j1;
+p18 = read_at(j0, m, 8u);
+j0 = load64(p18 + 0);
+v14 = j0;
+j1 = UINT64_C(2048);
+i0 = (j0 > j1);
+if (!i0) {
+j0 = v6;
+j1 = v7;
+j0 = j0 - j1;
+j1 = v14;
+i0 = (j0 >= j1);
+if (!i0) {
+j0 = v14;
+j1 = UINT64_C(3);
+j0 = j0 & j1;
+v12 = j0;
+j0 = UINT64_C(0);
+v16 = j0;
+j0 = v14;
+j1 = UINT64_C(4);
+i0 = (j0 < j1);
+if (!i0) {
+j0 = v14;
+j1 = UINT64_C(4092);
+j0 = j0 & j1;
+v13 = j0;
+j0 = UINT64_C(0);
+v16 = j0;
+for (;;) {
+j0 = v6;
+j1 = v16;
+j0 = j0 + j1;
+v8 = j0;
+j1 = v7;
+j2 = v16;
 j1 = j1 + j2;
-j2 = UINT64_C(136);
+v19 = j1;
+p19 = read_at(j1, m, 4u);
+i1 = load8(p19 + 0);
+p20 = write_at(j0, m, 4u);
+store8(p20 + 0, i1);
+j0 = v8;
+j1 = UINT64_C(1);
+j0 = j0 + j1;
+j1 = v19;
+j2 = UINT64_C(1);
+j1 = j1 + j2;
+i1 = load8(p19 + 1);
+store8(p20 + 1, i1);
+j0 = v8;
+j1 = UINT64_C(2);
+j0 = j0 + j1;
+j1 = v19;
+j2 = UINT64_C(2);
+j1 = j1 + j2;
+i1 = load8(p19 + 2);
+store8(p20 + 2, i1);
+j0 = v8;
+j1 = UINT64_C(3);
+j0 = j0 + j1;
+j1 = v19;
+j2 = UINT64_C(3);
+j1 = j1 + j2;
+i1 = load8(p19 + 3);
+store8(p20 + 3, i1);
+j0 = v13;
+j1 = v16;
+j2 = UINT64_C(4);
+j1 = j1 + j2;
+v16 = j1;
+i0 = (j0 != j1);
+if (!i0) break;
+}
+j0 = v12;
+i0 = (j0 == 0);
+if (i0) { goto l19; }
+}
+j0 = v6;
+j1 = v16;
+j0 = j0 + j1;
+v8 = j0;
+j0 = v7;
+j1 = v16;
+j0 = j0 + j1;
+v16 = j0;
+l23:;
+j0 = v8;
+j1 = v16;
+p21 = read_at(j1, m, 1u);
+i1 = load8(p21 + 0);
+p22 = write_at(j0, m, 1u);
+store8(p22 + 0, i1);
+j0 = v8;
+j1 = UINT64_C(1);
+j0 = j0 + j1;
+v8 = j0;
+j0 = v16;
+j1 = UINT64_C(1);
+j0 = j0 + j1;
+v16 = j0;
+j0 = v12;
+j1 = UINT64_C(18446744073709551615);
+j0 = j0 + j1;
+v12 = j0;
+j1 = UINT64_C(0);
+i0 = (j0 != j1);
+if (i0) { goto l23; }
+goto l19;
+}
+j0 = v14;
+i0 = (j0 == 0);
+if (!i0) {
+j0 = v6;
+j1 = v7;
+j2 = v14;
 copy(m, j0, j1, j2);
-j0 = v3;
+}
+l19:;
+j0 = v6;
+j1 = UINT64_C(2048);
+j0 = j0 + j1;
+j1 = v14;
+p23 = write_at(j0, m, 8u);
+store64(p23 + 0, j1);
+}
+}
+j0 = v0;
+j1 = UINT64_C(1);
+p24 = write_at(j0, m, 56u);
+store64(p24 + 0, j1);
+j0 = v0;
+j1 = UINT64_C(48);
+j0 = j0 + j1;
+j1 = v9;
+j1 = load64(p1 + 72);
+store64(p24 + 48, j1);
+j0 = v0;
 j1 = UINT64_C(40);
 j0 = j0 + j1;
-i1 = UINT32_C(0);
-j2 = UINT64_C(12552);
-fill(m, j0, i1, j2);
-l4:;
-j0 = UINT64_C(0);
-v2 = j0;
-l3:;
+j1 = v9;
+j1 = load64(p1 + 64);
+store64(p24 + 40, j1);
 j0 = v0;
-j1 = v2;
-p29 = write_at(j0, m, 8u);
-store64(p29 + 0, j1);
+j1 = UINT64_C(32);
+j0 = j0 + j1;
+j1 = v15;
+store64(p24 + 32, j1);
+j0 = v0;
+j1 = UINT64_C(24);
+j0 = j0 + j1;
+j1 = v1;
+store64(p24 + 24, j1);
+j0 = v0;
+j1 = UINT64_C(16);
+j0 = j0 + j1;
+j1 = v11;
+store64(p24 + 16, j1);
 j0 = v0;
 j1 = UINT64_C(8);
 j0 = j0 + j1;
-j1 = v3;
-j2 = UINT64_C(40);
-j1 = j1 + j2;
-j2 = UINT64_C(12552);
-copy(m, j0, j1, j2);
-j0 = v3;
-j1 = UINT64_C(39888);
+j1 = v10;
+store64(p24 + 8, j1);
+l3:;
+j0 = v9;
+j1 = UINT64_C(80);
 j0 = j0 + j1;
 m->g0 = j0;
 return;
 }
 fio2070_trap();
+}
+static uint32_t fio_log_own_texts_spells(struct machine *m, uint64_t v0, uint64_t v1)
+{
+uint32_t v2 = 0;
+uint32_t v3 = 0;
+uint32_t v4 = 0;
+uint64_t v5 = 0;
+uint32_t v6 = 0;
+uint32_t i0;
+uint32_t i1;
+uint32_t i2;
+uint64_t j0;
+uint64_t j1;
+uint32_t r = 0;
+uint8_t *p1;
+uint8_t *p2;
+uint8_t *p3;
+j0 = m->g0;
+j1 = UINT64_C(16);
+i0 = (SIGNED64(j0) < SIGNED64(j1));
+if (!i0) {
+i0 = UINT32_C(0);
+v2 = i0;
+j0 = v1;
+i0 = (j0 == 0);
+if (!i0) {
+j0 = v0;
+p1 = read_at(j0, m, 1u);
+i0 = (uint32_t)extend(load8(p1 + 0), 7);
+v3 = i0;
+i1 = UINT32_C(255);
+i0 = i0 & i1;
+v4 = i0;
+i0 = v3;
+i1 = UINT32_C(4294967295);
+i0 = (SIGNED32(i0) > SIGNED32(i1));
+if (!i0) {
+j0 = UINT64_C(8);
+v5 = j0;
+i0 = v4;
+i1 = UINT32_C(4294967119);
+i0 = i0 + i1;
+switch (i0) {
+case 0:
+goto l6;
+case 1:
+goto l8;
+case 2:
+goto l8;
+case 3:
+goto l8;
+case 4:
+goto l8;
+case 5:
+goto l9;
+case 6:
+goto l8;
+case 7:
+goto l8;
+case 8:
+goto l8;
+case 9:
+goto l7;
+default:
+goto l8;
+}
+l9:;
+j0 = UINT64_C(8);
+v5 = j0;
+j0 = v1;
+j1 = UINT64_C(3);
+i0 = (j0 < j1);
+if (i0) { goto l5; }
+j0 = v0;
+j1 = UINT64_C(2);
+j0 = j0 + j1;
+p2 = read_at(j0, m, 1u);
+j0 = load8(p2 + 0);
+j1 = UINT64_C(3);
+j0 = j0 * j1;
+j1 = UINT64_C(8);
+j0 = j0 + j1;
+v5 = j0;
+goto l6;
+l8:;
+i0 = v3;
+i1 = UINT32_C(4294967217);
+i0 = (i0 < i1);
+if (i0) { goto l3; }
+i0 = v3;
+i1 = UINT32_C(4294967220);
+i0 = (i0 < i1);
+if (!i0) {
+i0 = v3;
+i1 = UINT32_C(4294967222);
+i0 = (i0 >= i1);
+if (!i0) {
+j0 = UINT64_C(13);
+v5 = j0;
+goto l6;
+}
+j0 = v1;
+v5 = j0;
+i0 = v3;
+i1 = UINT32_C(4294967229);
+i0 = (i0 < i1);
+if (i0) { goto l6; }
+goto l3;
+}
+l7:;
+j0 = UINT64_C(2);
+v5 = j0;
+l6:;
+j0 = v1;
+j1 = UINT64_C(773);
+i0 = (j0 > j1);
+if (i0) { goto l3; }
+l5:;
+j0 = v5;
+j1 = v1;
+i0 = (j0 != j1);
+if (i0) { goto l3; }
+i0 = UINT32_C(1);
+v2 = i0;
+i0 = UINT32_C(1);
+i1 = v4;
+i2 = UINT32_C(4294967119);
+i1 = i1 + i2;
+v4 = i1;
+i0 = i0 << (i1 & 31);
+i1 = UINT32_C(4071);
+i0 = i0 & i1;
+if (i0) { goto l3; }
+i0 = v4;
+i1 = UINT32_C(3);
+i0 = (i0 != i1);
+if (!i0) {
+j0 = v1;
+j1 = UINT64_C(8);
+i0 = (j0 <= j1);
+if (i0) { goto l2; }
+i0 = UINT32_C(1);
+r = i0;
+return r;
+}
+j0 = v1;
+j1 = UINT64_C(8);
+i0 = (j0 <= j1);
+if (i0) { goto l2; }
+i0 = UINT32_C(1);
+r = i0;
+return r;
+}
+j0 = UINT64_C(2);
+v5 = j0;
+i0 = UINT32_C(1);
+v6 = i0;
+i0 = v4;
+i1 = UINT32_C(4294967247);
+i0 = i0 + i1;
+switch (i0) {
+case 0:
+goto l13;
+case 1:
+goto l20;
+case 2:
+goto l19;
+case 3:
+goto l17;
+case 4:
+goto l17;
+case 5:
+goto l13;
+case 6:
+goto l18;
+case 7:
+goto l17;
+case 8:
+goto l17;
+case 9:
+goto l13;
+case 10:
+goto l16;
+case 11:
+goto l15;
+default:
+goto l17;
+}
+l20:;
+j0 = UINT64_C(5);
+v5 = j0;
+goto l14;
+l19:;
+j0 = v1;
+j1 = UINT64_C(1);
+i0 = (j0 != j1);
+if (!i0) {
+j0 = UINT64_C(0);
+v0 = j0;
+j0 = UINT64_C(2);
+v5 = j0;
+goto l12;
+}
+j0 = v0;
+j1 = UINT64_C(1);
+j0 = j0 + j1;
+p3 = read_at(j0, m, 1u);
+j0 = load8(p3 + 0);
+j1 = UINT64_C(3);
+j0 = j0 * j1;
+j1 = UINT64_C(2);
+j0 = j0 + j1;
+v5 = j0;
+goto l14;
+l18:;
+j0 = UINT64_C(17);
+v5 = j0;
+goto l14;
+l17:;
+i0 = UINT32_C(0);
+v6 = i0;
+j0 = UINT64_C(0);
+v5 = j0;
+i0 = v3;
+i1 = UINT32_C(49);
+i0 = (i0 < i1);
+if (i0) { goto l13; }
+i0 = v3;
+i1 = UINT32_C(54);
+i0 = (i0 < i1);
+if (i0) { goto l15; }
+i0 = v3;
+i1 = UINT32_C(57);
+i0 = (i0 > i1);
+if (i0) { goto l13; }
+l16:;
+j0 = v1;
+v5 = j0;
+goto l14;
+l15:;
+j0 = UINT64_C(1);
+v5 = j0;
+l14:;
+i0 = UINT32_C(1);
+v6 = i0;
+l13:;
+j0 = v1;
+j1 = UINT64_C(773);
+i0 = (j0 > j1);
+if (i0) { goto l3; }
+i0 = v6;
+i0 = (i0 == 0);
+if (i0) { goto l3; }
+j0 = v1;
+j1 = UINT64_C(18446744073709551615);
+j0 = j0 + j1;
+v0 = j0;
+l12:;
+j0 = v5;
+j1 = v1;
+i0 = (j0 != j1);
+if (!i0) {
+i0 = v4;
+i1 = UINT32_C(60);
+i0 = (i0 > i1);
+if (i0) { goto l2; }
+i0 = UINT32_C(1);
+v2 = i0;
+j0 = UINT64_C(1);
+i1 = v4;
+j1 = (uint64_t)i1;
+v1 = j1;
+j0 = j0 << (j1 & 63);
+j1 = UINT64_C(2269251262241308672);
+j0 = j0 & j1;
+j1 = UINT64_C(0);
+i0 = (j0 != j1);
+if (!i0) {
+j0 = v1;
+j1 = UINT64_C(55);
+i0 = (j0 != j1);
+if (i0) { goto l2; }
+j0 = v0;
+j1 = UINT64_C(7);
+i0 = (j0 <= j1);
+if (i0) { goto l2; }
+j0 = v0;
+j1 = UINT64_C(15);
+i0 = (j0 <= j1);
+if (i0) { goto l2; }
+}
+}
+}
+l3:;
+i0 = v2;
+r = i0;
+return r;
+}
+l2:;
+fio2070_trap();
+return r;
 }
 static void fio_log_sides_said_at(struct machine *m, uint64_t v0, uint64_t v1, uint64_t v2, uint64_t v3)
 {
@@ -74735,7 +75370,7 @@ j1 = j1 & j2;
 v7 = j1;
 i0 = (j0 > j1);
 if (!i0) {
-j0 = UINT64_C(65536);
+j0 = UINT64_C(1048576);
 v5 = j0;
 j0 = UINT64_C(0);
 v7 = j0;
@@ -74875,7 +75510,7 @@ j1 = j1 & j2;
 v6 = j1;
 i0 = (j0 > j1);
 if (!i0) {
-j0 = UINT64_C(65536);
+j0 = UINT64_C(1048576);
 v8 = j0;
 j0 = UINT64_C(0);
 v6 = j0;
@@ -75488,132 +76123,12 @@ i1 = UINT32_C(0);
 j2 = UINT64_C(104);
 fill(m, j0, i1, j2);
 j0 = v1;
-j1 = UINT64_C(164160);
-j0 = j0 + j1;
-i1 = UINT32_C(0);
-p40 = write_at(j0 + UINT64_C(18446744073709551608), m, 12u);
-store32(p40 + 8, i1);
-j0 = v1;
 j1 = UINT64_C(162584);
 j0 = j0 + j1;
 v34 = j0;
-j0 = v1;
-j1 = UINT64_C(164152);
-j0 = j0 + j1;
-j0 = load64(p40 + 0);
-v6 = j0;
-i0 = (j0 == 0);
-if (!i0) {
-j0 = v4;
-j1 = UINT64_C(211062);
-j0 = j0 + j1;
-v8 = j0;
-j0 = UINT64_C(0);
-v5 = j0;
-l63:;
-j0 = v4;
 i1 = UINT32_C(0);
-store16(p31 + 63524, i1);
-j0 = v4;
-i1 = UINT32_C(0);
-store32(p31 + 63520, i1);
-j0 = v4;
-j1 = UINT64_C(173416);
-j0 = j0 + j1;
-i1 = UINT32_C(0);
-j2 = UINT64_C(512);
+j2 = UINT64_C(1588);
 fill(m, j0, i1, j2);
-j0 = UINT64_C(0);
-v7 = j0;
-for (;;) {
-j0 = v4;
-j1 = UINT64_C(173416);
-j0 = j0 + j1;
-j1 = v7;
-j0 = j0 + j1;
-j1 = UINT64_C(281479271743489);
-p41 = write_at(j0, m, 8u);
-store64(p41 + 0, j1);
-j0 = v7;
-j1 = UINT64_C(8);
-j0 = j0 + j1;
-v7 = j0;
-j1 = UINT64_C(512);
-i0 = (j0 != j1);
-if (!i0) break;
-}
-j0 = v8;
-i1 = UINT32_C(0);
-j2 = UINT64_C(128);
-fill(m, j0, i1, j2);
-j0 = v4;
-j1 = UINT64_C(192240);
-j0 = j0 + j1;
-j1 = v4;
-j2 = UINT64_C(211056);
-j1 = j1 + j2;
-j2 = UINT64_C(134);
-copy(m, j0, j1, j2);
-j0 = v4;
-j1 = UINT64_C(230520);
-j0 = j0 + j1;
-j1 = v4;
-j2 = UINT64_C(173416);
-j1 = j1 + j2;
-j2 = UINT64_C(512);
-copy(m, j0, j1, j2);
-j0 = v34;
-j1 = v5;
-j2 = UINT64_C(784);
-j1 = j1 * j2;
-j0 = j0 + j1;
-v7 = j0;
-j1 = v4;
-j2 = UINT64_C(230520);
-j1 = j1 + j2;
-j2 = UINT64_C(512);
-copy(m, j0, j1, j2);
-j0 = v7;
-i1 = UINT32_C(0);
-p42 = write_at(j0 + UINT64_C(512), m, 152u);
-store16(p42 + 8, i1);
-j0 = v7;
-j1 = UINT64_C(0);
-store64(p42 + 0, j1);
-j0 = v7;
-j1 = UINT64_C(522);
-j0 = j0 + j1;
-j1 = v4;
-j2 = UINT64_C(192240);
-j1 = j1 + j2;
-j2 = UINT64_C(134);
-copy(m, j0, j1, j2);
-j0 = v7;
-j1 = UINT64_C(1);
-store64(p42 + 144, j1);
-j0 = v7;
-j1 = UINT64_C(664);
-j0 = j0 + j1;
-i1 = UINT32_C(0);
-j2 = UINT64_C(120);
-fill(m, j0, i1, j2);
-j0 = v5;
-j1 = UINT64_C(1);
-j0 = j0 + j1;
-v5 = j0;
-j1 = v6;
-i0 = (j0 != j1);
-if (i0) { goto l63; }
-j0 = v1;
-j1 = UINT64_C(164152);
-j0 = j0 + j1;
-j1 = UINT64_C(0);
-store64(p40 + 0, j1);
-}
-j0 = v1;
-j1 = UINT64_C(133848);
-j0 = j0 + j1;
-v14 = j0;
 j0 = v4;
 j1 = UINT64_C(173416);
 j0 = j0 + j1;
@@ -75656,14 +76171,14 @@ j0 = j0 + j1;
 v6 = j0;
 j0 = UINT64_C(0);
 v5 = j0;
-l65:;
+l62:;
 j0 = v4;
 i1 = UINT32_C(0);
-p43 = write_at(j0 + UINT64_C(249336), m, 6u);
-store16(p43 + 4, i1);
+p40 = write_at(j0 + UINT64_C(249336), m, 6u);
+store16(p40 + 4, i1);
 j0 = v4;
 i1 = UINT32_C(0);
-store32(p43 + 0, i1);
+store32(p40 + 0, i1);
 j0 = v4;
 j1 = UINT64_C(249472);
 j0 = j0 + j1;
@@ -75679,8 +76194,8 @@ j0 = j0 + j1;
 j1 = v7;
 j0 = j0 + j1;
 j1 = UINT64_C(281479271743489);
-p44 = write_at(j0, m, 8u);
-store64(p44 + 0, j1);
+p41 = write_at(j0, m, 8u);
+store64(p41 + 0, j1);
 j0 = v7;
 j1 = UINT64_C(8);
 j0 = j0 + j1;
@@ -75724,11 +76239,11 @@ j2 = UINT64_C(512);
 copy(m, j0, j1, j2);
 j0 = v7;
 i1 = UINT32_C(0);
-p45 = write_at(j0 + UINT64_C(512), m, 152u);
-store16(p45 + 8, i1);
+p42 = write_at(j0 + UINT64_C(512), m, 152u);
+store16(p42 + 8, i1);
 j0 = v7;
 j1 = UINT64_C(0);
-store64(p45 + 0, j1);
+store64(p42 + 0, j1);
 j0 = v7;
 j1 = UINT64_C(522);
 j0 = j0 + j1;
@@ -75739,7 +76254,7 @@ j2 = UINT64_C(134);
 copy(m, j0, j1, j2);
 j0 = v7;
 j1 = UINT64_C(1);
-store64(p45 + 144, j1);
+store64(p42 + 144, j1);
 j0 = v7;
 j1 = UINT64_C(664);
 j0 = j0 + j1;
@@ -75752,7 +76267,7 @@ j0 = j0 + j1;
 v5 = j0;
 j1 = UINT64_C(24);
 i0 = (j0 != j1);
-if (i0) { goto l65; }
+if (i0) { goto l62; }
 j0 = v4;
 j1 = UINT64_C(211056);
 j0 = j0 + j1;
@@ -75789,10 +76304,14 @@ j0 = v4;
 j1 = UINT64_C(0);
 store64(p31 + 44696, j1);
 j0 = v1;
+j1 = UINT64_C(133848);
+j0 = j0 + j1;
+v14 = j0;
+j0 = v1;
 j1 = UINT64_C(150232);
 j0 = j0 + j1;
-p46 = read_at(j0, m, 8u);
-j0 = load64(p46 + 0);
+p43 = read_at(j0, m, 8u);
+j0 = load64(p43 + 0);
 v7 = j0;
 i0 = (j0 == 0);
 if (!i0) {
@@ -75811,8 +76330,8 @@ j0 = v1;
 j1 = UINT64_C(150232);
 j0 = j0 + j1;
 j1 = UINT64_C(0);
-p47 = write_at(j0, m, 8u);
-store64(p47 + 0, j1);
+p44 = write_at(j0, m, 8u);
+store64(p44 + 0, j1);
 }
 j0 = v2;
 j1 = UINT64_C(69640);
@@ -75851,7 +76370,7 @@ j0 = j0 + j1;
 v17 = j0;
 j0 = UINT64_C(0);
 v37 = j0;
-l70:;
+l67:;
 j0 = v2;
 j1 = UINT64_C(69640);
 j0 = j0 + j1;
@@ -75865,8 +76384,8 @@ j2 = UINT64_C(2);
 j1 = j1 << (j2 & 63);
 j0 = j0 + j1;
 v7 = j0;
-p48 = read_at(j0, m, 4u);
-j0 = load32(p48 + 0);
+p45 = read_at(j0, m, 4u);
+j0 = load32(p45 + 0);
 v11 = j0;
 j0 = v37;
 i0 = (j0 == 0);
@@ -75874,14 +76393,14 @@ i0 = (i0 == 0);
 if (!i0) {
 j0 = v2;
 v13 = j0;
-goto l72;
+goto l69;
 }
 j0 = v11;
 j1 = v7;
 j2 = UINT64_C(18446744073709551612);
 j1 = j1 + j2;
-p49 = read_at(j1, m, 4u);
-j1 = load32(p49 + 0);
+p46 = read_at(j1, m, 4u);
+j1 = load32(p46 + 0);
 v7 = j1;
 j0 = j0 - j1;
 v11 = j0;
@@ -75889,7 +76408,7 @@ j0 = v2;
 j1 = v7;
 j0 = j0 + j1;
 v13 = j0;
-l72:;
+l69:;
 j0 = v11;
 i0 = (j0 == 0);
 if (!i0) {
@@ -75900,7 +76419,7 @@ j0 = UINT64_C(0);
 v16 = j0;
 j0 = UINT64_C(0);
 v38 = j0;
-l74:;
+l71:;
 j0 = v38;
 j1 = UINT64_C(47);
 i0 = (j0 > j1);
@@ -75915,56 +76434,56 @@ j0 = v13;
 j1 = v16;
 j0 = j0 + j1;
 v6 = j0;
-p50 = read_at(j0, m, 1u);
-i0 = load8(p50 + 0);
+p47 = read_at(j0, m, 1u);
+i0 = load8(p47 + 0);
 v22 = i0;
 i1 = UINT32_C(4294967264);
 i0 = i0 + i1;
 switch (i0) {
 case 0:
-goto l75;
+goto l72;
 case 1:
-goto l76;
+goto l73;
 case 2:
-goto l76;
+goto l73;
 case 3:
-goto l76;
+goto l73;
 case 4:
-goto l76;
+goto l73;
 case 5:
-goto l76;
+goto l73;
 case 6:
-goto l76;
+goto l73;
 case 7:
-goto l76;
+goto l73;
 case 8:
-goto l76;
+goto l73;
 case 9:
-goto l76;
+goto l73;
 case 10:
-goto l76;
+goto l73;
 case 11:
-goto l76;
+goto l73;
 case 12:
-goto l76;
+goto l73;
 case 13:
-goto l75;
+goto l72;
 default:
-goto l76;
+goto l73;
 }
-l76:;
+l73:;
 j0 = v38;
 j1 = UINT64_C(1);
 j0 = j0 + j1;
 v38 = j0;
 j0 = v16;
 v7 = j0;
-l78:;
+l75:;
 j0 = v13;
 j1 = v7;
 j0 = j0 + j1;
-p51 = read_at(j0, m, 1u);
-i0 = load8(p51 + 0);
+p48 = read_at(j0, m, 1u);
+i0 = load8(p48 + 0);
 v3 = i0;
 i1 = UINT32_C(95);
 i0 = (i0 == i1);
@@ -75972,7 +76491,7 @@ if (!i0) {
 i0 = v3;
 i1 = UINT32_C(48);
 i0 = (i0 < i1);
-if (i0) { goto l77; }
+if (i0) { goto l74; }
 i0 = v3;
 i1 = UINT32_C(58);
 i0 = (i0 < i1);
@@ -75980,7 +76499,7 @@ if (!i0) {
 i0 = v3;
 i1 = UINT32_C(65);
 i0 = (i0 < i1);
-if (i0) { goto l77; }
+if (i0) { goto l74; }
 i0 = v3;
 i1 = UINT32_C(91);
 i0 = (i0 < i1);
@@ -75992,7 +76511,7 @@ i1 = UINT32_C(255);
 i0 = i0 & i1;
 i1 = UINT32_C(25);
 i0 = (i0 > i1);
-if (i0) { goto l77; }
+if (i0) { goto l74; }
 }
 }
 }
@@ -76002,10 +76521,10 @@ j2 = UINT64_C(1);
 j1 = j1 + j2;
 v7 = j1;
 i0 = (j0 != j1);
-if (i0) { goto l78; }
+if (i0) { goto l75; }
 j0 = v11;
 v7 = j0;
-l77:;
+l74:;
 i0 = UINT32_C(0);
 v27 = i0;
 i0 = UINT32_C(0);
@@ -76053,19 +76572,19 @@ i0 = (j0 > j1);
 if (!i0) {
 j0 = v6;
 v5 = j0;
-l82:;
+l79:;
 j0 = v16;
 j1 = v7;
 i0 = (j0 == j1);
 v3 = i0;
-if (i0) { goto l81; }
+if (i0) { goto l78; }
 j0 = v7;
 j1 = UINT64_C(18446744073709551615);
 j0 = j0 + j1;
 v7 = j0;
 j0 = v5;
-p52 = read_at(j0, m, 1u);
-i0 = load8(p52 + 0);
+p49 = read_at(j0, m, 1u);
+i0 = load8(p49 + 0);
 v29 = i0;
 j0 = v5;
 j1 = UINT64_C(1);
@@ -76078,9 +76597,9 @@ i1 = UINT32_C(255);
 i0 = i0 & i1;
 i1 = UINT32_C(10);
 i0 = (i0 < i1);
-if (i0) { goto l82; }
+if (i0) { goto l79; }
 }
-l81:;
+l78:;
 j0 = v8;
 j1 = UINT64_C(8);
 i0 = (j0 != j1);
@@ -76094,6 +76613,36 @@ if (!i0) {
 j0 = v6;
 j1 = UINT64_C(1);
 j0 = j0 + j1;
+p50 = read_at(j0, m, 1u);
+i0 = load8(p50 + 0);
+i1 = UINT32_C(254);
+i0 = i0 & i1;
+i1 = UINT32_C(48);
+i0 = (i0 != i1);
+if (!i0) {
+j0 = v6;
+j1 = UINT64_C(2);
+j0 = j0 + j1;
+p51 = read_at(j0, m, 1u);
+i0 = load8(p51 + 0);
+i1 = UINT32_C(254);
+i0 = i0 & i1;
+i1 = UINT32_C(48);
+i0 = (i0 != i1);
+if (!i0) {
+j0 = v6;
+j1 = UINT64_C(3);
+j0 = j0 + j1;
+p52 = read_at(j0, m, 1u);
+i0 = load8(p52 + 0);
+i1 = UINT32_C(254);
+i0 = i0 & i1;
+i1 = UINT32_C(48);
+i0 = (i0 != i1);
+if (!i0) {
+j0 = v6;
+j1 = UINT64_C(4);
+j0 = j0 + j1;
 p53 = read_at(j0, m, 1u);
 i0 = load8(p53 + 0);
 i1 = UINT32_C(254);
@@ -76102,7 +76651,7 @@ i1 = UINT32_C(48);
 i0 = (i0 != i1);
 if (!i0) {
 j0 = v6;
-j1 = UINT64_C(2);
+j1 = UINT64_C(5);
 j0 = j0 + j1;
 p54 = read_at(j0, m, 1u);
 i0 = load8(p54 + 0);
@@ -76112,7 +76661,7 @@ i1 = UINT32_C(48);
 i0 = (i0 != i1);
 if (!i0) {
 j0 = v6;
-j1 = UINT64_C(3);
+j1 = UINT64_C(6);
 j0 = j0 + j1;
 p55 = read_at(j0, m, 1u);
 i0 = load8(p55 + 0);
@@ -76122,40 +76671,10 @@ i1 = UINT32_C(48);
 i0 = (i0 != i1);
 if (!i0) {
 j0 = v6;
-j1 = UINT64_C(4);
+j1 = UINT64_C(7);
 j0 = j0 + j1;
 p56 = read_at(j0, m, 1u);
 i0 = load8(p56 + 0);
-i1 = UINT32_C(254);
-i0 = i0 & i1;
-i1 = UINT32_C(48);
-i0 = (i0 != i1);
-if (!i0) {
-j0 = v6;
-j1 = UINT64_C(5);
-j0 = j0 + j1;
-p57 = read_at(j0, m, 1u);
-i0 = load8(p57 + 0);
-i1 = UINT32_C(254);
-i0 = i0 & i1;
-i1 = UINT32_C(48);
-i0 = (i0 != i1);
-if (!i0) {
-j0 = v6;
-j1 = UINT64_C(6);
-j0 = j0 + j1;
-p58 = read_at(j0, m, 1u);
-i0 = load8(p58 + 0);
-i1 = UINT32_C(254);
-i0 = i0 & i1;
-i1 = UINT32_C(48);
-i0 = (i0 != i1);
-if (!i0) {
-j0 = v6;
-j1 = UINT64_C(7);
-j0 = j0 + j1;
-p59 = read_at(j0, m, 1u);
-i0 = load8(p59 + 0);
 i1 = UINT32_C(254);
 i0 = i0 & i1;
 i1 = UINT32_C(48);
@@ -76167,7 +76686,7 @@ i0 = UINT32_C(0);
 v29 = i0;
 i0 = UINT32_C(1);
 v27 = i0;
-goto l83;
+goto l80;
 }
 }
 }
@@ -76180,18 +76699,18 @@ i0 = v22;
 i1 = UINT32_C(102);
 i0 = (i0 == i1);
 v29 = i0;
-goto l84;
+goto l81;
 }
 j0 = v8;
 j1 = UINT64_C(3);
 i0 = (j0 < j1);
 v29 = i0;
-l84:;
+l81:;
 i0 = UINT32_C(0);
 v27 = i0;
 i0 = UINT32_C(0);
 v26 = i0;
-l83:;
+l80:;
 i0 = UINT32_C(3);
 i1 = UINT32_C(0);
 i2 = v3;
@@ -76211,47 +76730,47 @@ v39 = i0;
 }
 j0 = v4;
 i1 = UINT32_C(0);
-p60 = write_at(j0 + UINT64_C(230008), m, 15u);
-store8(p60 + 14, i1);
+p57 = write_at(j0 + UINT64_C(230008), m, 15u);
+store8(p57 + 14, i1);
 j0 = v4;
 i1 = v29;
-store8(p60 + 13, i1);
+store8(p57 + 13, i1);
 j0 = v4;
 i1 = v29;
-store8(p60 + 12, i1);
+store8(p57 + 12, i1);
 j0 = v4;
 i1 = UINT32_C(0);
-store8(p60 + 11, i1);
+store8(p57 + 11, i1);
 j0 = v4;
 i1 = v39;
-store8(p60 + 10, i1);
+store8(p57 + 10, i1);
 j0 = v4;
 i1 = v31;
-store8(p60 + 9, i1);
+store8(p57 + 9, i1);
 j0 = v4;
 i1 = UINT32_C(0);
-store8(p60 + 8, i1);
+store8(p57 + 8, i1);
 j0 = v4;
 i1 = v24;
-store8(p60 + 7, i1);
+store8(p57 + 7, i1);
 j0 = v4;
 i1 = v3;
-store8(p60 + 6, i1);
+store8(p57 + 6, i1);
 j0 = v4;
 i1 = UINT32_C(0);
-store8(p60 + 5, i1);
+store8(p57 + 5, i1);
 j0 = v4;
 i1 = v26;
-store8(p60 + 4, i1);
+store8(p57 + 4, i1);
 j0 = v4;
 i1 = v27;
-store8(p60 + 3, i1);
+store8(p57 + 3, i1);
 j0 = v4;
 i1 = UINT32_C(0);
-store8(p60 + 2, i1);
+store8(p57 + 2, i1);
 j0 = v4;
 i1 = UINT32_C(1);
-store16(p60 + 0, i1);
+store16(p57 + 0, i1);
 j0 = v16;
 j1 = UINT64_C(65536);
 j2 = v16;
@@ -76262,7 +76781,7 @@ i0 = (uint32_t)j0;
 v31 = i0;
 j0 = UINT64_C(0);
 v15 = j0;
-l87:;
+l84:;
 j0 = v4;
 j1 = UINT64_C(230008);
 j0 = j0 + j1;
@@ -76271,25 +76790,25 @@ j2 = UINT64_C(3);
 j1 = j1 * j2;
 j0 = j0 + j1;
 v7 = j0;
-p61 = read_at(j0, m, 1u);
-i0 = load8(p61 + 0);
+p58 = read_at(j0, m, 1u);
+i0 = load8(p58 + 0);
 i1 = UINT32_C(1);
 i0 = (i0 != i1);
 if (!i0) {
 j0 = v7;
 j1 = UINT64_C(2);
 j0 = j0 + j1;
-p62 = read_at(j0 + UINT64_C(18446744073709551615), m, 2u);
-i0 = load8(p62 + 1);
+p59 = read_at(j0 + UINT64_C(18446744073709551615), m, 2u);
+i0 = load8(p59 + 1);
 v26 = i0;
 j0 = v7;
 j1 = UINT64_C(1);
 j0 = j0 + j1;
-i0 = load8(p62 + 0);
+i0 = load8(p59 + 0);
 v24 = i0;
 i0 = UINT32_C(0);
 v3 = i0;
-l89:;
+l86:;
 j0 = v4;
 j1 = UINT64_C(230520);
 j0 = j0 + j1;
@@ -76321,8 +76840,8 @@ j6 = j6 & j7;
 i7 = UINT32_C(0);
 fio_guess_guess_plain_form(m, j0, j1, j2, j3, i4, i5, j6, i7);
 j0 = v4;
-p63 = read_at(j0 + UINT64_C(230520), m, 1u);
-i0 = load8(p63 + 0);
+p60 = read_at(j0 + UINT64_C(230520), m, 1u);
+i0 = load8(p60 + 0);
 i1 = UINT32_C(1);
 i0 = (i0 == i1);
 if (!i0) {
@@ -76332,7 +76851,7 @@ j0 = j0 + j1;
 i1 = UINT32_C(0);
 j2 = UINT64_C(784);
 fill(m, j0, i1, j2);
-goto l90;
+goto l87;
 }
 j0 = v4;
 j1 = UINT64_C(211056);
@@ -76342,47 +76861,47 @@ j2 = UINT64_C(784);
 copy(m, j0, j1, j2);
 j0 = v4;
 i1 = v29;
-p64 = write_at(j0 + UINT64_C(211833), m, 1u);
-store8(p64 + 0, i1);
+p61 = write_at(j0 + UINT64_C(211833), m, 1u);
+store8(p61 + 0, i1);
 i0 = v3;
 i1 = UINT32_C(3);
 i0 = (i0 != i1);
 if (!i0) {
 j0 = v4;
-p65 = read_at(j0 + UINT64_C(211712), m, 8u);
-j0 = load64(p65 + 0);
+p62 = read_at(j0 + UINT64_C(211712), m, 8u);
+j0 = load64(p62 + 0);
 v7 = j0;
 j1 = UINT64_C(3);
 i0 = (j0 < j1);
-if (i0) { goto l90; }
+if (i0) { goto l87; }
 j0 = v4;
-p66 = read_at(j0 + UINT64_C(211584), m, 1u);
-i0 = load8(p66 + 0);
+p63 = read_at(j0 + UINT64_C(211584), m, 1u);
+i0 = load8(p63 + 0);
 i1 = UINT32_C(255);
 i0 = i0 & i1;
-if (i0) { goto l90; }
+if (i0) { goto l87; }
 j0 = v4;
-p67 = read_at(j0 + UINT64_C(211586), m, 1u);
-i0 = load8(p67 + 0);
+p64 = read_at(j0 + UINT64_C(211586), m, 1u);
+i0 = load8(p64 + 0);
 i1 = UINT32_C(255);
 i0 = i0 & i1;
-if (i0) { goto l90; }
+if (i0) { goto l87; }
 j0 = v4;
-p68 = read_at(j0 + UINT64_C(211588), m, 1u);
-i0 = load8(p68 + 0);
+p65 = read_at(j0 + UINT64_C(211588), m, 1u);
+i0 = load8(p65 + 0);
 i1 = UINT32_C(255);
 i0 = i0 & i1;
 i1 = UINT32_C(1);
 i0 = (i0 != i1);
-if (i0) { goto l90; }
+if (i0) { goto l87; }
 j0 = v4;
-p69 = read_at(j0 + UINT64_C(211589), m, 1u);
-i0 = load8(p69 + 0);
+p66 = read_at(j0 + UINT64_C(211589), m, 1u);
+i0 = load8(p66 + 0);
 i1 = UINT32_C(255);
 i0 = i0 & i1;
 i1 = UINT32_C(32);
 i0 = (i0 != i1);
-if (i0) { goto l90; }
+if (i0) { goto l87; }
 j0 = v7;
 j1 = UINT64_C(18446744073709551613);
 j0 = j0 + j1;
@@ -76391,12 +76910,12 @@ i0 = (j0 == 0);
 if (!i0) {
 j0 = v21;
 v7 = j0;
-l93:;
+l90:;
 j0 = v7;
-p70 = read_at(j0, m, 1u);
-i0 = load8(p70 + 0);
+p67 = read_at(j0, m, 1u);
+i0 = load8(p67 + 0);
 i0 = (i0 == 0);
-if (i0) { goto l90; }
+if (i0) { goto l87; }
 j0 = v7;
 j1 = UINT64_C(2);
 j0 = j0 + j1;
@@ -76407,7 +76926,7 @@ j0 = j0 + j1;
 v5 = j0;
 i0 = (j0 == 0);
 i0 = (i0 == 0);
-if (i0) { goto l93; }
+if (i0) { goto l90; }
 }
 }
 j0 = v4;
@@ -76444,17 +76963,17 @@ j0 = v4;
 j1 = UINT64_C(192240);
 j0 = j0 + j1;
 v5 = j0;
-l98:;
+l95:;
 j0 = v4;
 j1 = UINT64_C(120);
 j0 = j0 + j1;
 j1 = v5;
-p71 = read_at(j1, m, 2u);
-i1 = load8(p71 + 0);
+p68 = read_at(j1, m, 2u);
+i1 = load8(p68 + 0);
 j2 = v5;
 j3 = UINT64_C(1);
 j2 = j2 + j3;
-i2 = load8(p71 + 1);
+i2 = load8(p68 + 1);
 j3 = v23;
 j4 = v28;
 j5 = v13;
@@ -76465,18 +76984,18 @@ j7 = v7;
 j6 = j6 - j7;
 fio_form_form_Piece_length_in(m, j0, i1, i2, j3, j4, j5, j6);
 j0 = v4;
-p72 = read_at(j0 + UINT64_C(120), m, 1u);
-i0 = load8(p72 + 0);
+p69 = read_at(j0 + UINT64_C(120), m, 1u);
+i0 = load8(p69 + 0);
 i1 = UINT32_C(1);
 i0 = (i0 != i1);
-if (i0) { goto l96; }
+if (i0) { goto l93; }
 j0 = v5;
 j1 = UINT64_C(2);
 j0 = j0 + j1;
 v5 = j0;
 j0 = v4;
-p73 = read_at(j0 + UINT64_C(128), m, 8u);
-j0 = load64(p73 + 0);
+p70 = read_at(j0 + UINT64_C(128), m, 8u);
+j0 = load64(p70 + 0);
 j1 = v7;
 j0 = j0 + j1;
 v7 = j0;
@@ -76486,7 +77005,7 @@ j0 = j0 + j1;
 v30 = j0;
 j1 = UINT64_C(0);
 i0 = (j0 != j1);
-if (i0) { goto l98; }
+if (i0) { goto l95; }
 }
 j0 = v4;
 i0 = load8(p31 + 45225);
@@ -76509,8 +77028,8 @@ j1 = v7;
 j0 = j0 + j1;
 j1 = UINT64_C(18446744073709551615);
 j0 = j0 + j1;
-p74 = read_at(j0, m, 1u);
-i0 = load8(p74 + 0);
+p71 = read_at(j0, m, 1u);
+i0 = load8(p71 + 0);
 v3 = i0;
 }
 }
@@ -76534,16 +77053,16 @@ fio_form_octets_run_in(m, j0, i1, i2, j3, j4, j5, j6, j7);
 j0 = v1;
 j1 = UINT64_C(152288);
 j0 = j0 + j1;
-p75 = read_at(j0, m, 8u);
-j0 = load64(p75 + 0);
+p72 = read_at(j0, m, 8u);
+j0 = load64(p72 + 0);
 v8 = j0;
 i0 = (j0 == 0);
-if (i0) { goto l90; }
+if (i0) { goto l87; }
 j0 = v4;
 i0 = load8(p31 + 45481);
 i1 = UINT32_C(1);
 i0 = (i0 != i1);
-if (i0) { goto l94; }
+if (i0) { goto l91; }
 j0 = v4;
 j1 = UINT64_C(230520);
 j0 = j0 + j1;
@@ -76572,25 +77091,25 @@ j1 = j1 + j2;
 v6 = j1;
 j2 = UINT64_C(150241);
 j1 = j1 + j2;
-p76 = read_at(j1 + UINT64_C(18446744073709551615), m, 2u);
-i1 = load8(p76 + 1);
-p77 = write_at(j0, m, 2u);
-store8(p77 + 0, i1);
+p73 = read_at(j1 + UINT64_C(18446744073709551615), m, 2u);
+i1 = load8(p73 + 1);
+p74 = write_at(j0, m, 2u);
+store8(p74 + 0, i1);
 j0 = v5;
 j1 = UINT64_C(1);
 j0 = j0 + j1;
 j1 = v6;
 j2 = UINT64_C(150240);
 j1 = j1 + j2;
-i1 = load8(p76 + 0);
-store8(p77 + 1, i1);
+i1 = load8(p73 + 0);
+store8(p74 + 1, i1);
 j0 = v4;
 j1 = v7;
 j2 = UINT64_C(2);
 j1 = j1 + j2;
 v5 = j1;
-p78 = write_at(j0 + UINT64_C(232568), m, 8u);
-store64(p78 + 0, j1);
+p75 = write_at(j0 + UINT64_C(232568), m, 8u);
+store64(p75 + 0, j1);
 j0 = v7;
 j1 = UINT64_C(3);
 j0 = j0 + j1;
@@ -76611,16 +77130,16 @@ j0 = j0 + j1;
 j1 = v10;
 j2 = v5;
 j1 = j1 + j2;
-p79 = read_at(j1, m, 1u);
-i1 = load8(p79 + 0);
-p80 = write_at(j0, m, 1u);
-store8(p80 + 0, i1);
+p76 = read_at(j1, m, 1u);
+i1 = load8(p76 + 0);
+p77 = write_at(j0, m, 1u);
+store8(p77 + 0, i1);
 j0 = v4;
 j1 = v5;
 j2 = UINT64_C(1);
 j1 = j1 + j2;
-p81 = write_at(j0 + UINT64_C(232568), m, 8u);
-store64(p81 + 0, j1);
+p78 = write_at(j0 + UINT64_C(232568), m, 8u);
+store64(p78 + 0, j1);
 }
 j0 = v10;
 j1 = v4;
@@ -76628,17 +77147,17 @@ j2 = UINT64_C(230520);
 j1 = j1 + j2;
 j2 = UINT64_C(2056);
 copy(m, j0, j1, j2);
-goto l94;
-l96:;
+goto l91;
+l93:;
 j0 = v1;
 j1 = UINT64_C(152288);
 j0 = j0 + j1;
-p82 = read_at(j0, m, 8u);
-j0 = load64(p82 + 0);
+p79 = read_at(j0, m, 8u);
+j0 = load64(p79 + 0);
 v7 = j0;
 i0 = (j0 == 0);
 v3 = i0;
-if (i0) { goto l90; }
+if (i0) { goto l87; }
 i0 = v3;
 if (!i0) {
 j0 = v10;
@@ -76650,9 +77169,9 @@ j0 = v1;
 j1 = UINT64_C(152288);
 j0 = j0 + j1;
 j1 = UINT64_C(0);
-p83 = write_at(j0, m, 8u);
-store64(p83 + 0, j1);
-goto l90;
+p80 = write_at(j0, m, 8u);
+store64(p80 + 0, j1);
+goto l87;
 }
 j0 = UINT64_C(0);
 v8 = j0;
@@ -76665,7 +77184,7 @@ v29 = i0;
 j0 = v4;
 i0 = load8(p31 + 45224);
 v22 = i0;
-l104:;
+l101:;
 j0 = UINT64_C(0);
 v7 = j0;
 j0 = v30;
@@ -76683,17 +77202,17 @@ j0 = j0 + j1;
 v5 = j0;
 j0 = v30;
 v6 = j0;
-l107:;
+l104:;
 j0 = v4;
 j1 = UINT64_C(88);
 j0 = j0 + j1;
 j1 = v5;
-p84 = read_at(j1, m, 2u);
-i1 = load8(p84 + 0);
+p81 = read_at(j1, m, 2u);
+i1 = load8(p81 + 0);
 j2 = v5;
 j3 = UINT64_C(1);
 j2 = j2 + j3;
-i2 = load8(p84 + 1);
+i2 = load8(p81 + 1);
 j3 = v23;
 j4 = v28;
 j5 = v12;
@@ -76706,18 +77225,18 @@ j7 = j7 + j8;
 j6 = j6 - j7;
 fio_form_form_Piece_length_in(m, j0, i1, i2, j3, j4, j5, j6);
 j0 = v4;
-p85 = read_at(j0 + UINT64_C(88), m, 1u);
-i0 = load8(p85 + 0);
+p82 = read_at(j0 + UINT64_C(88), m, 1u);
+i0 = load8(p82 + 0);
 i1 = UINT32_C(1);
 i0 = (i0 != i1);
-if (i0) { goto l105; }
+if (i0) { goto l102; }
 j0 = v5;
 j1 = UINT64_C(2);
 j0 = j0 + j1;
 v5 = j0;
 j0 = v4;
-p86 = read_at(j0 + UINT64_C(96), m, 8u);
-j0 = load64(p86 + 0);
+p83 = read_at(j0 + UINT64_C(96), m, 8u);
+j0 = load64(p83 + 0);
 j1 = v7;
 j0 = j0 + j1;
 v7 = j0;
@@ -76727,7 +77246,7 @@ j0 = j0 + j1;
 v6 = j0;
 j1 = UINT64_C(0);
 i0 = (j0 != j1);
-if (i0) { goto l107; }
+if (i0) { goto l104; }
 }
 j0 = v7;
 j1 = v8;
@@ -76757,8 +77276,8 @@ j1 = v7;
 j0 = j0 + j1;
 j1 = UINT64_C(18446744073709551615);
 j0 = j0 + j1;
-p87 = read_at(j0, m, 1u);
-i0 = load8(p87 + 0);
+p84 = read_at(j0, m, 1u);
+i0 = load8(p84 + 0);
 v3 = i0;
 }
 }
@@ -76781,8 +77300,8 @@ fio_form_octets_run_in(m, j0, i1, i2, j3, j4, j5, j6, j7);
 j0 = v1;
 j1 = UINT64_C(152288);
 j0 = j0 + j1;
-p88 = read_at(j0, m, 8u);
-j0 = load64(p88 + 0);
+p85 = read_at(j0, m, 8u);
+j0 = load64(p85 + 0);
 v7 = j0;
 i0 = (j0 == 0);
 if (!i0) {
@@ -76790,7 +77309,7 @@ j0 = v4;
 i0 = load8(p31 + 45481);
 i1 = UINT32_C(1);
 i0 = (i0 != i1);
-if (i0) { goto l94; }
+if (i0) { goto l91; }
 j0 = v4;
 j1 = UINT64_C(230520);
 j0 = j0 + j1;
@@ -76819,25 +77338,25 @@ j1 = j1 + j2;
 v8 = j1;
 j2 = UINT64_C(150241);
 j1 = j1 + j2;
-p89 = read_at(j1 + UINT64_C(18446744073709551615), m, 2u);
-i1 = load8(p89 + 1);
-p90 = write_at(j0, m, 2u);
-store8(p90 + 0, i1);
+p86 = read_at(j1 + UINT64_C(18446744073709551615), m, 2u);
+i1 = load8(p86 + 1);
+p87 = write_at(j0, m, 2u);
+store8(p87 + 0, i1);
 j0 = v6;
 j1 = UINT64_C(1);
 j0 = j0 + j1;
 j1 = v8;
 j2 = UINT64_C(150240);
 j1 = j1 + j2;
-i1 = load8(p89 + 0);
-store8(p90 + 1, i1);
+i1 = load8(p86 + 0);
+store8(p87 + 1, i1);
 j0 = v4;
 j1 = v5;
 j2 = UINT64_C(2);
 j1 = j1 + j2;
 v6 = j1;
-p91 = write_at(j0 + UINT64_C(232568), m, 8u);
-store64(p91 + 0, j1);
+p88 = write_at(j0 + UINT64_C(232568), m, 8u);
+store64(p88 + 0, j1);
 j0 = v5;
 j1 = UINT64_C(3);
 j0 = j0 + j1;
@@ -76858,16 +77377,16 @@ j0 = j0 + j1;
 j1 = v10;
 j2 = v6;
 j1 = j1 + j2;
-p92 = read_at(j1, m, 1u);
-i1 = load8(p92 + 0);
-p93 = write_at(j0, m, 1u);
-store8(p93 + 0, i1);
+p89 = read_at(j1, m, 1u);
+i1 = load8(p89 + 0);
+p90 = write_at(j0, m, 1u);
+store8(p90 + 0, i1);
 j0 = v4;
 j1 = v6;
 j2 = UINT64_C(1);
 j1 = j1 + j2;
-p94 = write_at(j0 + UINT64_C(232568), m, 8u);
-store64(p94 + 0, j1);
+p91 = write_at(j0 + UINT64_C(232568), m, 8u);
+store64(p91 + 0, j1);
 }
 j0 = v10;
 j1 = v4;
@@ -76875,25 +77394,25 @@ j2 = UINT64_C(230520);
 j1 = j1 + j2;
 j2 = UINT64_C(2056);
 copy(m, j0, j1, j2);
-goto l94;
+goto l91;
 }
-l105:;
+l102:;
 j0 = v8;
 j1 = UINT64_C(1);
 j0 = j0 + j1;
 v8 = j0;
 j1 = v11;
 i0 = (j0 != j1);
-if (i0) { goto l104; }
+if (i0) { goto l101; }
 j0 = v1;
 j1 = UINT64_C(152288);
 j0 = j0 + j1;
-p95 = read_at(j0, m, 8u);
-j0 = load64(p95 + 0);
+p92 = read_at(j0, m, 8u);
+j0 = load64(p92 + 0);
 v7 = j0;
 i0 = (j0 == 0);
 v3 = i0;
-if (i0) { goto l90; }
+if (i0) { goto l87; }
 i0 = v3;
 if (!i0) {
 j0 = v10;
@@ -76905,10 +77424,10 @@ j0 = v1;
 j1 = UINT64_C(152288);
 j0 = j0 + j1;
 j1 = UINT64_C(0);
-p96 = write_at(j0, m, 8u);
-store64(p96 + 0, j1);
-goto l90;
-l94:;
+p93 = write_at(j0, m, 8u);
+store64(p93 + 0, j1);
+goto l87;
+l91:;
 j0 = v4;
 j1 = UINT64_C(249472);
 j0 = j0 + j1;
@@ -76917,14 +77436,14 @@ v6 = j0;
 j0 = v1;
 j1 = UINT64_C(152288);
 j0 = j0 + j1;
-p97 = read_at(j0 + UINT64_C(18446744073709549560), m, 2060u);
-i0 = load32(p97 + 2056);
+p94 = read_at(j0 + UINT64_C(18446744073709549560), m, 2060u);
+i0 = load32(p94 + 2056);
 v3 = i0;
 j0 = v1;
 j1 = UINT64_C(150232);
 j0 = j0 + j1;
 v28 = j0;
-j0 = load64(p97 + 0);
+j0 = load64(p94 + 0);
 v8 = j0;
 i0 = (j0 == 0);
 if (!i0) {
@@ -76932,15 +77451,15 @@ j0 = v20;
 v7 = j0;
 j0 = v8;
 v5 = j0;
-l115:;
+l112:;
 j0 = v7;
 j1 = UINT64_C(18446744073709551596);
 j0 = j0 + j1;
-p98 = read_at(j0, m, 8u);
-j0 = load64(p98 + 0);
+p95 = read_at(j0, m, 8u);
+j0 = load64(p95 + 0);
 j1 = v6;
 i0 = (j0 == j1);
-if (i0) { goto l113; }
+if (i0) { goto l110; }
 j0 = v7;
 j1 = UINT64_C(32);
 j0 = j0 + j1;
@@ -76951,11 +77470,11 @@ j0 = j0 + j1;
 v5 = j0;
 j1 = UINT64_C(0);
 i0 = (j0 != j1);
-if (i0) { goto l115; }
+if (i0) { goto l112; }
 j0 = v8;
 j1 = UINT64_C(512);
 i0 = (j0 == j1);
-if (i0) { goto l90; }
+if (i0) { goto l87; }
 }
 j0 = v14;
 j1 = v8;
@@ -76964,52 +77483,52 @@ j1 = j1 << (j2 & 63);
 j0 = j0 + j1;
 v7 = j0;
 j1 = v6;
-p99 = write_at(j0, m, 32u);
-store64(p99 + 0, j1);
+p96 = write_at(j0, m, 32u);
+store64(p96 + 0, j1);
 j0 = v7;
 i1 = UINT32_C(0);
-store32(p99 + 25, i1);
+store32(p96 + 25, i1);
 j0 = v7;
 i1 = v27;
-store8(p99 + 24, i1);
+store8(p96 + 24, i1);
 j0 = v7;
 i1 = v26;
-store8(p99 + 23, i1);
+store8(p96 + 23, i1);
 j0 = v7;
 i1 = v24;
-store8(p99 + 22, i1);
+store8(p96 + 22, i1);
 j0 = v7;
 i1 = UINT32_C(1);
-store16(p99 + 20, i1);
+store16(p96 + 20, i1);
 j0 = v7;
 i1 = v25;
-store16(p99 + 18, i1);
+store16(p96 + 18, i1);
 j0 = v7;
 i1 = v25;
-store16(p99 + 16, i1);
+store16(p96 + 16, i1);
 j0 = v7;
 i1 = v31;
-store32(p99 + 12, i1);
+store32(p96 + 12, i1);
 j0 = v7;
 i1 = v3;
-store32(p99 + 8, i1);
+store32(p96 + 8, i1);
 j0 = v7;
 i1 = UINT32_C(0);
-store32(p99 + 28, i1);
+store32(p96 + 28, i1);
 j0 = v28;
 j1 = v8;
 j2 = UINT64_C(1);
 j1 = j1 + j2;
-p100 = write_at(j0, m, 8u);
-store64(p100 + 0, j1);
-goto l90;
-l113:;
+p97 = write_at(j0, m, 8u);
+store64(p97 + 0, j1);
+goto l87;
+l110:;
 j0 = v7;
 j1 = UINT64_C(18446744073709551614);
 j0 = j0 + j1;
 v5 = j0;
-p101 = read_at(j0, m, 2u);
-i0 = load16(p101 + 0);
+p98 = read_at(j0, m, 2u);
+i0 = load16(p98 + 0);
 i1 = v25;
 i2 = UINT32_C(65535);
 i1 = i1 & i2;
@@ -77017,11 +77536,11 @@ i0 = (i0 == i1);
 if (!i0) {
 j0 = v5;
 i1 = v25;
-p102 = write_at(j0 + UINT64_C(18446744073709551606), m, 14u);
-store16(p102 + 10, i1);
+p99 = write_at(j0 + UINT64_C(18446744073709551606), m, 14u);
+store16(p99 + 10, i1);
 j0 = v7;
 j1 = v7;
-i1 = load16(p102 + 12);
+i1 = load16(p99 + 12);
 i2 = UINT32_C(1);
 i1 = i1 + i2;
 v29 = i1;
@@ -77030,7 +77549,7 @@ i3 = v29;
 i4 = UINT32_C(65535);
 i3 = (i3 < i4);
 i1 = i3 ? i1 : i2;
-store16(p102 + 12, i1);
+store16(p99 + 12, i1);
 j0 = v7;
 j1 = UINT64_C(18446744073709551604);
 j0 = j0 + j1;
@@ -77038,16 +77557,16 @@ v7 = j0;
 i1 = UINT32_C(4294967295);
 i2 = v3;
 j3 = v7;
-i3 = load32(p102 + 0);
+i3 = load32(p99 + 0);
 i2 = i2 + i3;
 v29 = i2;
 i3 = v29;
 i4 = v3;
 i3 = (i3 < i4);
 i1 = i3 ? i1 : i2;
-store32(p102 + 0, i1);
+store32(p99 + 0, i1);
 }
-l90:;
+l87:;
 i0 = v27;
 i1 = UINT32_C(1);
 i0 = i0 + i1;
@@ -77057,7 +77576,7 @@ i1 = UINT32_C(255);
 i0 = i0 & i1;
 i1 = UINT32_C(3);
 i0 = (i0 < i1);
-if (i0) { goto l89; }
+if (i0) { goto l86; }
 }
 j0 = v15;
 j1 = UINT64_C(1);
@@ -77065,17 +77584,17 @@ j0 = j0 + j1;
 v15 = j0;
 j1 = UINT64_C(5);
 i0 = (j0 != j1);
-if (i0) { goto l87; }
+if (i0) { goto l84; }
 }
 }
-l75:;
+l72:;
 j0 = v16;
 j1 = UINT64_C(1);
 j0 = j0 + j1;
 v16 = j0;
 j1 = v11;
 i0 = (j0 != j1);
-if (i0) { goto l74; }
+if (i0) { goto l71; }
 }
 }
 j0 = v37;
@@ -77084,7 +77603,7 @@ j0 = j0 + j1;
 v37 = j0;
 j1 = v35;
 i0 = (j0 != j1);
-if (i0) { goto l70; }
+if (i0) { goto l67; }
 }
 j0 = v1;
 j1 = UINT64_C(133900);
@@ -77106,19 +77625,19 @@ j0 = UINT64_C(0);
 v12 = j0;
 j0 = UINT64_C(0);
 v28 = j0;
-l117:;
+l114:;
 j0 = v12;
 j1 = UINT64_C(24);
 i0 = (j0 == j1);
-if (i0) { goto l116; }
+if (i0) { goto l113; }
 j0 = v1;
 j1 = UINT64_C(150232);
 j0 = j0 + j1;
-p103 = read_at(j0, m, 8u);
-j0 = load64(p103 + 0);
+p100 = read_at(j0, m, 8u);
+j0 = load64(p100 + 0);
 v11 = j0;
 i0 = (j0 == 0);
-if (i0) { goto l116; }
+if (i0) { goto l113; }
 j0 = v11;
 j1 = UINT64_C(1);
 i0 = (j0 != j1);
@@ -77129,7 +77648,7 @@ j0 = UINT64_C(0);
 v6 = j0;
 j0 = UINT64_C(0);
 v5 = j0;
-goto l119;
+goto l116;
 }
 j0 = v11;
 j1 = UINT64_C(1);
@@ -77147,13 +77666,13 @@ j0 = v30;
 v7 = j0;
 j0 = UINT64_C(0);
 v5 = j0;
-l121:;
+l118:;
 i0 = v3;
 j1 = v7;
 j2 = UINT64_C(18446744073709551572);
 j1 = j1 + j2;
-p104 = read_at(j1, m, 4u);
-i1 = load32(p104 + 0);
+p101 = read_at(j1, m, 4u);
+i1 = load32(p101 + 0);
 v29 = i1;
 i0 = (i0 >= i1);
 if (!i0) {
@@ -77166,8 +77685,8 @@ j2 = load64(p39 + 0);
 j3 = v7;
 j4 = UINT64_C(18446744073709551584);
 j3 = j3 + j4;
-p105 = read_at(j3, m, 2u);
-j3 = load16(p105 + 0);
+p102 = read_at(j3, m, 2u);
+j3 = load16(p102 + 0);
 j4 = UINT64_C(3);
 j3 = j3 << (j4 & 63);
 i2 = (j2 > j3);
@@ -77184,8 +77703,8 @@ i0 = v3;
 j1 = v7;
 j2 = UINT64_C(18446744073709551604);
 j1 = j1 + j2;
-p106 = read_at(j1, m, 4u);
-i1 = load32(p106 + 0);
+p103 = read_at(j1, m, 4u);
+i1 = load32(p103 + 0);
 v29 = i1;
 i0 = (i0 >= i1);
 if (!i0) {
@@ -77198,8 +77717,8 @@ j3 = UINT64_C(69640);
 j2 = j2 + j3;
 j2 = load64(p39 + 0);
 j3 = v7;
-p107 = read_at(j3, m, 2u);
-j3 = load16(p107 + 0);
+p104 = read_at(j3, m, 2u);
+j3 = load16(p104 + 0);
 j4 = UINT64_C(3);
 j3 = j3 << (j4 & 63);
 i2 = (j2 > j3);
@@ -77222,11 +77741,11 @@ j2 = UINT64_C(2);
 j1 = j1 + j2;
 v5 = j1;
 i0 = (j0 != j1);
-if (i0) { goto l121; }
+if (i0) { goto l118; }
 j0 = v23;
 i0 = (j0 == 0);
-if (i0) { goto l118; }
-l119:;
+if (i0) { goto l115; }
+l116:;
 i0 = v3;
 j1 = v14;
 j2 = v5;
@@ -77236,8 +77755,8 @@ j1 = j1 + j2;
 v7 = j1;
 j2 = UINT64_C(8);
 j1 = j1 + j2;
-p108 = read_at(j1, m, 4u);
-i1 = load32(p108 + 0);
+p105 = read_at(j1, m, 4u);
+i1 = load32(p105 + 0);
 v29 = i1;
 i0 = (i0 >= i1);
 if (!i0) {
@@ -77250,8 +77769,8 @@ j2 = load64(p39 + 0);
 j3 = v7;
 j4 = UINT64_C(20);
 j3 = j3 + j4;
-p109 = read_at(j3, m, 2u);
-j3 = load16(p109 + 0);
+p106 = read_at(j3, m, 2u);
+j3 = load16(p106 + 0);
 j4 = UINT64_C(3);
 j3 = j3 << (j4 & 63);
 i2 = (j2 > j3);
@@ -77264,14 +77783,14 @@ i2 = v22;
 i0 = i2 ? i0 : i1;
 v3 = i0;
 }
-l118:;
+l115:;
 j0 = v6;
 j1 = v11;
 i0 = (j0 >= j1);
-if (i0) { goto l116; }
+if (i0) { goto l113; }
 i0 = v3;
 i0 = (i0 == 0);
-if (i0) { goto l116; }
+if (i0) { goto l113; }
 j0 = v14;
 j1 = v6;
 j2 = UINT64_C(5);
@@ -77281,14 +77800,14 @@ v7 = j0;
 j1 = UINT64_C(8);
 j0 = j0 + j1;
 i1 = UINT32_C(0);
-p110 = write_at(j0, m, 10u);
-store32(p110 + 0, i1);
+p107 = write_at(j0, m, 10u);
+store32(p107 + 0, i1);
 j0 = v2;
 j1 = UINT64_C(69640);
 j0 = j0 + j1;
 j0 = load64(p39 + 0);
 j1 = v7;
-i1 = load16(p110 + 8);
+i1 = load16(p107 + 8);
 v3 = i1;
 j1 = (uint64_t)i1;
 j2 = UINT64_C(65535);
@@ -77297,7 +77816,7 @@ v5 = j1;
 i0 = (j0 <= j1);
 if (!i0) {
 j0 = v7;
-j0 = load32(p110 + 4);
+j0 = load32(p107 + 4);
 v6 = j0;
 j0 = v13;
 j1 = v5;
@@ -77305,8 +77824,8 @@ j2 = UINT64_C(2);
 j1 = j1 << (j2 & 63);
 j0 = j0 + j1;
 v8 = j0;
-p111 = read_at(j0, m, 4u);
-j0 = load32(p111 + 0);
+p108 = read_at(j0, m, 4u);
+j0 = load32(p108 + 0);
 v5 = j0;
 i0 = v3;
 i1 = UINT32_C(65535);
@@ -77314,14 +77833,14 @@ i0 = i0 & i1;
 if (!i0) {
 j0 = v2;
 v8 = j0;
-goto l127;
+goto l124;
 }
 j0 = v5;
 j1 = v8;
 j2 = UINT64_C(18446744073709551612);
 j1 = j1 + j2;
-p112 = read_at(j1, m, 4u);
-j1 = load32(p112 + 0);
+p109 = read_at(j1, m, 4u);
+j1 = load32(p109 + 0);
 v8 = j1;
 j0 = j0 - j1;
 v5 = j0;
@@ -77329,16 +77848,16 @@ j0 = v2;
 j1 = v8;
 j0 = j0 + j1;
 v8 = j0;
-l127:;
+l124:;
 j0 = v7;
-p113 = read_at(j0 + UINT64_C(22), m, 3u);
-i0 = load8(p113 + 2);
+p110 = read_at(j0 + UINT64_C(22), m, 3u);
+i0 = load8(p110 + 2);
 v3 = i0;
 j0 = v7;
-i0 = load8(p113 + 1);
+i0 = load8(p110 + 1);
 v29 = i0;
 j0 = v7;
-i0 = load8(p113 + 0);
+i0 = load8(p110 + 0);
 v22 = i0;
 j0 = v4;
 j1 = UINT64_C(230520);
@@ -77349,7 +77868,7 @@ fill(m, j0, i1, j2);
 j0 = v5;
 j1 = v6;
 i0 = (j0 > j1);
-if (i0) { goto l125; }
+if (i0) { goto l122; }
 }
 j0 = v4;
 j1 = UINT64_C(153816);
@@ -77357,8 +77876,8 @@ j0 = j0 + j1;
 i1 = UINT32_C(0);
 j2 = UINT64_C(784);
 fill(m, j0, i1, j2);
-goto l124;
-l125:;
+goto l121;
+l122:;
 j0 = v4;
 j1 = UINT64_C(230520);
 j0 = j0 + j1;
@@ -77382,8 +77901,8 @@ j6 = j6 & j7;
 i7 = UINT32_C(0);
 fio_guess_guess_plain_form(m, j0, j1, j2, j3, i4, i5, j6, i7);
 j0 = v4;
-p114 = read_at(j0 + UINT64_C(230520), m, 1u);
-i0 = load8(p114 + 0);
+p111 = read_at(j0 + UINT64_C(230520), m, 1u);
+i0 = load8(p111 + 0);
 i1 = UINT32_C(1);
 i0 = (i0 != i1);
 if (!i0) {
@@ -77395,41 +77914,41 @@ j2 = UINT64_C(784);
 copy(m, j0, j1, j2);
 j0 = v4;
 i1 = v27;
-p115 = write_at(j0 + UINT64_C(211833), m, 1u);
-store8(p115 + 0, i1);
+p112 = write_at(j0 + UINT64_C(211833), m, 1u);
+store8(p112 + 0, i1);
 i0 = v27;
 i0 = (i0 == 0);
-if (i0) { goto l129; }
+if (i0) { goto l126; }
 j0 = v4;
-p116 = read_at(j0 + UINT64_C(211712), m, 8u);
-j0 = load64(p116 + 0);
+p113 = read_at(j0 + UINT64_C(211712), m, 8u);
+j0 = load64(p113 + 0);
 v5 = j0;
 j1 = UINT64_C(3);
 i0 = (j0 < j1);
 if (!i0) {
 j0 = v4;
-p117 = read_at(j0 + UINT64_C(211584), m, 1u);
-i0 = load8(p117 + 0);
+p114 = read_at(j0 + UINT64_C(211584), m, 1u);
+i0 = load8(p114 + 0);
 i1 = UINT32_C(255);
 i0 = i0 & i1;
 if (!i0) {
 j0 = v4;
-p118 = read_at(j0 + UINT64_C(211586), m, 1u);
-i0 = load8(p118 + 0);
+p115 = read_at(j0 + UINT64_C(211586), m, 1u);
+i0 = load8(p115 + 0);
 i1 = UINT32_C(255);
 i0 = i0 & i1;
 if (!i0) {
 j0 = v4;
-p119 = read_at(j0 + UINT64_C(211588), m, 1u);
-i0 = load8(p119 + 0);
+p116 = read_at(j0 + UINT64_C(211588), m, 1u);
+i0 = load8(p116 + 0);
 i1 = UINT32_C(255);
 i0 = i0 & i1;
 i1 = UINT32_C(1);
 i0 = (i0 != i1);
 if (!i0) {
 j0 = v4;
-p120 = read_at(j0 + UINT64_C(211589), m, 1u);
-i0 = load8(p120 + 0);
+p117 = read_at(j0 + UINT64_C(211589), m, 1u);
+i0 = load8(p117 + 0);
 i1 = UINT32_C(255);
 i0 = i0 & i1;
 i1 = UINT32_C(32);
@@ -77442,13 +77961,13 @@ j1 = UINT64_C(18446744073709551613);
 j0 = j0 + j1;
 v5 = j0;
 i0 = (j0 == 0);
-if (i0) { goto l129; }
-l132:;
+if (i0) { goto l126; }
+l129:;
 j0 = v7;
-p121 = read_at(j0, m, 1u);
-i0 = load8(p121 + 0);
+p118 = read_at(j0, m, 1u);
+i0 = load8(p118 + 0);
 i0 = (i0 == 0);
-if (i0) { goto l131; }
+if (i0) { goto l128; }
 j0 = v7;
 j1 = UINT64_C(2);
 j0 = j0 + j1;
@@ -77458,21 +77977,21 @@ j1 = UINT64_C(18446744073709551615);
 j0 = j0 + j1;
 v5 = j0;
 i0 = (j0 == 0);
-if (i0) { goto l129; }
-goto l132;
+if (i0) { goto l126; }
+goto l129;
 }
 }
 }
 }
 }
-l131:;
+l128:;
 j0 = v4;
 j1 = UINT64_C(153816);
 j0 = j0 + j1;
 i1 = UINT32_C(0);
 j2 = UINT64_C(784);
 fill(m, j0, i1, j2);
-goto l124;
+goto l121;
 }
 j0 = v4;
 j1 = UINT64_C(153816);
@@ -77480,8 +77999,8 @@ j0 = j0 + j1;
 i1 = UINT32_C(0);
 j2 = UINT64_C(784);
 fill(m, j0, i1, j2);
-goto l124;
-l129:;
+goto l121;
+l126:;
 j0 = v4;
 j1 = UINT64_C(153816);
 j0 = j0 + j1;
@@ -77508,15 +78027,15 @@ j2 = UINT64_C(1);
 j1 = j1 + j2;
 v12 = j1;
 store64(p31 + 44696, j1);
-l124:;
+l121:;
 j0 = v28;
 j1 = UINT64_C(1);
 j0 = j0 + j1;
 v28 = j0;
 j1 = UINT64_C(512);
 i0 = (j0 != j1);
-if (i0) { goto l117; }
-l116:;
+if (i0) { goto l114; }
+l113:;
 j0 = v4;
 j1 = UINT64_C(116168);
 j0 = j0 + j1;
@@ -77542,7 +78061,7 @@ j0 = v4;
 j1 = UINT64_C(134992);
 j0 = j0 + j1;
 v7 = j0;
-l134:;
+l131:;
 j0 = v14;
 j1 = v7;
 j2 = UINT64_C(1);
@@ -77559,7 +78078,7 @@ j0 = j0 + j1;
 v5 = j0;
 j1 = UINT64_C(0);
 i0 = (j0 != j1);
-if (i0) { goto l134; }
+if (i0) { goto l131; }
 j0 = v4;
 j0 = load64(p31 + 6272);
 v37 = j0;
@@ -77605,7 +78124,7 @@ j0 = v4;
 j1 = UINT64_C(134992);
 j0 = j0 + j1;
 v20 = j0;
-l135:;
+l132:;
 j0 = v4;
 j0 = load64(p31 + 6272);
 v10 = j0;
@@ -77643,7 +78162,7 @@ j0 = v4;
 j1 = UINT64_C(134992);
 j0 = j0 + j1;
 v12 = j0;
-l137:;
+l134:;
 j0 = v23;
 j1 = v28;
 i0 = (j0 >= j1);
@@ -77651,8 +78170,8 @@ if (!i0) {
 j0 = v30;
 j1 = UINT64_C(520);
 j0 = j0 + j1;
-p122 = read_at(j0, m, 1u);
-i0 = load8(p122 + 0);
+p119 = read_at(j0, m, 1u);
+i0 = load8(p119 + 0);
 v3 = i0;
 j1 = v4;
 j2 = UINT64_C(134992);
@@ -77664,21 +78183,21 @@ j1 = j1 + j2;
 v13 = j1;
 j2 = UINT64_C(520);
 j1 = j1 + j2;
-p123 = read_at(j1, m, 1u);
-i1 = load8(p123 + 0);
+p120 = read_at(j1, m, 1u);
+i1 = load8(p120 + 0);
 i0 = (i0 != i1);
 if (!i0) {
 j0 = v13;
 j1 = UINT64_C(521);
 j0 = j0 + j1;
-p124 = read_at(j0, m, 1u);
-i0 = load8(p124 + 0);
+p121 = read_at(j0, m, 1u);
+i0 = load8(p121 + 0);
 v26 = i0;
 j0 = v30;
 j1 = UINT64_C(521);
 j0 = j0 + j1;
-p125 = read_at(j0, m, 1u);
-i0 = load8(p125 + 0);
+p122 = read_at(j0, m, 1u);
+i0 = load8(p122 + 0);
 v24 = i0;
 i0 = v3;
 i1 = UINT32_C(7);
@@ -77691,19 +78210,19 @@ i1 = v26;
 i2 = UINT32_C(255);
 i1 = i1 & i2;
 i0 = (i0 != i1);
-if (i0) { goto l138; }
+if (i0) { goto l135; }
 }
 j0 = v30;
 j1 = UINT64_C(656);
 j0 = j0 + j1;
-p126 = read_at(j0, m, 8u);
-j0 = load64(p126 + 0);
+p123 = read_at(j0, m, 8u);
+j0 = load64(p123 + 0);
 v15 = j0;
 j1 = v13;
 j2 = UINT64_C(656);
 j1 = j1 + j2;
-p127 = read_at(j1, m, 8u);
-j1 = load64(p127 + 0);
+p124 = read_at(j1, m, 8u);
+j1 = load64(p124 + 0);
 i0 = (j0 != j1);
 if (!i0) {
 j0 = v13;
@@ -77715,17 +78234,17 @@ j1 = UINT64_C(2);
 i0 = (j0 < j1);
 if (!i0) {
 j0 = v38;
-p128 = read_at(j0, m, 1u);
-i0 = load8(p128 + 0);
+p125 = read_at(j0, m, 1u);
+i0 = load8(p125 + 0);
 v29 = i0;
 j1 = v21;
-p129 = read_at(j1, m, 1u);
-i1 = load8(p129 + 0);
+p126 = read_at(j1, m, 1u);
+i1 = load8(p126 + 0);
 i0 = (i0 == i1);
-if (i0) { goto l142; }
+if (i0) { goto l139; }
 i0 = UINT32_C(1);
 v29 = i0;
-goto l141;
+goto l138;
 }
 j0 = v15;
 i0 = (j0 == 0);
@@ -77733,15 +78252,15 @@ i0 = (i0 == 0);
 if (!i0) {
 i0 = UINT32_C(0);
 v29 = i0;
-goto l144;
+goto l141;
 }
 j0 = v38;
-p130 = read_at(j0, m, 1u);
-i0 = load8(p130 + 0);
+p127 = read_at(j0, m, 1u);
+i0 = load8(p127 + 0);
 v22 = i0;
 j1 = v21;
-p131 = read_at(j1, m, 1u);
-i1 = load8(p131 + 0);
+p128 = read_at(j1, m, 1u);
+i1 = load8(p128 + 0);
 v27 = i1;
 i0 = (i0 == i1);
 v29 = i0;
@@ -77756,59 +78275,59 @@ if (!i0) {
 j0 = v30;
 j1 = UINT64_C(529);
 j0 = j0 + j1;
-p132 = read_at(j0, m, 1u);
-i0 = load8(p132 + 0);
+p129 = read_at(j0, m, 1u);
+i0 = load8(p129 + 0);
 j1 = v13;
 j2 = UINT64_C(529);
 j1 = j1 + j2;
-p133 = read_at(j1, m, 1u);
-i1 = load8(p133 + 0);
+p130 = read_at(j1, m, 1u);
+i1 = load8(p130 + 0);
 i0 = (i0 == i1);
 v29 = i0;
 }
 }
-l144:;
+l141:;
 j0 = v15;
 i1 = v29;
 j1 = (uint64_t)i1;
 i0 = (j0 <= j1);
-if (i0) { goto l140; }
-goto l138;
-l142:;
+if (i0) { goto l137; }
+goto l135;
+l139:;
 i0 = v29;
 i1 = UINT32_C(1);
 i0 = (i0 == i1);
 if (!i0) {
 i0 = UINT32_C(0);
 v29 = i0;
-goto l141;
+goto l138;
 }
 j0 = v30;
 j1 = UINT64_C(529);
 j0 = j0 + j1;
-p134 = read_at(j0, m, 1u);
-i0 = load8(p134 + 0);
+p131 = read_at(j0, m, 1u);
+i0 = load8(p131 + 0);
 j1 = v13;
 j2 = UINT64_C(529);
 j1 = j1 + j2;
-p135 = read_at(j1, m, 1u);
-i1 = load8(p135 + 0);
+p132 = read_at(j1, m, 1u);
+i1 = load8(p132 + 0);
 i0 = (i0 != i1);
 v29 = i0;
-l141:;
+l138:;
 j0 = v30;
 j1 = UINT64_C(530);
 j0 = j0 + j1;
-p136 = read_at(j0, m, 1u);
-i0 = load8(p136 + 0);
+p133 = read_at(j0, m, 1u);
+i0 = load8(p133 + 0);
 v22 = i0;
 j1 = v13;
 j2 = UINT64_C(530);
 j1 = j1 + j2;
-p137 = read_at(j1, m, 1u);
-i1 = load8(p137 + 0);
+p134 = read_at(j1, m, 1u);
+i1 = load8(p134 + 0);
 i0 = (i0 != i1);
-if (i0) { goto l138; }
+if (i0) { goto l135; }
 i0 = UINT32_C(0);
 v27 = i0;
 i0 = v22;
@@ -77818,27 +78337,27 @@ if (!i0) {
 j0 = v30;
 j1 = UINT64_C(531);
 j0 = j0 + j1;
-p138 = read_at(j0, m, 1u);
-i0 = load8(p138 + 0);
+p135 = read_at(j0, m, 1u);
+i0 = load8(p135 + 0);
 j1 = v13;
 j2 = UINT64_C(531);
 j1 = j1 + j2;
-p139 = read_at(j1, m, 1u);
-i1 = load8(p139 + 0);
+p136 = read_at(j1, m, 1u);
+i1 = load8(p136 + 0);
 i0 = (i0 != i1);
 v27 = i0;
 }
 i0 = v29;
 i1 = v27;
 i0 = i0 | i1;
-if (i0) { goto l138; }
+if (i0) { goto l135; }
 j0 = v38;
 j1 = v15;
 j2 = v21;
 i0 = core_cmp_slices_groups_equal(m, j0, j1, j2);
 i0 = (i0 == 0);
-if (i0) { goto l138; }
-l140:;
+if (i0) { goto l135; }
+l137:;
 i0 = UINT32_C(0);
 v27 = i0;
 j0 = UINT64_C(0);
@@ -77846,8 +78365,8 @@ v16 = j0;
 j0 = v13;
 j1 = UINT64_C(512);
 j0 = j0 + j1;
-p140 = read_at(j0, m, 8u);
-j0 = load64(p140 + 0);
+p137 = read_at(j0, m, 8u);
+j0 = load64(p137 + 0);
 v49 = j0;
 v8 = j0;
 j0 = v13;
@@ -77855,13 +78374,13 @@ v19 = j0;
 j0 = v30;
 j1 = UINT64_C(512);
 j0 = j0 + j1;
-p141 = read_at(j0, m, 8u);
-j0 = load64(p141 + 0);
+p138 = read_at(j0, m, 8u);
+j0 = load64(p138 + 0);
 v50 = j0;
 v11 = j0;
 j0 = v30;
 v18 = j0;
-l148:;
+l145:;
 i0 = UINT32_C(1);
 v29 = i0;
 j0 = UINT64_C(0);
@@ -77874,14 +78393,14 @@ i0 = UINT32_C(1);
 v22 = i0;
 j0 = UINT64_C(0);
 v17 = j0;
-goto l150;
+goto l147;
 }
 j0 = v18;
 v7 = j0;
-l152:;
+l149:;
 j0 = v7;
-p142 = read_at(j0, m, 1u);
-i0 = load8(p142 + 0);
+p139 = read_at(j0, m, 1u);
+i0 = load8(p139 + 0);
 i1 = UINT32_C(3);
 i0 = (i0 != i1);
 if (!i0) {
@@ -77897,7 +78416,7 @@ j0 = j0 + j1;
 v11 = j0;
 i0 = UINT32_C(0);
 v22 = i0;
-goto l149;
+goto l146;
 }
 j0 = v7;
 j1 = UINT64_C(2);
@@ -77909,17 +78428,17 @@ j2 = UINT64_C(1);
 j1 = j1 + j2;
 v5 = j1;
 i0 = (j0 != j1);
-if (i0) { goto l152; }
+if (i0) { goto l149; }
 j0 = UINT64_C(0);
 v17 = j0;
 j0 = v11;
 v5 = j0;
 i0 = UINT32_C(1);
 v22 = i0;
-l150:;
+l147:;
 j0 = UINT64_C(0);
 v11 = j0;
-l149:;
+l146:;
 j0 = UINT64_C(0);
 v6 = j0;
 j0 = v8;
@@ -77928,14 +78447,14 @@ i0 = (i0 == 0);
 if (!i0) {
 j0 = UINT64_C(0);
 v7 = j0;
-goto l155;
+goto l152;
 }
 j0 = v19;
 v7 = j0;
-l157:;
+l154:;
 j0 = v7;
-p143 = read_at(j0, m, 1u);
-i0 = load8(p143 + 0);
+p140 = read_at(j0, m, 1u);
+i0 = load8(p140 + 0);
 i1 = UINT32_C(3);
 i0 = (i0 != i1);
 if (!i0) {
@@ -77951,7 +78470,7 @@ j0 = j0 + j1;
 v8 = j0;
 i0 = UINT32_C(0);
 v29 = i0;
-goto l154;
+goto l151;
 }
 j0 = v7;
 j1 = UINT64_C(2);
@@ -77963,15 +78482,15 @@ j2 = UINT64_C(1);
 j1 = j1 + j2;
 v6 = j1;
 i0 = (j0 != j1);
-if (i0) { goto l157; }
+if (i0) { goto l154; }
 j0 = UINT64_C(0);
 v7 = j0;
 j0 = v8;
 v6 = j0;
-l155:;
+l152:;
 j0 = UINT64_C(0);
 v8 = j0;
-l154:;
+l151:;
 j0 = v5;
 j1 = v6;
 i0 = (j0 != j1);
@@ -77981,17 +78500,17 @@ j1 = UINT64_C(2);
 i0 = (j0 < j1);
 if (!i0) {
 j0 = v18;
-p144 = read_at(j0, m, 1u);
-i0 = load8(p144 + 0);
+p141 = read_at(j0, m, 1u);
+i0 = load8(p141 + 0);
 v25 = i0;
 j1 = v19;
-p145 = read_at(j1, m, 1u);
-i1 = load8(p145 + 0);
+p142 = read_at(j1, m, 1u);
+i1 = load8(p142 + 0);
 i0 = (i0 == i1);
-if (i0) { goto l162; }
+if (i0) { goto l159; }
 i0 = UINT32_C(1);
 v25 = i0;
-goto l161;
+goto l158;
 }
 j0 = v5;
 i0 = (j0 == 0);
@@ -77999,15 +78518,15 @@ i0 = (i0 == 0);
 if (!i0) {
 i0 = UINT32_C(0);
 v25 = i0;
-goto l164;
+goto l161;
 }
 j0 = v18;
-p146 = read_at(j0, m, 1u);
-i0 = load8(p146 + 0);
+p143 = read_at(j0, m, 1u);
+i0 = load8(p143 + 0);
 v31 = i0;
 j1 = v19;
-p147 = read_at(j1, m, 1u);
-i1 = load8(p147 + 0);
+p144 = read_at(j1, m, 1u);
+i1 = load8(p144 + 0);
 v39 = i1;
 i0 = (i0 == i1);
 v25 = i0;
@@ -78020,56 +78539,56 @@ if (!i0) {
 j0 = v18;
 j1 = UINT64_C(1);
 j0 = j0 + j1;
-p148 = read_at(j0, m, 1u);
-i0 = load8(p148 + 0);
+p145 = read_at(j0, m, 1u);
+i0 = load8(p145 + 0);
 j1 = v19;
 j2 = UINT64_C(1);
 j1 = j1 + j2;
-p149 = read_at(j1, m, 1u);
-i1 = load8(p149 + 0);
+p146 = read_at(j1, m, 1u);
+i1 = load8(p146 + 0);
 i0 = (i0 == i1);
 v25 = i0;
 }
 }
-l164:;
+l161:;
 j0 = v5;
 i1 = v25;
 j1 = (uint64_t)i1;
 i0 = (j0 > j1);
-if (i0) { goto l160; }
-goto l159;
-l162:;
+if (i0) { goto l157; }
+goto l156;
+l159:;
 i0 = v25;
 i0 = (i0 == 0);
 if (!i0) {
 i0 = UINT32_C(0);
 v25 = i0;
-goto l161;
+goto l158;
 }
 j0 = v18;
 j1 = UINT64_C(1);
 j0 = j0 + j1;
-p150 = read_at(j0, m, 1u);
-i0 = load8(p150 + 0);
+p147 = read_at(j0, m, 1u);
+i0 = load8(p147 + 0);
 j1 = v19;
 j2 = UINT64_C(1);
 j1 = j1 + j2;
-p151 = read_at(j1, m, 1u);
-i1 = load8(p151 + 0);
+p148 = read_at(j1, m, 1u);
+i1 = load8(p148 + 0);
 i0 = (i0 != i1);
 v25 = i0;
-l161:;
+l158:;
 j0 = v18;
 j1 = UINT64_C(2);
 j0 = j0 + j1;
-p152 = read_at(j0, m, 1u);
-i0 = load8(p152 + 0);
+p149 = read_at(j0, m, 1u);
+i0 = load8(p149 + 0);
 v31 = i0;
 j1 = v19;
 j2 = UINT64_C(2);
 j1 = j1 + j2;
-p153 = read_at(j1, m, 1u);
-i1 = load8(p153 + 0);
+p150 = read_at(j1, m, 1u);
+i1 = load8(p150 + 0);
 i0 = (i0 != i1);
 if (!i0) {
 i0 = UINT32_C(0);
@@ -78079,13 +78598,13 @@ if (!i0) {
 j0 = v18;
 j1 = UINT64_C(3);
 j0 = j0 + j1;
-p154 = read_at(j0, m, 1u);
-i0 = load8(p154 + 0);
+p151 = read_at(j0, m, 1u);
+i0 = load8(p151 + 0);
 j1 = v19;
 j2 = UINT64_C(3);
 j1 = j1 + j2;
-p155 = read_at(j1, m, 1u);
-i1 = load8(p155 + 0);
+p152 = read_at(j1, m, 1u);
+i1 = load8(p152 + 0);
 i0 = (i0 != i1);
 v39 = i0;
 }
@@ -78096,12 +78615,12 @@ if (!i0) {
 j0 = v18;
 j1 = v5;
 j2 = v19;
-i0 = core_cmp_slices_groups_equal_52(m, j0, j1, j2);
-if (i0) { goto l159; }
+i0 = core_cmp_slices_groups_equal_53(m, j0, j1, j2);
+if (i0) { goto l156; }
 }
 }
 }
-l160:;
+l157:;
 i0 = v27;
 i1 = UINT32_C(1);
 i0 = i0 + i1;
@@ -78110,7 +78629,7 @@ i1 = UINT32_C(4294967295);
 i2 = v27;
 i0 = i2 ? i0 : i1;
 v27 = i0;
-l159:;
+l156:;
 i0 = v22;
 if (!i0) {
 j0 = v7;
@@ -78126,8 +78645,8 @@ j2 = UINT64_C(257);
 i1 = (j1 == j2);
 i0 = i0 | i1;
 i0 = (i0 == 0);
-if (i0) { goto l148; }
-goto l138;
+if (i0) { goto l145; }
+goto l135;
 }
 i0 = v29;
 i1 = v27;
@@ -78164,8 +78683,8 @@ j0 = j0 + j1;
 j1 = v7;
 j0 = j0 + j1;
 j1 = UINT64_C(281479271743489);
-p156 = write_at(j0, m, 8u);
-store64(p156 + 0, j1);
+p153 = write_at(j0, m, 8u);
+store64(p153 + 0, j1);
 j0 = v7;
 j1 = UINT64_C(8);
 j0 = j0 + j1;
@@ -78222,10 +78741,10 @@ j0 = j0 + j1;
 j1 = v20;
 j2 = v7;
 j1 = j1 + j2;
-p157 = read_at(j1, m, 4u);
-i1 = load32(p157 + 0);
-p158 = write_at(j0, m, 4u);
-store32(p158 + 0, i1);
+p154 = read_at(j1, m, 4u);
+i1 = load32(p154 + 0);
+p155 = write_at(j0, m, 4u);
+store32(p155 + 0, i1);
 j0 = v7;
 j1 = UINT64_C(4);
 j0 = j0 + j1;
@@ -78240,7 +78759,7 @@ if (!i0) break;
 }
 j0 = v8;
 i0 = (j0 == 0);
-if (i0) { goto l171; }
+if (i0) { goto l168; }
 }
 j0 = v4;
 j1 = UINT64_C(173416);
@@ -78253,11 +78772,11 @@ j0 = j0 + j1;
 j1 = v30;
 j2 = v7;
 j1 = j1 + j2;
-p159 = read_at(j1, m, 2u);
-i1 = load16(p159 + 0);
-p160 = write_at(j0, m, 2u);
-store16(p160 + 0, i1);
-goto l171;
+p156 = read_at(j1, m, 2u);
+i1 = load16(p156 + 0);
+p157 = write_at(j0, m, 2u);
+store16(p157 + 0, i1);
+goto l168;
 }
 j0 = v7;
 i0 = (j0 == 0);
@@ -78269,7 +78788,7 @@ j1 = v30;
 j2 = v7;
 copy(m, j0, j1, j2);
 }
-l171:;
+l168:;
 j0 = v50;
 v8 = j0;
 }
@@ -78319,10 +78838,10 @@ j2 = v7;
 j1 = j1 + j2;
 j2 = UINT64_C(528);
 j1 = j1 + j2;
-p161 = read_at(j1, m, 4u);
-i1 = load32(p161 + 0);
-p162 = write_at(j0, m, 4u);
-store32(p162 + 0, i1);
+p158 = read_at(j1, m, 4u);
+i1 = load32(p158 + 0);
+p159 = write_at(j0, m, 4u);
+store32(p159 + 0, i1);
 j0 = v7;
 j1 = UINT64_C(4);
 j0 = j0 + j1;
@@ -78337,7 +78856,7 @@ if (!i0) break;
 }
 j0 = v11;
 i0 = (j0 == 0);
-if (i0) { goto l176; }
+if (i0) { goto l173; }
 }
 j0 = v4;
 j1 = UINT64_C(192240);
@@ -78350,11 +78869,11 @@ j0 = j0 + j1;
 j1 = v38;
 j2 = v7;
 j1 = j1 + j2;
-p163 = read_at(j1, m, 2u);
-i1 = load16(p163 + 0);
-p164 = write_at(j0, m, 2u);
-store16(p164 + 0, i1);
-goto l176;
+p160 = read_at(j1, m, 2u);
+i1 = load16(p160 + 0);
+p161 = write_at(j0, m, 2u);
+store16(p161 + 0, i1);
+goto l173;
 }
 j0 = v7;
 i0 = (j0 == 0);
@@ -78366,7 +78885,7 @@ j1 = v38;
 j2 = v7;
 copy(m, j0, j1, j2);
 }
-l176:;
+l173:;
 j0 = v4;
 j1 = v15;
 store64(p31 + 44832, j1);
@@ -78380,8 +78899,8 @@ fill(m, j0, i1, j2);
 j0 = v30;
 j1 = UINT64_C(760);
 j0 = j0 + j1;
-p165 = read_at(j0, m, 8u);
-j0 = load64(p165 + 0);
+p162 = read_at(j0, m, 8u);
+j0 = load64(p162 + 0);
 v7 = j0;
 j1 = UINT64_C(24);
 i0 = (j0 > j1);
@@ -78406,58 +78925,58 @@ store64(p31 + 7160, j1);
 j0 = v30;
 j1 = UINT64_C(778);
 j0 = j0 + j1;
-p166 = read_at(j0 + UINT64_C(18446744073709551606), m, 11u);
-i0 = load8(p166 + 10);
+p163 = read_at(j0 + UINT64_C(18446744073709551606), m, 11u);
+i0 = load8(p163 + 10);
 v29 = i0;
 j0 = v30;
 j1 = UINT64_C(777);
 j0 = j0 + j1;
-i0 = load8(p166 + 9);
+i0 = load8(p163 + 9);
 v22 = i0;
 j0 = v30;
 j1 = UINT64_C(776);
 j0 = j0 + j1;
-i0 = load8(p166 + 8);
+i0 = load8(p163 + 8);
 v27 = i0;
 j0 = v30;
 j1 = UINT64_C(775);
 j0 = j0 + j1;
-i0 = load8(p166 + 7);
+i0 = load8(p163 + 7);
 v25 = i0;
 j0 = v30;
 j1 = UINT64_C(774);
 j0 = j0 + j1;
-i0 = load8(p166 + 6);
+i0 = load8(p163 + 6);
 v31 = i0;
 j0 = v30;
 j1 = UINT64_C(773);
 j0 = j0 + j1;
-i0 = load8(p166 + 5);
+i0 = load8(p163 + 5);
 v39 = i0;
 j0 = v30;
 j1 = UINT64_C(772);
 j0 = j0 + j1;
-i0 = load8(p166 + 4);
+i0 = load8(p163 + 4);
 v51 = i0;
 j0 = v30;
 j1 = UINT64_C(771);
 j0 = j0 + j1;
-i0 = load8(p166 + 3);
+i0 = load8(p163 + 3);
 v52 = i0;
 j0 = v30;
 j1 = UINT64_C(770);
 j0 = j0 + j1;
-i0 = load8(p166 + 2);
+i0 = load8(p163 + 2);
 v53 = i0;
 j0 = v30;
 j1 = UINT64_C(769);
 j0 = j0 + j1;
-i0 = load8(p166 + 1);
+i0 = load8(p163 + 1);
 v54 = i0;
 j0 = v30;
 j1 = UINT64_C(768);
 j0 = j0 + j1;
-i0 = load8(p166 + 0);
+i0 = load8(p163 + 0);
 v55 = i0;
 j0 = v47;
 j1 = v4;
@@ -78516,8 +79035,8 @@ j0 = j0 + j1;
 j1 = v7;
 j0 = j0 + j1;
 j1 = UINT64_C(281479271743489);
-p167 = write_at(j0, m, 8u);
-store64(p167 + 0, j1);
+p164 = write_at(j0, m, 8u);
+store64(p164 + 0, j1);
 j0 = v7;
 j1 = UINT64_C(8);
 j0 = j0 + j1;
@@ -78578,10 +79097,10 @@ j0 = j0 + j1;
 j1 = v12;
 j2 = v7;
 j1 = j1 + j2;
-p168 = read_at(j1, m, 4u);
-i1 = load32(p168 + 0);
-p169 = write_at(j0, m, 4u);
-store32(p169 + 0, i1);
+p165 = read_at(j1, m, 4u);
+i1 = load32(p165 + 0);
+p166 = write_at(j0, m, 4u);
+store32(p166 + 0, i1);
 j0 = v7;
 j1 = UINT64_C(4);
 j0 = j0 + j1;
@@ -78596,7 +79115,7 @@ if (!i0) break;
 }
 j0 = v11;
 i0 = (j0 == 0);
-if (i0) { goto l184; }
+if (i0) { goto l181; }
 }
 j0 = v4;
 j1 = UINT64_C(173416);
@@ -78609,11 +79128,11 @@ j0 = j0 + j1;
 j1 = v13;
 j2 = v7;
 j1 = j1 + j2;
-p170 = read_at(j1, m, 2u);
-i1 = load16(p170 + 0);
-p171 = write_at(j0, m, 2u);
-store16(p171 + 0, i1);
-goto l184;
+p167 = read_at(j1, m, 2u);
+i1 = load16(p167 + 0);
+p168 = write_at(j0, m, 2u);
+store16(p168 + 0, i1);
+goto l181;
 }
 j0 = v7;
 i0 = (j0 == 0);
@@ -78625,7 +79144,7 @@ j1 = v13;
 j2 = v7;
 copy(m, j0, j1, j2);
 }
-l184:;
+l181:;
 j0 = v49;
 v11 = j0;
 }
@@ -78679,10 +79198,10 @@ j2 = v7;
 j1 = j1 + j2;
 j2 = UINT64_C(528);
 j1 = j1 + j2;
-p172 = read_at(j1, m, 4u);
-i1 = load32(p172 + 0);
-p173 = write_at(j0, m, 4u);
-store32(p173 + 0, i1);
+p169 = read_at(j1, m, 4u);
+i1 = load32(p169 + 0);
+p170 = write_at(j0, m, 4u);
+store32(p170 + 0, i1);
 j0 = v7;
 j1 = UINT64_C(4);
 j0 = j0 + j1;
@@ -78697,7 +79216,7 @@ if (!i0) break;
 }
 j0 = v19;
 i0 = (j0 == 0);
-if (i0) { goto l189; }
+if (i0) { goto l186; }
 }
 j0 = v4;
 j1 = UINT64_C(230520);
@@ -78710,11 +79229,11 @@ j0 = j0 + j1;
 j1 = v21;
 j2 = v7;
 j1 = j1 + j2;
-p174 = read_at(j1, m, 2u);
-i1 = load16(p174 + 0);
-p175 = write_at(j0, m, 2u);
-store16(p175 + 0, i1);
-goto l189;
+p171 = read_at(j1, m, 2u);
+i1 = load16(p171 + 0);
+p172 = write_at(j0, m, 2u);
+store16(p172 + 0, i1);
+goto l186;
 }
 j0 = v7;
 i0 = (j0 == 0);
@@ -78726,11 +79245,11 @@ j1 = v21;
 j2 = v7;
 copy(m, j0, j1, j2);
 }
-l189:;
+l186:;
 j0 = v4;
 j1 = v15;
-p176 = write_at(j0 + UINT64_C(230648), m, 8u);
-store64(p176 + 0, j1);
+p173 = write_at(j0 + UINT64_C(230648), m, 8u);
+store64(p173 + 0, j1);
 }
 j0 = v4;
 j1 = UINT64_C(192240);
@@ -78741,8 +79260,8 @@ fill(m, j0, i1, j2);
 j0 = v13;
 j1 = UINT64_C(760);
 j0 = j0 + j1;
-p177 = read_at(j0, m, 8u);
-j0 = load64(p177 + 0);
+p174 = read_at(j0, m, 8u);
+j0 = load64(p174 + 0);
 v7 = j0;
 j1 = UINT64_C(24);
 i0 = (j0 > j1);
@@ -78769,18 +79288,18 @@ store64(p31 + 44800, j1);
 j0 = v13;
 j1 = UINT64_C(768);
 j0 = j0 + j1;
-p178 = read_at(j0, m, 11u);
-j0 = load64(p178 + 0);
+p175 = read_at(j0, m, 11u);
+j0 = load64(p175 + 0);
 v7 = j0;
 j0 = v13;
 j1 = UINT64_C(776);
 j0 = j0 + j1;
-i0 = load16(p178 + 8);
+i0 = load16(p175 + 8);
 v56 = i0;
 j0 = v13;
 j1 = UINT64_C(778);
 j0 = j0 + j1;
-i0 = load8(p178 + 10);
+i0 = load8(p175 + 10);
 v57 = i0;
 j0 = v47;
 j1 = v4;
@@ -78822,14 +79341,14 @@ j2 = UINT64_C(512);
 copy(m, j0, j1, j2);
 j0 = v4;
 i1 = v24;
-p179 = write_at(j0 + UINT64_C(115112), m, 1056u);
-store8(p179 + 9, i1);
+p176 = write_at(j0 + UINT64_C(115112), m, 1056u);
+store8(p176 + 9, i1);
 j0 = v4;
 i1 = v3;
-store8(p179 + 8, i1);
+store8(p176 + 8, i1);
 j0 = v4;
 j1 = v8;
-store64(p179 + 0, j1);
+store64(p176 + 0, j1);
 j0 = v46;
 j1 = v4;
 j2 = UINT64_C(113946);
@@ -78844,43 +79363,43 @@ j2 = UINT64_C(104);
 copy(m, j0, j1, j2);
 j0 = v44;
 i1 = UINT32_C(0);
-store32(p179 + 267, i1);
+store32(p176 + 267, i1);
 j0 = v44;
 i1 = UINT32_C(0);
-store8(p179 + 271, i1);
+store8(p176 + 271, i1);
 j0 = v4;
 i1 = v29;
-store8(p179 + 266, i1);
+store8(p176 + 266, i1);
 j0 = v4;
 i1 = v22;
-store8(p179 + 265, i1);
+store8(p176 + 265, i1);
 j0 = v4;
 i1 = v27;
-store8(p179 + 264, i1);
+store8(p176 + 264, i1);
 j0 = v4;
 i1 = v25;
-store8(p179 + 263, i1);
+store8(p176 + 263, i1);
 j0 = v4;
 i1 = v31;
-store8(p179 + 262, i1);
+store8(p176 + 262, i1);
 j0 = v4;
 i1 = v39;
-store8(p179 + 261, i1);
+store8(p176 + 261, i1);
 j0 = v4;
 i1 = v51;
-store8(p179 + 260, i1);
+store8(p176 + 260, i1);
 j0 = v4;
 i1 = v52;
-store8(p179 + 259, i1);
+store8(p176 + 259, i1);
 j0 = v4;
 i1 = v53;
-store8(p179 + 258, i1);
+store8(p176 + 258, i1);
 j0 = v4;
 i1 = v54;
-store8(p179 + 257, i1);
+store8(p176 + 257, i1);
 j0 = v4;
 i1 = v55;
-store8(p179 + 256, i1);
+store8(p176 + 256, i1);
 j0 = v43;
 j1 = v4;
 j2 = UINT64_C(113328);
@@ -78889,13 +79408,13 @@ j2 = UINT64_C(512);
 copy(m, j0, j1, j2);
 j0 = v4;
 i1 = v26;
-store8(p179 + 793, i1);
+store8(p176 + 793, i1);
 j0 = v4;
 i1 = v3;
-store8(p179 + 792, i1);
+store8(p176 + 792, i1);
 j0 = v4;
 j1 = v11;
-store64(p179 + 784, j1);
+store64(p176 + 784, j1);
 j0 = v42;
 j1 = v4;
 j2 = UINT64_C(113186);
@@ -78910,19 +79429,19 @@ j2 = UINT64_C(104);
 copy(m, j0, j1, j2);
 j0 = v40;
 i1 = UINT32_C(0);
-store32(p179 + 1051, i1);
+store32(p176 + 1051, i1);
 j0 = v40;
 i1 = UINT32_C(0);
-store8(p179 + 1055, i1);
+store8(p176 + 1055, i1);
 j0 = v4;
 i1 = v57;
-store8(p179 + 1050, i1);
+store8(p176 + 1050, i1);
 j0 = v4;
 i1 = v56;
-store16(p179 + 1048, i1);
+store16(p176 + 1048, i1);
 j0 = v4;
 j1 = v7;
-store64(p179 + 1040, j1);
+store64(p176 + 1040, j1);
 j0 = v14;
 j1 = v4;
 j2 = UINT64_C(114600);
@@ -78935,7 +79454,7 @@ fio_sniff_streams_Streams_try_all(m, j0, j1, j2, j3, i4);
 }
 }
 }
-l138:;
+l135:;
 j0 = v12;
 j1 = UINT64_C(784);
 j0 = j0 + j1;
@@ -78946,7 +79465,7 @@ j0 = j0 + j1;
 v28 = j0;
 j1 = v10;
 i0 = (j0 != j1);
-if (i0) { goto l137; }
+if (i0) { goto l134; }
 }
 j0 = v20;
 j1 = UINT64_C(784);
@@ -78958,13 +79477,14 @@ j0 = j0 + j1;
 v23 = j0;
 j1 = v37;
 i0 = (j0 != j1);
-if (i0) { goto l135; }
+if (i0) { goto l132; }
 }
 }
 j0 = v1;
-j1 = UINT64_C(164160);
+j1 = UINT64_C(164168);
 j0 = j0 + j1;
-j0 = load32(p40 + 8);
+p177 = read_at(j0, m, 4u);
+j0 = load32(p177 + 0);
 v28 = j0;
 j0 = UINT64_C(1024);
 v5 = j0;
@@ -78975,22 +79495,22 @@ j0 = v32;
 v7 = j0;
 j0 = UINT64_C(0);
 v11 = j0;
-l195:;
+l192:;
 j0 = UINT64_C(0);
 j1 = v5;
 j0 = j0 - j1;
 v5 = j0;
-l197:;
+l194:;
 j0 = v5;
 j1 = UINT64_C(1);
 j0 = j0 + j1;
 v5 = j0;
 j1 = UINT64_C(1);
 i0 = (j0 == j1);
-if (i0) { goto l196; }
+if (i0) { goto l193; }
 j0 = v7;
-p180 = read_at(j0, m, 1u);
-i0 = load8(p180 + 0);
+p178 = read_at(j0, m, 1u);
+i0 = load8(p178 + 0);
 v3 = i0;
 j0 = v7;
 j1 = UINT64_C(12);
@@ -79000,7 +79520,7 @@ v7 = j0;
 i0 = v3;
 i1 = UINT32_C(1);
 i0 = (i0 != i1);
-if (i0) { goto l197; }
+if (i0) { goto l194; }
 j0 = UINT64_C(0);
 j1 = v5;
 j0 = j0 - j1;
@@ -79011,8 +79531,8 @@ j0 = j0 + j1;
 v11 = j0;
 j0 = v6;
 v7 = j0;
-goto l195;
-l196:;
+goto l192;
+l193:;
 j0 = v8;
 i0 = (j0 == 0);
 if (!i0) {
@@ -79020,23 +79540,23 @@ j0 = v4;
 j1 = UINT64_C(76189);
 j0 = j0 + j1;
 v7 = j0;
-l200:;
+l197:;
 j0 = v7;
 j1 = UINT64_C(18446744073709551615);
 j0 = j0 + j1;
-p181 = read_at(j0, m, 1u);
-i0 = load8(p181 + 0);
+p179 = read_at(j0, m, 1u);
+i0 = load8(p179 + 0);
 i1 = UINT32_C(2);
 i0 = (i0 != i1);
 if (!i0) {
 i0 = UINT32_C(1);
 v3 = i0;
 j0 = v7;
-p182 = read_at(j0, m, 1u);
-i0 = load8(p182 + 0);
+p180 = read_at(j0, m, 1u);
+i0 = load8(p180 + 0);
 i1 = UINT32_C(1);
 i0 = (i0 == i1);
-if (i0) { goto l198; }
+if (i0) { goto l195; }
 }
 j0 = v7;
 j1 = UINT64_C(784);
@@ -79048,11 +79568,11 @@ j0 = j0 + j1;
 v8 = j0;
 j1 = UINT64_C(0);
 i0 = (j0 != j1);
-if (i0) { goto l200; }
+if (i0) { goto l197; }
 }
 i0 = UINT32_C(0);
 v3 = i0;
-l198:;
+l195:;
 j0 = v11;
 j1 = UINT64_C(6148914691236517205);
 j2 = v11;
@@ -79116,14 +79636,14 @@ j0 = j0 + j1;
 v6 = j0;
 j0 = UINT64_C(0);
 v5 = j0;
-l203:;
+l200:;
 j0 = v4;
 i1 = UINT32_C(0);
-p183 = write_at(j0 + UINT64_C(249472), m, 6u);
-store16(p183 + 4, i1);
+p181 = write_at(j0 + UINT64_C(249472), m, 6u);
+store16(p181 + 4, i1);
 j0 = v4;
 i1 = UINT32_C(0);
-store32(p183 + 0, i1);
+store32(p181 + 0, i1);
 j0 = v4;
 j1 = UINT64_C(154600);
 j0 = j0 + j1;
@@ -79139,8 +79659,8 @@ j0 = j0 + j1;
 j1 = v7;
 j0 = j0 + j1;
 j1 = UINT64_C(281479271743489);
-p184 = write_at(j0, m, 8u);
-store64(p184 + 0, j1);
+p182 = write_at(j0, m, 8u);
+store64(p182 + 0, j1);
 j0 = v7;
 j1 = UINT64_C(8);
 j0 = j0 + j1;
@@ -79184,13 +79704,13 @@ j2 = UINT64_C(512);
 copy(m, j0, j1, j2);
 j0 = v7;
 i1 = UINT32_C(0);
-p185 = write_at(j0 + UINT64_C(512), m, 152u);
-store16(p185 + 8, i1);
+p183 = write_at(j0 + UINT64_C(512), m, 152u);
+store16(p183 + 8, i1);
 j0 = UINT64_C(0);
 v33 = j0;
 j0 = v7;
 j1 = UINT64_C(0);
-store64(p185 + 0, j1);
+store64(p183 + 0, j1);
 j0 = v7;
 j1 = UINT64_C(522);
 j0 = j0 + j1;
@@ -79201,7 +79721,7 @@ j2 = UINT64_C(134);
 copy(m, j0, j1, j2);
 j0 = v7;
 j1 = UINT64_C(1);
-store64(p185 + 144, j1);
+store64(p183 + 144, j1);
 j0 = v7;
 j1 = UINT64_C(664);
 j0 = j0 + j1;
@@ -79214,7 +79734,7 @@ j0 = j0 + j1;
 v5 = j0;
 j1 = UINT64_C(16);
 i0 = (j0 != j1);
-if (i0) { goto l203; }
+if (i0) { goto l200; }
 j0 = v4;
 j1 = UINT64_C(116168);
 j0 = j0 + j1;
@@ -79247,18 +79767,29 @@ j2 = UINT64_C(211056);
 j1 = j1 + j2;
 j2 = UINT64_C(12544);
 copy(m, j0, j1, j2);
+j0 = v34;
+p184 = read_at(j0, m, 1u);
+i0 = load8(p184 + 0);
+i1 = UINT32_C(1);
+i0 = (i0 != i1);
+if (!i0) {
 j0 = v1;
-j1 = UINT64_C(164152);
+j1 = UINT64_C(164160);
 j0 = j0 + j1;
-j0 = load64(p40 + 0);
+p185 = read_at(j0, m, 8u);
+j0 = load64(p185 + 0);
 v7 = j0;
 i0 = (j0 == 0);
 if (!i0) {
+j0 = v1;
+j1 = UINT64_C(162592);
+j0 = j0 + j1;
+v6 = j0;
 j0 = UINT64_C(0);
 v33 = j0;
 j0 = UINT64_C(0);
 v5 = j0;
-l206:;
+l203:;
 j0 = v7;
 j1 = UINT64_C(18446744073709551615);
 j0 = j0 + j1;
@@ -79266,10 +79797,10 @@ v7 = j0;
 j0 = v4;
 j1 = UINT64_C(192240);
 j0 = j0 + j1;
-j1 = v34;
+j1 = v6;
 fio_form_form_LineForm_copied(m, j0, j1);
 j0 = UINT64_C(16);
-v6 = j0;
+v8 = j0;
 j0 = v5;
 j1 = UINT64_C(16);
 i0 = (j0 == j1);
@@ -79290,18 +79821,19 @@ j0 = v5;
 j1 = UINT64_C(1);
 j0 = j0 + j1;
 v33 = j0;
-v6 = j0;
+v8 = j0;
 }
-j0 = v34;
+j0 = v6;
 j1 = UINT64_C(784);
 j0 = j0 + j1;
-v34 = j0;
-j0 = v6;
+v6 = j0;
+j0 = v8;
 v5 = j0;
 j0 = v7;
 j1 = UINT64_C(0);
 i0 = (j0 != j1);
-if (i0) { goto l206; }
+if (i0) { goto l203; }
+}
 }
 j0 = v4;
 j1 = UINT64_C(100536);
@@ -79323,7 +79855,7 @@ goto l60;
 }
 }
 l61:;
-l211:;
+l208:;
 j0 = v1;
 j1 = v33;
 j0 = j0 + j1;
@@ -79342,7 +79874,7 @@ p187 = read_at(j0, m, 1u);
 i0 = (uint32_t)extend(load8(p187 + 0), 7);
 i1 = UINT32_C(0);
 i0 = (SIGNED32(i0) < SIGNED32(i1));
-if (i0) { goto l210; }
+if (i0) { goto l207; }
 }
 j0 = v7;
 j1 = UINT64_C(112444);
@@ -79359,7 +79891,7 @@ p189 = read_at(j0, m, 1u);
 i0 = (uint32_t)extend(load8(p189 + 0), 7);
 i1 = UINT32_C(0);
 i0 = (SIGNED32(i0) < SIGNED32(i1));
-if (i0) { goto l210; }
+if (i0) { goto l207; }
 }
 j0 = v7;
 j1 = UINT64_C(112456);
@@ -79376,7 +79908,7 @@ p191 = read_at(j0, m, 1u);
 i0 = (uint32_t)extend(load8(p191 + 0), 7);
 i1 = UINT32_C(0);
 i0 = (SIGNED32(i0) < SIGNED32(i1));
-if (i0) { goto l210; }
+if (i0) { goto l207; }
 }
 j0 = v7;
 j1 = UINT64_C(112468);
@@ -79393,7 +79925,7 @@ p193 = read_at(j0, m, 1u);
 i0 = (uint32_t)extend(load8(p193 + 0), 7);
 i1 = UINT32_C(0);
 i0 = (SIGNED32(i0) < SIGNED32(i1));
-if (i0) { goto l210; }
+if (i0) { goto l207; }
 }
 j0 = v33;
 j1 = UINT64_C(48);
@@ -79401,13 +79933,13 @@ j0 = j0 + j1;
 v33 = j0;
 j1 = UINT64_C(12288);
 i0 = (j0 != j1);
-if (i0) { goto l211; }
+if (i0) { goto l208; }
 j0 = v4;
 p194 = read_at(j0 + UINT64_C(87969), m, 1u);
 i0 = load8(p194 + 0);
 i1 = UINT32_C(1);
 i0 = (i0 != i1);
-if (i0) { goto l209; }
+if (i0) { goto l206; }
 i0 = UINT32_C(0);
 v29 = i0;
 j0 = UINT64_C(0);
@@ -79422,7 +79954,7 @@ i0 = UINT32_C(0);
 v27 = i0;
 i0 = UINT32_C(0);
 v3 = i0;
-l216:;
+l213:;
 j0 = v1;
 j1 = v7;
 j0 = j0 + j1;
@@ -79514,7 +80046,7 @@ j0 = j0 + j1;
 v7 = j0;
 j1 = UINT64_C(12288);
 i0 = (j0 != j1);
-if (i0) { goto l216; }
+if (i0) { goto l213; }
 i0 = v3;
 i1 = UINT32_C(8);
 i0 = (i0 < i1);
@@ -79536,26 +80068,26 @@ j1 = UINT64_C(2);
 j0 = j0 << (j1 & 63);
 j1 = v7;
 i0 = (j0 >= j1);
-if (i0) { goto l210; }
+if (i0) { goto l207; }
 }
 }
 j0 = UINT64_C(1024);
 v7 = j0;
 j0 = UINT64_C(0);
 v6 = j0;
-l219:;
+l216:;
 j0 = UINT64_C(0);
 j1 = v7;
 j0 = j0 - j1;
 v7 = j0;
-l221:;
+l218:;
 j0 = v7;
 j1 = UINT64_C(1);
 j0 = j0 + j1;
 v7 = j0;
 j1 = UINT64_C(1);
 i0 = (j0 == j1);
-if (i0) { goto l220; }
+if (i0) { goto l217; }
 j0 = v32;
 p200 = read_at(j0, m, 1u);
 i0 = load8(p200 + 0);
@@ -79568,7 +80100,7 @@ v32 = j0;
 i0 = v3;
 i1 = UINT32_C(1);
 i0 = (i0 != i1);
-if (i0) { goto l221; }
+if (i0) { goto l218; }
 j0 = UINT64_C(0);
 j1 = v7;
 j0 = j0 - j1;
@@ -79579,12 +80111,12 @@ j0 = j0 + j1;
 v6 = j0;
 j0 = v5;
 v32 = j0;
-goto l219;
-l220:;
+goto l216;
+l217:;
 j0 = v6;
 j1 = v8;
 i0 = (j0 != j1);
-if (i0) { goto l209; }
+if (i0) { goto l206; }
 i0 = UINT32_C(0);
 v29 = i0;
 j0 = UINT64_C(0);
@@ -79595,7 +80127,7 @@ i0 = UINT32_C(0);
 v27 = i0;
 i0 = UINT32_C(0);
 v3 = i0;
-l222:;
+l219:;
 j0 = v1;
 j1 = v7;
 j0 = j0 + j1;
@@ -79687,11 +80219,11 @@ j0 = j0 + j1;
 v7 = j0;
 j1 = UINT64_C(12288);
 i0 = (j0 != j1);
-if (i0) { goto l222; }
+if (i0) { goto l219; }
 i0 = v27;
 i1 = v3;
 i0 = (i0 != i1);
-if (i0) { goto l209; }
+if (i0) { goto l206; }
 j0 = UINT64_C(8);
 j1 = UINT64_C(4);
 i2 = v3;
@@ -79705,8 +80237,8 @@ j0 = i2 ? j0 : j1;
 i1 = v3;
 j1 = (uint64_t)i1;
 i0 = (j0 > j1);
-if (i0) { goto l209; }
-l210:;
+if (i0) { goto l206; }
+l207:;
 j0 = v4;
 j1 = UINT64_C(37784);
 j0 = j0 + j1;
@@ -79718,8 +80250,8 @@ copy(m, j0, j1, j2);
 j0 = v4;
 j0 = load64(p37 + 0);
 v33 = j0;
-goto l208;
-l209:;
+goto l205;
+l206:;
 j0 = v4;
 j1 = UINT64_C(116168);
 j0 = j0 + j1;
@@ -79744,7 +80276,7 @@ j0 = j0 + j1;
 v6 = j0;
 j0 = UINT64_C(0);
 v5 = j0;
-l224:;
+l221:;
 j0 = v4;
 i1 = UINT32_C(0);
 store16(p31 + 44708, i1);
@@ -79841,7 +80373,7 @@ j0 = j0 + j1;
 v5 = j0;
 j1 = UINT64_C(16);
 i0 = (j0 != j1);
-if (i0) { goto l224; }
+if (i0) { goto l221; }
 j0 = v4;
 j1 = UINT64_C(134992);
 j0 = j0 + j1;
@@ -79866,7 +80398,7 @@ j2 = UINT64_C(116168);
 j1 = j1 + j2;
 j2 = UINT64_C(12544);
 copy(m, j0, j1, j2);
-l208:;
+l205:;
 j0 = v4;
 j1 = UINT64_C(136);
 j0 = j0 + j1;
@@ -79936,7 +80468,7 @@ j0 = j0 + j1;
 v6 = j0;
 j0 = UINT64_C(0);
 v5 = j0;
-l226:;
+l223:;
 j0 = v4;
 i1 = UINT32_C(0);
 store16(p207 + 75316, i1);
@@ -80031,7 +80563,7 @@ j0 = j0 + j1;
 v5 = j0;
 j1 = UINT64_C(16);
 i0 = (j0 != j1);
-if (i0) { goto l226; }
+if (i0) { goto l223; }
 j0 = v4;
 j1 = UINT64_C(116168);
 j0 = j0 + j1;
@@ -80071,13 +80603,13 @@ j0 = v33;
 i0 = (j0 == 0);
 if (!i0) {
 j0 = v1;
-j1 = UINT64_C(164168);
+j1 = UINT64_C(164176);
 j0 = j0 + j1;
 v18 = j0;
 j0 = v1;
-j1 = UINT64_C(166224);
+j1 = UINT64_C(166232);
 j0 = j0 + j1;
-v32 = j0;
+v35 = j0;
 j0 = v2;
 j1 = UINT64_C(65544);
 j0 = j0 + j1;
@@ -80086,7 +80618,7 @@ j0 = UINT64_C(0);
 v7 = j0;
 j0 = UINT64_C(0);
 v38 = j0;
-l229:;
+l226:;
 j0 = v7;
 v15 = j0;
 j0 = v4;
@@ -80119,7 +80651,7 @@ v21 = j0;
 j0 = UINT64_C(0);
 v37 = j0;
 j0 = UINT64_C(0);
-v34 = j0;
+v32 = j0;
 j0 = v2;
 j1 = UINT64_C(69640);
 j0 = j0 + j1;
@@ -80131,14 +80663,14 @@ j0 = v15;
 i0 = (j0 == 0);
 if (!i0) {
 j0 = UINT64_C(0);
-v34 = j0;
+v32 = j0;
 j0 = UINT64_C(0);
 v20 = j0;
 j0 = UINT64_C(0);
 v37 = j0;
 j0 = UINT64_C(0);
 v21 = j0;
-l233:;
+l230:;
 j0 = v14;
 j1 = v20;
 j2 = UINT64_C(2);
@@ -80154,7 +80686,7 @@ i0 = (i0 == 0);
 if (!i0) {
 j0 = v2;
 v13 = j0;
-goto l234;
+goto l231;
 }
 j0 = v11;
 j1 = v7;
@@ -80169,7 +80701,7 @@ j0 = v2;
 j1 = v7;
 j0 = j0 + j1;
 v13 = j0;
-l234:;
+l231:;
 j0 = UINT64_C(0);
 v17 = j0;
 j0 = v4;
@@ -80186,7 +80718,7 @@ j0 = v4;
 j1 = UINT64_C(173416);
 j0 = j0 + j1;
 v19 = j0;
-l237:;
+l234:;
 j0 = v4;
 j1 = UINT64_C(173416);
 j0 = j0 + j1;
@@ -80204,7 +80736,7 @@ i0 = (i0 != i1);
 if (!i0) {
 j0 = v11;
 i0 = (j0 == 0);
-if (i0) { goto l239; }
+if (i0) { goto l236; }
 j0 = v30;
 j1 = UINT64_C(528);
 j0 = j0 + j1;
@@ -80226,7 +80758,7 @@ j0 = load64(p215 + 248);
 v23 = j0;
 j0 = UINT64_C(0);
 v8 = j0;
-goto l240;
+goto l237;
 }
 j0 = v30;
 j1 = UINT64_C(512);
@@ -80239,7 +80771,7 @@ i0 = (i0 == 0);
 if (!i0) {
 j0 = UINT64_C(0);
 v7 = j0;
-goto l243;
+goto l240;
 }
 j0 = v30;
 j1 = UINT64_C(664);
@@ -80255,7 +80787,7 @@ j0 = UINT64_C(0);
 v7 = j0;
 j0 = v19;
 v5 = j0;
-l245:;
+l242:;
 j0 = v4;
 j1 = UINT64_C(56);
 j0 = j0 + j1;
@@ -80280,7 +80812,7 @@ p219 = read_at(j0 + UINT64_C(56), m, 1u);
 i0 = load8(p219 + 0);
 i1 = UINT32_C(1);
 i0 = (i0 != i1);
-if (i0) { goto l242; }
+if (i0) { goto l239; }
 j0 = v5;
 j1 = UINT64_C(2);
 j0 = j0 + j1;
@@ -80297,8 +80829,8 @@ j0 = j0 + j1;
 v6 = j0;
 j1 = UINT64_C(0);
 i0 = (j0 != j1);
-if (i0) { goto l245; }
-l243:;
+if (i0) { goto l242; }
+l240:;
 j0 = v30;
 j1 = UINT64_C(521);
 j0 = j0 + j1;
@@ -80353,13 +80885,13 @@ j6 = j6 - j7;
 j7 = v18;
 fio_form_octets_run_in(m, j0, i1, i2, j3, j4, j5, j6, j7);
 j0 = v1;
-j1 = UINT64_C(166216);
+j1 = UINT64_C(166224);
 j0 = j0 + j1;
 p224 = read_at(j0, m, 8u);
 j0 = load64(p224 + 0);
 v7 = j0;
 i0 = (j0 == 0);
-if (i0) { goto l238; }
+if (i0) { goto l235; }
 j0 = v30;
 j1 = UINT64_C(777);
 j0 = j0 + j1;
@@ -80367,7 +80899,7 @@ p225 = read_at(j0, m, 1u);
 i0 = load8(p225 + 0);
 i1 = UINT32_C(1);
 i0 = (i0 != i1);
-if (i0) { goto l236; }
+if (i0) { goto l233; }
 j0 = v4;
 j1 = UINT64_C(134992);
 j0 = j0 + j1;
@@ -80394,7 +80926,7 @@ j1 = v1;
 j2 = v5;
 j1 = j1 + j2;
 v8 = j1;
-j2 = UINT64_C(164169);
+j2 = UINT64_C(164177);
 j1 = j1 + j2;
 p226 = read_at(j1 + UINT64_C(18446744073709551615), m, 2u);
 i1 = load8(p226 + 1);
@@ -80404,7 +80936,7 @@ j0 = v6;
 j1 = UINT64_C(1);
 j0 = j0 + j1;
 j1 = v8;
-j2 = UINT64_C(164168);
+j2 = UINT64_C(164176);
 j1 = j1 + j2;
 i1 = load8(p226 + 0);
 store8(p227 + 1, i1);
@@ -80452,17 +80984,17 @@ j2 = UINT64_C(134992);
 j1 = j1 + j2;
 j2 = UINT64_C(2056);
 copy(m, j0, j1, j2);
-goto l236;
-l242:;
+goto l233;
+l239:;
 j0 = v1;
-j1 = UINT64_C(166216);
+j1 = UINT64_C(166224);
 j0 = j0 + j1;
 p232 = read_at(j0, m, 8u);
 j0 = load64(p232 + 0);
 v7 = j0;
 i0 = (j0 == 0);
 v3 = i0;
-if (i0) { goto l238; }
+if (i0) { goto l235; }
 i0 = v3;
 if (!i0) {
 j0 = v18;
@@ -80471,14 +81003,14 @@ j2 = v7;
 fill(m, j0, i1, j2);
 }
 j0 = v1;
-j1 = UINT64_C(166216);
+j1 = UINT64_C(166224);
 j0 = j0 + j1;
 j1 = UINT64_C(0);
 p233 = write_at(j0, m, 8u);
 store64(p233 + 0, j1);
-goto l238;
-l240:;
-l252:;
+goto l235;
+l237:;
+l249:;
 j0 = UINT64_C(0);
 v7 = j0;
 j0 = v10;
@@ -80494,7 +81026,7 @@ j0 = v19;
 v5 = j0;
 j0 = v10;
 v6 = j0;
-l255:;
+l252:;
 j0 = v4;
 j1 = UINT64_C(24);
 j0 = j0 + j1;
@@ -80521,7 +81053,7 @@ p235 = read_at(j0 + UINT64_C(24), m, 1u);
 i0 = load8(p235 + 0);
 i1 = UINT32_C(1);
 i0 = (i0 != i1);
-if (i0) { goto l253; }
+if (i0) { goto l250; }
 j0 = v5;
 j1 = UINT64_C(2);
 j0 = j0 + j1;
@@ -80538,7 +81070,7 @@ j0 = j0 + j1;
 v6 = j0;
 j1 = UINT64_C(0);
 i0 = (j0 != j1);
-if (i0) { goto l255; }
+if (i0) { goto l252; }
 }
 j0 = v7;
 j1 = v8;
@@ -80596,24 +81128,24 @@ j6 = j6 - j7;
 j7 = v18;
 fio_form_octets_run_in(m, j0, i1, i2, j3, j4, j5, j6, j7);
 j0 = v1;
-j1 = UINT64_C(166216);
+j1 = UINT64_C(166224);
 j0 = j0 + j1;
 p240 = read_at(j0, m, 8u);
 j0 = load64(p240 + 0);
 v7 = j0;
 i0 = (j0 == 0);
 i0 = (i0 == 0);
-if (i0) { goto l251; }
-l253:;
+if (i0) { goto l248; }
+l250:;
 j0 = v8;
 j1 = UINT64_C(1);
 j0 = j0 + j1;
 v8 = j0;
 j1 = v11;
 i0 = (j0 == j1);
-if (i0) { goto l239; }
-goto l252;
-l251:;
+if (i0) { goto l236; }
+goto l249;
+l248:;
 j0 = v30;
 j1 = UINT64_C(777);
 j0 = j0 + j1;
@@ -80621,7 +81153,7 @@ p241 = read_at(j0, m, 1u);
 i0 = load8(p241 + 0);
 i1 = UINT32_C(1);
 i0 = (i0 != i1);
-if (i0) { goto l236; }
+if (i0) { goto l233; }
 j0 = v4;
 j1 = UINT64_C(134992);
 j0 = j0 + j1;
@@ -80648,7 +81180,7 @@ j1 = v1;
 j2 = v5;
 j1 = j1 + j2;
 v8 = j1;
-j2 = UINT64_C(164169);
+j2 = UINT64_C(164177);
 j1 = j1 + j2;
 p242 = read_at(j1 + UINT64_C(18446744073709551615), m, 2u);
 i1 = load8(p242 + 1);
@@ -80658,7 +81190,7 @@ j0 = v6;
 j1 = UINT64_C(1);
 j0 = j0 + j1;
 j1 = v8;
-j2 = UINT64_C(164168);
+j2 = UINT64_C(164176);
 j1 = j1 + j2;
 i1 = load8(p242 + 0);
 store8(p243 + 1, i1);
@@ -80706,10 +81238,10 @@ j2 = UINT64_C(134992);
 j1 = j1 + j2;
 j2 = UINT64_C(2056);
 copy(m, j0, j1, j2);
-goto l236;
-l239:;
+goto l233;
+l236:;
 j0 = v1;
-j1 = UINT64_C(166216);
+j1 = UINT64_C(166224);
 j0 = j0 + j1;
 p248 = read_at(j0, m, 8u);
 j0 = load64(p248 + 0);
@@ -80725,13 +81257,13 @@ j2 = v7;
 fill(m, j0, i1, j2);
 }
 j0 = v1;
-j1 = UINT64_C(166216);
+j1 = UINT64_C(166224);
 j0 = j0 + j1;
 j1 = UINT64_C(0);
 p249 = write_at(j0, m, 8u);
 store64(p249 + 0, j1);
 }
-l238:;
+l235:;
 j0 = v19;
 j1 = UINT64_C(784);
 j0 = j0 + j1;
@@ -80742,7 +81274,7 @@ j0 = j0 + j1;
 v17 = j0;
 j1 = v15;
 i0 = (j0 != j1);
-if (i0) { goto l237; }
+if (i0) { goto l234; }
 j0 = v4;
 j1 = UINT64_C(0);
 p250 = write_at(j0 + UINT64_C(134992), m, 32u);
@@ -80779,11 +81311,11 @@ j2 = UINT64_C(192240);
 j1 = j1 + j2;
 j2 = v18;
 j3 = v1;
-j4 = UINT64_C(166216);
+j4 = UINT64_C(166224);
 j3 = j3 + j4;
 p251 = read_at(j3, m, 8u);
 j3 = load64(p251 + 0);
-j4 = v32;
+j4 = v35;
 fio_form_wholes_whole_of(m, j0, j1, j2, j3, j4);
 j0 = v21;
 j1 = UINT64_C(1);
@@ -80794,31 +81326,31 @@ j0 = load8(p213 + 0);
 i0 = (uint32_t)j0;
 switch (i0) {
 case 0:
-goto l262;
+goto l259;
 case 1:
-goto l262;
+goto l259;
 case 2:
-goto l236;
+goto l233;
 case 3:
-goto l236;
+goto l233;
 case 4:
-goto l261;
+goto l258;
 default:
-goto l262;
+goto l259;
 }
-l262:;
+l259:;
 j0 = v37;
 j1 = UINT64_C(1);
 j0 = j0 + j1;
 v37 = j0;
-goto l236;
-l261:;
-j0 = v34;
+goto l233;
+l258:;
+j0 = v32;
 j1 = UINT64_C(1);
 j0 = j0 + j1;
-v34 = j0;
+v32 = j0;
 }
-l236:;
+l233:;
 j0 = v20;
 j1 = UINT64_C(1);
 j0 = j0 + j1;
@@ -80828,8 +81360,8 @@ j2 = UINT64_C(69640);
 j1 = j1 + j2;
 j1 = load64(p210 + 0);
 i0 = (j0 < j1);
-if (i0) { goto l233; }
-goto l231;
+if (i0) { goto l230; }
+goto l228;
 }
 j0 = v2;
 j1 = UINT64_C(65544);
@@ -80879,8 +81411,8 @@ if (!i0) {
 j0 = UINT64_C(0);
 v37 = j0;
 j0 = UINT64_C(0);
-v34 = j0;
-goto l263;
+v32 = j0;
+goto l260;
 }
 j0 = v4;
 j1 = UINT64_C(116168);
@@ -80890,26 +81422,26 @@ j2 = UINT64_C(192240);
 j1 = j1 + j2;
 j2 = v18;
 j3 = v1;
-j4 = UINT64_C(166216);
+j4 = UINT64_C(166224);
 j3 = j3 + j4;
 p254 = read_at(j3, m, 8u);
 j3 = load64(p254 + 0);
-j4 = v32;
+j4 = v35;
 fio_form_wholes_whole_of(m, j0, j1, j2, j3, j4);
 j0 = v4;
 j0 = load8(p253 + 0);
 j1 = UINT64_C(3);
 j0 = j0 << (j1 & 63);
 v7 = j0;
-p255 = read_at(j0 + UINT64_C(68184), m, 48u);
+p255 = read_at(j0 + UINT64_C(1051224), m, 48u);
 j0 = load64(p255 + 40);
-v34 = j0;
+v32 = j0;
 j0 = v7;
 j0 = load64(p255 + 0);
 v37 = j0;
 j0 = UINT64_C(1);
 v21 = j0;
-l263:;
+l260:;
 j0 = v2;
 j1 = UINT64_C(69640);
 j0 = j0 + j1;
@@ -80921,7 +81453,7 @@ j0 = UINT64_C(1);
 v6 = j0;
 j0 = v14;
 v7 = j0;
-l265:;
+l262:;
 j0 = v7;
 j1 = UINT64_C(4);
 j0 = j0 + j1;
@@ -80979,11 +81511,11 @@ j2 = UINT64_C(192240);
 j1 = j1 + j2;
 j2 = v18;
 j3 = v1;
-j4 = UINT64_C(166216);
+j4 = UINT64_C(166224);
 j3 = j3 + j4;
 p257 = read_at(j3, m, 8u);
 j3 = load64(p257 + 0);
-j4 = v32;
+j4 = v35;
 fio_form_wholes_whole_of(m, j0, j1, j2, j3, j4);
 j0 = v21;
 j1 = UINT64_C(1);
@@ -80994,31 +81526,31 @@ j0 = load8(p253 + 0);
 i0 = (uint32_t)j0;
 switch (i0) {
 case 0:
-goto l267;
+goto l264;
 case 1:
-goto l267;
+goto l264;
 case 2:
-goto l266;
+goto l263;
 case 3:
-goto l266;
+goto l263;
 case 4:
-goto l268;
+goto l265;
 default:
-goto l267;
+goto l264;
 }
-l268:;
-j0 = v34;
+l265:;
+j0 = v32;
 j1 = UINT64_C(1);
 j0 = j0 + j1;
-v34 = j0;
-goto l266;
-l267:;
+v32 = j0;
+goto l263;
+l264:;
 j0 = v37;
 j1 = UINT64_C(1);
 j0 = j0 + j1;
 v37 = j0;
 }
-l266:;
+l263:;
 j0 = v7;
 j1 = UINT64_C(4);
 j0 = j0 + j1;
@@ -81032,17 +81564,17 @@ j2 = UINT64_C(69640);
 j1 = j1 + j2;
 j1 = load64(p210 + 0);
 i0 = (j0 < j1);
-if (i0) { goto l265; }
+if (i0) { goto l262; }
 }
 }
-l231:;
+l228:;
 j0 = v21;
 j1 = UINT64_C(0);
 i0 = (j0 != j1);
 j1 = v37;
 j2 = UINT64_C(0);
 i1 = (j1 != j2);
-j2 = v34;
+j2 = v32;
 j3 = v37;
 i2 = (j2 <= j3);
 i1 = i1 & i2;
@@ -81054,7 +81586,7 @@ i0 = (i0 == i1);
 if (!i0) {
 j0 = v15;
 v7 = j0;
-goto l230;
+goto l227;
 }
 j0 = v4;
 j1 = UINT64_C(173416);
@@ -81075,14 +81607,14 @@ j1 = j1 + j2;
 v7 = j1;
 store64(p31 + 38424, j1);
 }
-l230:;
+l227:;
 j0 = v38;
 j1 = UINT64_C(1);
 j0 = j0 + j1;
 v38 = j0;
 j1 = v33;
 i0 = (j0 != j1);
-if (i0) { goto l229; }
+if (i0) { goto l226; }
 }
 j0 = v4;
 j1 = UINT64_C(25232);
@@ -82306,7 +82838,7 @@ j1 = j1 & j2;
 v4 = j1;
 i0 = (j0 > j1);
 if (!i0) {
-j0 = UINT64_C(65536);
+j0 = UINT64_C(1048576);
 v33 = j0;
 j0 = UINT64_C(0);
 v4 = j0;
@@ -82581,11 +83113,11 @@ j6 = v14;
 p24 = read_at(j6, m, 1u);
 i6 = load8(p24 + 0);
 fio_sniff_weighing_Weighing_hear(m, j0, j1, j2, j3, j4, j5, i6);
-j0 = UINT64_C(65536);
+j0 = UINT64_C(1048576);
 v33 = j0;
 j0 = UINT64_C(0);
 v5 = j0;
-j0 = UINT64_C(65536);
+j0 = UINT64_C(1048576);
 v32 = j0;
 j0 = v38;
 j0 = load64(p22 + 0);
@@ -82702,7 +83234,7 @@ j0 = v73;
 j1 = v74;
 i0 = (j0 > j1);
 if (!i0) {
-j0 = UINT64_C(65536);
+j0 = UINT64_C(1048576);
 v4 = j0;
 j0 = UINT64_C(0);
 v5 = j0;
@@ -82765,7 +83297,7 @@ j1 = load64(p1 + 5608);
 v4 = j1;
 i0 = (j0 > j1);
 if (!i0) {
-j0 = UINT64_C(65536);
+j0 = UINT64_C(1048576);
 v75 = j0;
 j0 = UINT64_C(0);
 v40 = j0;
@@ -83117,7 +83649,7 @@ j1 = load64(p1 + 5624);
 v4 = j1;
 i0 = (j0 > j1);
 if (!i0) {
-j0 = UINT64_C(65536);
+j0 = UINT64_C(1048576);
 v75 = j0;
 j0 = UINT64_C(0);
 v40 = j0;
@@ -83863,7 +84395,7 @@ v5 = j0;
 j0 = v21;
 j1 = v6;
 j1 = load64(p1 + 5472);
-j2 = UINT64_C(65752);
+j2 = UINT64_C(1048792);
 i0 = core_slice_reads_slice_T_contains(m, j0, j1, j2);
 v64 = i0;
 j0 = v6;
@@ -83925,7 +84457,7 @@ l99:;
 j0 = v20;
 j1 = v6;
 j1 = load64(p1 + 8784);
-j2 = UINT64_C(65752);
+j2 = UINT64_C(1048792);
 i0 = core_slice_reads_slice_T_contains(m, j0, j1, j2);
 v61 = i0;
 j0 = v6;
@@ -84462,7 +84994,7 @@ j0 = v18;
 j1 = v6;
 j1 = load64(p1 + 1472);
 v40 = j1;
-j2 = UINT64_C(65752);
+j2 = UINT64_C(1048792);
 i0 = core_slice_reads_slice_T_contains(m, j0, j1, j2);
 v58 = i0;
 i0 = v36;
@@ -87086,7 +87618,7 @@ j1 = j1 & j2;
 v12 = j1;
 i0 = (j0 > j1);
 if (!i0) {
-j0 = UINT64_C(65536);
+j0 = UINT64_C(1048576);
 v13 = j0;
 j0 = UINT64_C(0);
 v12 = j0;
@@ -87299,7 +87831,7 @@ l10:;
 j0 = v7;
 j1 = v4;
 j1 = load64(p1 + 1528);
-j2 = UINT64_C(65752);
+j2 = UINT64_C(1048792);
 i0 = core_slice_reads_slice_T_contains(m, j0, j1, j2);
 v17 = i0;
 j0 = v4;
@@ -89844,7 +90376,7 @@ j0 = load64(p3 + 0);
 j1 = v5;
 i0 = (j0 > j1);
 if (!i0) {
-j0 = UINT64_C(65536);
+j0 = UINT64_C(1048576);
 v11 = j0;
 j0 = UINT64_C(0);
 v12 = j0;
@@ -90350,7 +90882,7 @@ j0 = load64(p3 + 0);
 j1 = v5;
 i0 = (j0 > j1);
 if (!i0) {
-j0 = UINT64_C(65536);
+j0 = UINT64_C(1048576);
 v22 = j0;
 j0 = UINT64_C(0);
 v15 = j0;
@@ -91246,7 +91778,7 @@ j0 = load64(p3 + 0);
 j1 = v7;
 i0 = (j0 > j1);
 if (!i0) {
-j0 = UINT64_C(65536);
+j0 = UINT64_C(1048576);
 v15 = j0;
 j0 = UINT64_C(0);
 v5 = j0;
@@ -91639,7 +92171,7 @@ i2 = v29;
 i3 = v16;
 i1 = i3 ? i1 : i2;
 store32(p8 + 20, i1);
-j0 = UINT64_C(65536);
+j0 = UINT64_C(1048576);
 v30 = j0;
 j0 = UINT64_C(0);
 v31 = j0;
@@ -99432,7 +99964,7 @@ i0 = i0 & i1;
 r = i0;
 return r;
 }
-static uint32_t core_cmp_slices_groups_equal_52(struct machine *m, uint64_t v0, uint64_t v1, uint64_t v2)
+static uint32_t core_cmp_slices_groups_equal_53(struct machine *m, uint64_t v0, uint64_t v1, uint64_t v2)
 {
 uint32_t v3 = 0;
 uint32_t v4 = 0;
@@ -105525,7 +106057,7 @@ if (!i0) {
 j0 = v0;
 j1 = v8;
 j2 = v2;
-i0 = core_cmp_slices_groups_equal_52(m, j0, j1, j2);
+i0 = core_cmp_slices_groups_equal_53(m, j0, j1, j2);
 if (i0) { goto l14; }
 }
 }
@@ -106655,7 +107187,7 @@ j0 = load64(p1 + 0);
 j1 = v11;
 i0 = (j0 > j1);
 if (!i0) {
-j0 = UINT64_C(65536);
+j0 = UINT64_C(1048576);
 v20 = j0;
 j0 = UINT64_C(0);
 v19 = j0;
@@ -106985,7 +107517,7 @@ store64(p1 + 32, j1);
 j0 = v7;
 i1 = UINT32_C(0);
 store16(p1 + 40, i1);
-j0 = UINT64_C(65536);
+j0 = UINT64_C(1048576);
 v20 = j0;
 j0 = UINT64_C(0);
 v4 = j0;
@@ -107125,7 +107657,7 @@ j0 = v7;
 j1 = UINT64_C(208);
 j0 = j0 + j1;
 j1 = v22;
-j2 = UINT64_C(67475);
+j2 = UINT64_C(1050515);
 i0 = core_slice_reads_slice_T_contains(m, j0, j1, j2);
 if (i0) { goto l7; }
 }
@@ -107663,7 +108195,7 @@ j1 = UINT64_C(48);
 j0 = j0 + j1;
 i1 = v4;
 i2 = v5;
-j3 = UINT64_C(67470);
+j3 = UINT64_C(1050510);
 j4 = UINT64_C(2);
 j5 = v1;
 j6 = v3;
@@ -108015,7 +108547,7 @@ j1 = UINT64_C(16);
 j0 = j0 + j1;
 i1 = v4;
 i2 = v5;
-j3 = UINT64_C(67470);
+j3 = UINT64_C(1050510);
 j4 = UINT64_C(2);
 j5 = v1;
 j6 = v8;
@@ -108736,7 +109268,7 @@ j0 = v14;
 j1 = v12;
 i0 = (j0 > j1);
 if (!i0) {
-j0 = UINT64_C(65536);
+j0 = UINT64_C(1048576);
 v18 = j0;
 j0 = UINT64_C(0);
 v2 = j0;
@@ -109192,7 +109724,7 @@ i0 = load8(p1 + 1800);
 if (i0) { goto l25; }
 j0 = UINT64_C(0);
 v18 = j0;
-j0 = UINT64_C(65536);
+j0 = UINT64_C(1048576);
 v41 = j0;
 l27:;
 j0 = v3;
@@ -109946,7 +110478,7 @@ i0 = v48;
 if (i0) { goto l65; }
 j0 = UINT64_C(0);
 v17 = j0;
-j0 = UINT64_C(65536);
+j0 = UINT64_C(1048576);
 v53 = j0;
 l67:;
 j0 = UINT64_C(0);
@@ -110867,7 +111399,7 @@ store8(p1 + 1808, i1);
 j0 = v3;
 i1 = UINT32_C(0);
 store32(p1 + 1804, i1);
-j0 = UINT64_C(65536);
+j0 = UINT64_C(1048576);
 v18 = j0;
 j0 = UINT64_C(0);
 v49 = j0;
@@ -111535,7 +112067,7 @@ j0 = v17;
 i1 = UINT32_C(0);
 p80 = write_at(j0, m, 1u);
 store8(p80 + 0, i1);
-j0 = UINT64_C(65536);
+j0 = UINT64_C(1048576);
 v15 = j0;
 j0 = UINT64_C(0);
 v2 = j0;
@@ -111613,7 +112145,7 @@ j2 = UINT64_C(18446744073709551615);
 j1 = j1 + j2;
 i0 = (j0 > j1);
 if (!i0) {
-j0 = UINT64_C(65536);
+j0 = UINT64_C(1048576);
 v14 = j0;
 j0 = UINT64_C(0);
 v18 = j0;
@@ -111822,7 +112354,7 @@ j1 = UINT64_C(8);
 j0 = j0 + j1;
 i1 = UINT32_C(4);
 i2 = v5;
-j3 = UINT64_C(67470);
+j3 = UINT64_C(1050510);
 j4 = UINT64_C(2);
 j5 = v1;
 j6 = v3;
@@ -112089,7 +112621,7 @@ j1 = UINT64_C(24);
 j0 = j0 + j1;
 i1 = v4;
 i2 = v5;
-j3 = UINT64_C(67470);
+j3 = UINT64_C(1050510);
 j4 = UINT64_C(2);
 j5 = v8;
 j6 = v2;
@@ -120570,11 +121102,10 @@ uint8_t *p105;
 uint8_t *p106;
 uint8_t *p107;
 uint8_t *p108;
-uint8_t *p109;
 j0 = m->g0;
-j1 = UINT64_C(3744);
+j1 = UINT64_C(6864);
 j0 = j0 - j1;
-p1 = write_at(j0, m, 3744u);
+p1 = write_at(j0, m, 6864u);
 v5 = j0;
 m->g0 = j0;
 j0 = v5;
@@ -120583,22 +121114,34 @@ j1 = UINT64_C(16);
 i0 = (SIGNED64(j0) < SIGNED64(j1));
 if (!i0) {
 j0 = v6;
-j1 = UINT64_C(384);
+j1 = UINT64_C(2472);
+j0 = j0 + j1;
+i1 = UINT32_C(0);
+j2 = UINT64_C(1576);
+fill(m, j0, i1, j2);
+j0 = v6;
+j1 = UINT64_C(1960);
 j0 = j0 + j1;
 i1 = UINT32_C(0);
 j2 = UINT64_C(512);
 fill(m, j0, i1, j2);
 j0 = v6;
-j1 = UINT64_C(242);
+j1 = UINT64_C(1818);
 j0 = j0 + j1;
 i1 = UINT32_C(0);
 j2 = UINT64_C(142);
 fill(m, j0, i1, j2);
 j0 = v6;
-j1 = UINT64_C(136);
+j1 = UINT64_C(1712);
 j0 = j0 + j1;
 i1 = UINT32_C(0);
 j2 = UINT64_C(104);
+fill(m, j0, i1, j2);
+j0 = v6;
+j1 = UINT64_C(136);
+j0 = j0 + j1;
+i1 = UINT32_C(0);
+j2 = UINT64_C(1576);
 fill(m, j0, i1, j2);
 i0 = UINT32_C(1);
 v7 = i0;
@@ -120644,7 +121187,7 @@ j1 = UINT64_C(22576);
 j0 = j0 + j1;
 v10 = j0;
 j0 = v0;
-j1 = UINT64_C(28736);
+j1 = UINT64_C(28744);
 j0 = j0 + j1;
 v11 = j0;
 j0 = v0;
@@ -120672,25 +121215,25 @@ j1 = UINT64_C(20504);
 j0 = j0 + j1;
 v9 = j0;
 j0 = v6;
-j1 = UINT64_C(3094);
+j1 = UINT64_C(6216);
 j0 = j0 + j1;
 v17 = j0;
 l6:;
 j0 = v6;
 j1 = UINT64_C(0);
-store64(p1 + 3264, j1);
+store64(p1 + 6384, j1);
 j0 = v6;
 j1 = UINT64_C(0);
-store64(p1 + 3256, j1);
+store64(p1 + 6376, j1);
 j0 = v6;
 j1 = UINT64_C(0);
-store64(p1 + 3248, j1);
+store64(p1 + 6368, j1);
 j0 = v6;
 j1 = UINT64_C(0);
-store64(p1 + 3240, j1);
+store64(p1 + 6360, j1);
 j0 = v6;
 j1 = UINT64_C(0);
-store64(p1 + 3232, j1);
+store64(p1 + 6352, j1);
 j0 = v0;
 j1 = UINT64_C(22552);
 j0 = j0 + j1;
@@ -120789,7 +121332,7 @@ v20 = j0;
 i0 = UINT32_C(0);
 v21 = i0;
 j0 = v6;
-i0 = load16(p1 + 3264);
+i0 = load16(p1 + 6384);
 v22 = i0;
 i0 = UINT32_C(0);
 v23 = i0;
@@ -120852,7 +121395,7 @@ i0 = load8(p11 + 0);
 if (i0) { goto l20; }
 j0 = UINT64_C(0);
 v38 = j0;
-j0 = UINT64_C(65536);
+j0 = UINT64_C(1048576);
 v39 = j0;
 goto l22;
 }
@@ -121026,7 +121569,7 @@ i1 = UINT32_C(1);
 i0 = (i0 != i1);
 if (i0) { goto l17; }
 j0 = v6;
-j1 = UINT64_C(896);
+j1 = UINT64_C(4048);
 j0 = j0 + j1;
 i1 = UINT32_C(0);
 j2 = UINT64_C(2056);
@@ -121041,7 +121584,7 @@ j0 = UINT64_C(0);
 v40 = j0;
 for (;;) {
 j0 = v6;
-j1 = UINT64_C(896);
+j1 = UINT64_C(4048);
 j0 = j0 + j1;
 j1 = v40;
 v43 = j1;
@@ -121070,7 +121613,7 @@ j1 = v43;
 j2 = UINT64_C(2);
 j1 = j1 + j2;
 v40 = j1;
-store64(p1 + 2944, j1);
+store64(p1 + 6096, j1);
 j0 = v43;
 j1 = UINT64_C(3);
 j0 = j0 + j1;
@@ -121084,7 +121627,7 @@ j1 = v5;
 i0 = (j0 >= j1);
 if (!i0) {
 j0 = v6;
-j1 = UINT64_C(896);
+j1 = UINT64_C(4048);
 j0 = j0 + j1;
 j1 = v40;
 j0 = j0 + j1;
@@ -121099,11 +121642,11 @@ j0 = v6;
 j1 = v40;
 j2 = UINT64_C(1);
 j1 = j1 + j2;
-store64(p1 + 2944, j1);
+store64(p1 + 6096, j1);
 }
 j0 = v14;
 j1 = v6;
-j2 = UINT64_C(896);
+j2 = UINT64_C(4048);
 j1 = j1 + j2;
 j2 = UINT64_C(2056);
 copy(m, j0, j1, j2);
@@ -121287,7 +121830,7 @@ i1 = UINT32_C(1);
 i0 = (i0 != i1);
 if (i0) { goto l17; }
 j0 = v6;
-j1 = UINT64_C(896);
+j1 = UINT64_C(4048);
 j0 = j0 + j1;
 i1 = UINT32_C(0);
 j2 = UINT64_C(2056);
@@ -121302,7 +121845,7 @@ j0 = UINT64_C(0);
 v40 = j0;
 for (;;) {
 j0 = v6;
-j1 = UINT64_C(896);
+j1 = UINT64_C(4048);
 j0 = j0 + j1;
 j1 = v40;
 v43 = j1;
@@ -121331,7 +121874,7 @@ j1 = v43;
 j2 = UINT64_C(2);
 j1 = j1 + j2;
 v40 = j1;
-store64(p1 + 2944, j1);
+store64(p1 + 6096, j1);
 j0 = v43;
 j1 = UINT64_C(3);
 j0 = j0 + j1;
@@ -121345,7 +121888,7 @@ j1 = v5;
 i0 = (j0 >= j1);
 if (!i0) {
 j0 = v6;
-j1 = UINT64_C(896);
+j1 = UINT64_C(4048);
 j0 = j0 + j1;
 j1 = v40;
 j0 = j0 + j1;
@@ -121360,11 +121903,11 @@ j0 = v6;
 j1 = v40;
 j2 = UINT64_C(1);
 j1 = j1 + j2;
-store64(p1 + 2944, j1);
+store64(p1 + 6096, j1);
 }
 j0 = v14;
 j1 = v6;
-j2 = UINT64_C(896);
+j2 = UINT64_C(4048);
 j1 = j1 + j2;
 j2 = UINT64_C(2056);
 copy(m, j0, j1, j2);
@@ -121433,7 +121976,7 @@ j4 = v47;
 i3 = (j3 < j4);
 j1 = i3 ? j1 : j2;
 v31 = j1;
-store64(p1 + 3248, j1);
+store64(p1 + 6368, j1);
 j0 = v47;
 i0 = (j0 == 0);
 if (!i0) {
@@ -121956,25 +122499,25 @@ i0 = (j0 != j1);
 if (i0) { goto l45; }
 j0 = v6;
 i1 = v30;
-store8(p1 + 3266, i1);
+store8(p1 + 6386, i1);
 j0 = v6;
 i1 = v22;
-store16(p1 + 3264, i1);
+store16(p1 + 6384, i1);
 j0 = v6;
 i1 = v29;
-store32(p1 + 3260, i1);
+store32(p1 + 6380, i1);
 j0 = v6;
 j1 = v20;
-store64(p1 + 3240, j1);
+store64(p1 + 6360, j1);
 j0 = v6;
 i1 = v18;
-store32(p1 + 3236, i1);
+store32(p1 + 6356, i1);
 j0 = v6;
 i1 = v28;
-store32(p1 + 3256, i1);
+store32(p1 + 6376, i1);
 j0 = v6;
 i1 = v4;
-store32(p1 + 3232, i1);
+store32(p1 + 6352, i1);
 goto l16;
 }
 j0 = UINT64_C(0);
@@ -122081,7 +122624,7 @@ j0 = v5;
 i0 = (j0 == 0);
 if (!i0) {
 j0 = v6;
-j1 = UINT64_C(896);
+j1 = UINT64_C(4048);
 j0 = j0 + j1;
 i1 = UINT32_C(0);
 j2 = UINT64_C(2056);
@@ -122097,7 +122640,7 @@ j0 = v5;
 i0 = (j0 == 0);
 if (!i0) {
 j0 = v6;
-j1 = UINT64_C(896);
+j1 = UINT64_C(4048);
 j0 = j0 + j1;
 j1 = v40;
 j2 = v5;
@@ -122105,11 +122648,11 @@ copy(m, j0, j1, j2);
 }
 j0 = v6;
 j1 = v5;
-store64(p1 + 2944, j1);
+store64(p1 + 6096, j1);
 }
 j0 = v9;
 j1 = v6;
-j2 = UINT64_C(896);
+j2 = UINT64_C(4048);
 j1 = j1 + j2;
 j2 = UINT64_C(2056);
 copy(m, j0, j1, j2);
@@ -122455,7 +122998,7 @@ if (i0) { goto l89; }
 goto l87;
 }
 j0 = v6;
-j1 = UINT64_C(896);
+j1 = UINT64_C(4048);
 j0 = j0 + j1;
 i1 = UINT32_C(0);
 j2 = UINT64_C(2056);
@@ -122467,7 +123010,7 @@ if (!i0) {
 i0 = v44;
 if (!i0) {
 j0 = v6;
-j1 = UINT64_C(896);
+j1 = UINT64_C(4048);
 j0 = j0 + j1;
 j1 = v12;
 j2 = v40;
@@ -122475,11 +123018,11 @@ copy(m, j0, j1, j2);
 }
 j0 = v6;
 j1 = v40;
-store64(p1 + 2944, j1);
+store64(p1 + 6096, j1);
 }
 j0 = v9;
 j1 = v6;
-j2 = UINT64_C(896);
+j2 = UINT64_C(4048);
 j1 = j1 + j2;
 j2 = UINT64_C(2056);
 copy(m, j0, j1, j2);
@@ -122556,7 +123099,7 @@ v44 = i0;
 }
 l87:;
 j0 = v6;
-j1 = UINT64_C(896);
+j1 = UINT64_C(4048);
 j0 = j0 + j1;
 i1 = UINT32_C(0);
 j2 = UINT64_C(2056);
@@ -122577,7 +123120,7 @@ j0 = v43;
 i0 = (j0 == 0);
 if (!i0) {
 j0 = v6;
-j1 = UINT64_C(896);
+j1 = UINT64_C(4048);
 j0 = j0 + j1;
 j1 = v38;
 j2 = v43;
@@ -122585,11 +123128,11 @@ copy(m, j0, j1, j2);
 }
 j0 = v6;
 j1 = v43;
-store64(p1 + 2944, j1);
+store64(p1 + 6096, j1);
 }
 j0 = v9;
 j1 = v6;
-j2 = UINT64_C(896);
+j2 = UINT64_C(4048);
 j1 = j1 + j2;
 j2 = UINT64_C(2056);
 copy(m, j0, j1, j2);
@@ -123069,25 +123612,25 @@ i0 = (j0 != j1);
 if (i0) { goto l70; }
 j0 = v6;
 i1 = v30;
-store8(p1 + 3266, i1);
+store8(p1 + 6386, i1);
 j0 = v6;
 i1 = v4;
-store32(p1 + 3232, i1);
+store32(p1 + 6352, i1);
 j0 = v6;
 i1 = v22;
-store16(p1 + 3264, i1);
+store16(p1 + 6384, i1);
 j0 = v6;
 i1 = v29;
-store32(p1 + 3260, i1);
+store32(p1 + 6380, i1);
 j0 = v6;
 j1 = v20;
-store64(p1 + 3240, j1);
+store64(p1 + 6360, j1);
 j0 = v6;
 i1 = v18;
-store32(p1 + 3236, i1);
+store32(p1 + 6356, i1);
 j0 = v6;
 i1 = v28;
-store32(p1 + 3256, i1);
+store32(p1 + 6376, i1);
 }
 l16:;
 j0 = v32;
@@ -123115,16 +123658,16 @@ i0 = load8(p1 + 8);
 if (!i0) {
 j0 = v0;
 j1 = v6;
-j2 = UINT64_C(3232);
+j2 = UINT64_C(6352);
 j1 = j1 + j2;
 j2 = v6;
 j2 = load64(p1 + 16);
 fio_sniff_streams_Streams_tell(m, j0, j1, j2);
 j0 = v6;
-i0 = load32(p1 + 3236);
+i0 = load32(p1 + 6356);
 v18 = i0;
 j0 = v6;
-i0 = load32(p1 + 3232);
+i0 = load32(p1 + 6352);
 v4 = i0;
 }
 j0 = v0;
@@ -123138,9 +123681,9 @@ i1 = v18;
 i0 = (i0 != i1);
 if (i0) { goto l135; }
 j0 = v6;
-j0 = load64(p1 + 3240);
+j0 = load64(p1 + 6360);
 j1 = v6;
-j1 = load64(p1 + 3248);
+j1 = load64(p1 + 6368);
 i0 = (j0 == j1);
 if (!i0) {
 i0 = v18;
@@ -123148,7 +123691,7 @@ v4 = i0;
 goto l135;
 }
 j0 = v6;
-i0 = load32(p1 + 3260);
+i0 = load32(p1 + 6380);
 if (!i0) {
 i0 = v18;
 v4 = i0;
@@ -123185,12 +123728,12 @@ i1 = UINT32_C(8);
 i0 = (i0 < i1);
 if (i0) { goto l132; }
 j0 = v6;
-j0 = load32(p1 + 3256);
+j0 = load32(p1 + 6376);
 v5 = j0;
 i0 = (j0 == 0);
 if (i0) { goto l132; }
 j0 = v6;
-j0 = load32(p1 + 3260);
+j0 = load32(p1 + 6380);
 j1 = UINT64_C(3);
 j0 = j0 * j1;
 j1 = v5;
@@ -123207,7 +123750,7 @@ i2 = (i2 > i3);
 i0 = i2 ? i0 : i1;
 v4 = i0;
 j0 = v6;
-j0 = load64(p1 + 3240);
+j0 = load64(p1 + 6360);
 v5 = j0;
 j1 = UINT64_C(1844674407370955161);
 i0 = (j0 > j1);
@@ -123217,7 +123760,7 @@ j1 = UINT64_C(10);
 j0 = j0 * j1;
 j1 = UINT64_C(18446744073709551615);
 j2 = v6;
-j2 = load64(p1 + 3248);
+j2 = load64(p1 + 6368);
 v5 = j2;
 j3 = UINT64_C(9);
 j2 = j2 * j3;
@@ -123253,7 +123796,7 @@ i0 = i2 ? i0 : i1;
 v4 = i0;
 l133:;
 j0 = v0;
-j1 = UINT64_C(30312);
+j1 = UINT64_C(30320);
 j0 = j0 + j1;
 v5 = j0;
 p91 = read_at(j0, m, 4u);
@@ -123272,26 +123815,46 @@ i0 = (i0 >= i1);
 if (!i0) {
 j0 = v5;
 i1 = v4;
-p92 = write_at(j0 + UINT64_C(18446744073709551608), m, 12u);
-store32(p92 + 8, i1);
-j0 = v0;
-j1 = UINT64_C(30304);
+p92 = write_at(j0, m, 4u);
+store32(p92 + 0, i1);
+j0 = v6;
+j1 = UINT64_C(136);
 j0 = j0 + j1;
-j0 = load64(p92 + 0);
-v40 = j0;
+arrayvec_array_vec_ArrayVec_T_CAP_new(m, j0);
+j0 = v6;
+j1 = UINT64_C(2472);
+j0 = j0 + j1;
+j1 = v6;
+j2 = UINT64_C(136);
+j1 = j1 + j2;
+j2 = UINT64_C(1576);
+copy(m, j0, j1, j2);
+j0 = v2;
 i0 = (j0 == 0);
 if (!i0) {
+i0 = v7;
+i1 = UINT32_C(5);
+i0 = i0 + i1;
+v30 = i0;
 j0 = UINT64_C(0);
-v43 = j0;
+v42 = j0;
+j0 = v1;
+v40 = j0;
 l141:;
 j0 = v6;
+j1 = UINT64_C(6210);
+j0 = j0 + j1;
 i1 = UINT32_C(0);
-store16(p1 + 3092, i1);
+j2 = UINT64_C(142);
+fill(m, j0, i1, j2);
 j0 = v6;
+j1 = UINT64_C(6104);
+j0 = j0 + j1;
 i1 = UINT32_C(0);
-store32(p1 + 3088, i1);
+j2 = UINT64_C(104);
+fill(m, j0, i1, j2);
 j0 = v6;
-j1 = UINT64_C(896);
+j1 = UINT64_C(6352);
 j0 = j0 + j1;
 i1 = UINT32_C(0);
 j2 = UINT64_C(512);
@@ -123300,7 +123863,7 @@ j0 = UINT64_C(0);
 v5 = j0;
 for (;;) {
 j0 = v6;
-j1 = UINT64_C(896);
+j1 = UINT64_C(6352);
 j0 = j0 + j1;
 j1 = v5;
 j0 = j0 + j1;
@@ -123315,137 +123878,16 @@ j1 = UINT64_C(512);
 i0 = (j0 != j1);
 if (!i0) break;
 }
-j0 = v17;
-i1 = UINT32_C(0);
-j2 = UINT64_C(128);
-fill(m, j0, i1, j2);
 j0 = v6;
-j1 = UINT64_C(2952);
+j1 = UINT64_C(4048);
 j0 = j0 + j1;
 j1 = v6;
-j2 = UINT64_C(3088);
-j1 = j1 + j2;
-j2 = UINT64_C(134);
-copy(m, j0, j1, j2);
-j0 = v6;
-j1 = UINT64_C(3232);
-j0 = j0 + j1;
-j1 = v6;
-j2 = UINT64_C(896);
-j1 = j1 + j2;
-j2 = UINT64_C(512);
-copy(m, j0, j1, j2);
-j0 = v11;
-j1 = v43;
-j2 = UINT64_C(784);
-j1 = j1 * j2;
-j0 = j0 + j1;
-v5 = j0;
-j1 = v6;
-j2 = UINT64_C(3232);
-j1 = j1 + j2;
-j2 = UINT64_C(512);
-copy(m, j0, j1, j2);
-j0 = v5;
-i1 = UINT32_C(0);
-p94 = write_at(j0 + UINT64_C(512), m, 152u);
-store16(p94 + 8, i1);
-j0 = v5;
-j1 = UINT64_C(0);
-store64(p94 + 0, j1);
-j0 = v5;
-j1 = UINT64_C(522);
-j0 = j0 + j1;
-j1 = v6;
-j2 = UINT64_C(2952);
-j1 = j1 + j2;
-j2 = UINT64_C(134);
-copy(m, j0, j1, j2);
-j0 = v5;
-j1 = UINT64_C(1);
-store64(p94 + 144, j1);
-j0 = v5;
-j1 = UINT64_C(664);
-j0 = j0 + j1;
-i1 = UINT32_C(0);
-j2 = UINT64_C(120);
-fill(m, j0, i1, j2);
-j0 = v43;
-j1 = UINT64_C(1);
-j0 = j0 + j1;
-v43 = j0;
-j1 = v40;
-i0 = (j0 != j1);
-if (i0) { goto l141; }
-j0 = v0;
-j1 = UINT64_C(30304);
-j0 = j0 + j1;
-j1 = UINT64_C(0);
-store64(p92 + 0, j1);
-}
-j0 = v2;
-i0 = (j0 == 0);
-if (!i0) {
-i0 = v7;
-i1 = UINT32_C(5);
-i0 = i0 + i1;
-v30 = i0;
-j0 = UINT64_C(0);
-v5 = j0;
-j0 = v1;
-v40 = j0;
-j0 = UINT64_C(0);
-v42 = j0;
-l143:;
-j0 = v5;
-v48 = j0;
-j0 = v6;
-j1 = UINT64_C(3088);
-j0 = j0 + j1;
-i1 = UINT32_C(0);
-j2 = UINT64_C(142);
-fill(m, j0, i1, j2);
-j0 = v6;
-j1 = UINT64_C(2952);
-j0 = j0 + j1;
-i1 = UINT32_C(0);
-j2 = UINT64_C(104);
-fill(m, j0, i1, j2);
-j0 = v6;
-j1 = UINT64_C(3232);
-j0 = j0 + j1;
-i1 = UINT32_C(0);
-j2 = UINT64_C(512);
-fill(m, j0, i1, j2);
-j0 = UINT64_C(0);
-v5 = j0;
-for (;;) {
-j0 = v6;
-j1 = UINT64_C(3232);
-j0 = j0 + j1;
-j1 = v5;
-j0 = j0 + j1;
-j1 = UINT64_C(281479271743489);
-p95 = write_at(j0, m, 8u);
-store64(p95 + 0, j1);
-j0 = v5;
-j1 = UINT64_C(8);
-j0 = j0 + j1;
-v5 = j0;
-j1 = UINT64_C(512);
-i0 = (j0 != j1);
-if (!i0) break;
-}
-j0 = v6;
-j1 = UINT64_C(896);
-j0 = j0 + j1;
-j1 = v6;
-j2 = UINT64_C(3232);
+j2 = UINT64_C(6352);
 j1 = j1 + j2;
 j2 = UINT64_C(512);
 copy(m, j0, j1, j2);
 j0 = UINT64_C(0);
-v37 = j0;
+v47 = j0;
 j0 = v1;
 j1 = v42;
 j2 = UINT64_C(784);
@@ -123454,18 +123896,18 @@ j0 = j0 + j1;
 v43 = j0;
 j1 = UINT64_C(512);
 j0 = j0 + j1;
-p96 = read_at(j0, m, 8u);
-j0 = load64(p96 + 0);
-v47 = j0;
+p94 = read_at(j0, m, 8u);
+j0 = load64(p94 + 0);
+v48 = j0;
 j1 = UINT64_C(256);
 i0 = (j0 > j1);
 if (!i0) {
 j0 = v6;
-j1 = UINT64_C(896);
+j1 = UINT64_C(4048);
 j0 = j0 + j1;
 j1 = v43;
 j0 = j0 - j1;
-j1 = v47;
+j1 = v48;
 j2 = UINT64_C(1);
 j1 = j1 << (j2 & 63);
 v5 = j1;
@@ -123473,15 +123915,15 @@ i0 = (j0 >= j1);
 if (!i0) {
 j0 = UINT64_C(0);
 v38 = j0;
-j0 = v47;
+j0 = v48;
 j1 = UINT64_C(1);
 i0 = (j0 == j1);
 if (!i0) {
-j0 = v47;
+j0 = v48;
 j1 = UINT64_C(1);
 j0 = j0 & j1;
-v37 = j0;
-j0 = v47;
+v47 = j0;
+j0 = v48;
 j1 = UINT64_C(510);
 j0 = j0 & j1;
 v41 = j0;
@@ -123491,17 +123933,17 @@ j0 = UINT64_C(0);
 v38 = j0;
 for (;;) {
 j0 = v6;
-j1 = UINT64_C(896);
+j1 = UINT64_C(4048);
 j0 = j0 + j1;
 j1 = v5;
 j0 = j0 + j1;
 j1 = v40;
 j2 = v5;
 j1 = j1 + j2;
-p97 = read_at(j1, m, 4u);
-i1 = load32(p97 + 0);
-p98 = write_at(j0, m, 4u);
-store32(p98 + 0, i1);
+p95 = read_at(j1, m, 4u);
+i1 = load32(p95 + 0);
+p96 = write_at(j0, m, 4u);
+store32(p96 + 0, i1);
 j0 = v5;
 j1 = UINT64_C(4);
 j0 = j0 + j1;
@@ -123514,12 +123956,12 @@ v38 = j1;
 i0 = (j0 != j1);
 if (!i0) break;
 }
-j0 = v37;
+j0 = v47;
 i0 = (j0 == 0);
-if (i0) { goto l146; }
+if (i0) { goto l144; }
 }
 j0 = v6;
-j1 = UINT64_C(896);
+j1 = UINT64_C(4048);
 j0 = j0 + j1;
 j1 = v38;
 j2 = UINT64_C(1);
@@ -123529,28 +123971,28 @@ j0 = j0 + j1;
 j1 = v43;
 j2 = v5;
 j1 = j1 + j2;
-p99 = read_at(j1, m, 2u);
-i1 = load16(p99 + 0);
-p100 = write_at(j0, m, 2u);
-store16(p100 + 0, i1);
-goto l146;
+p97 = read_at(j1, m, 2u);
+i1 = load16(p97 + 0);
+p98 = write_at(j0, m, 2u);
+store16(p98 + 0, i1);
+goto l144;
 }
 j0 = v5;
 i0 = (j0 == 0);
 if (!i0) {
 j0 = v6;
-j1 = UINT64_C(896);
+j1 = UINT64_C(4048);
 j0 = j0 + j1;
 j1 = v43;
 j2 = v5;
 copy(m, j0, j1, j2);
 }
-l146:;
-j0 = v47;
-v37 = j0;
+l144:;
+j0 = v48;
+v47 = j0;
 }
 j0 = v6;
-j1 = UINT64_C(3232);
+j1 = UINT64_C(6352);
 j0 = j0 + j1;
 i1 = UINT32_C(0);
 j2 = UINT64_C(136);
@@ -123558,21 +124000,21 @@ fill(m, j0, i1, j2);
 j0 = v43;
 j1 = UINT64_C(656);
 j0 = j0 + j1;
-p101 = read_at(j0, m, 8u);
-j0 = load64(p101 + 0);
-v47 = j0;
+p99 = read_at(j0, m, 8u);
+j0 = load64(p99 + 0);
+v48 = j0;
 j1 = UINT64_C(64);
 i0 = (j0 > j1);
 if (!i0) {
 j0 = v6;
-j1 = UINT64_C(3232);
+j1 = UINT64_C(6352);
 j0 = j0 + j1;
 j1 = v43;
 j2 = UINT64_C(528);
 j1 = j1 + j2;
-v20 = j1;
+v37 = j1;
 j0 = j0 - j1;
-j1 = v47;
+j1 = v48;
 j2 = UINT64_C(1);
 j1 = j1 << (j2 & 63);
 v5 = j1;
@@ -123580,15 +124022,15 @@ i0 = (j0 >= j1);
 if (!i0) {
 j0 = UINT64_C(0);
 v38 = j0;
-j0 = v47;
+j0 = v48;
 j1 = UINT64_C(1);
 i0 = (j0 == j1);
 if (!i0) {
-j0 = v47;
+j0 = v48;
 j1 = UINT64_C(1);
 j0 = j0 & j1;
-v39 = j0;
-j0 = v47;
+v20 = j0;
+j0 = v48;
 j1 = UINT64_C(126);
 j0 = j0 & j1;
 v41 = j0;
@@ -123598,7 +124040,7 @@ j0 = UINT64_C(0);
 v38 = j0;
 for (;;) {
 j0 = v6;
-j1 = UINT64_C(3232);
+j1 = UINT64_C(6352);
 j0 = j0 + j1;
 j1 = v5;
 j0 = j0 + j1;
@@ -123607,10 +124049,10 @@ j2 = v5;
 j1 = j1 + j2;
 j2 = UINT64_C(528);
 j1 = j1 + j2;
-p102 = read_at(j1, m, 4u);
-i1 = load32(p102 + 0);
-p103 = write_at(j0, m, 4u);
-store32(p103 + 0, i1);
+p100 = read_at(j1, m, 4u);
+i1 = load32(p100 + 0);
+p101 = write_at(j0, m, 4u);
+store32(p101 + 0, i1);
 j0 = v5;
 j1 = UINT64_C(4);
 j0 = j0 + j1;
@@ -123623,44 +124065,44 @@ v38 = j1;
 i0 = (j0 != j1);
 if (!i0) break;
 }
-j0 = v39;
+j0 = v20;
 i0 = (j0 == 0);
-if (i0) { goto l151; }
+if (i0) { goto l149; }
 }
 j0 = v6;
-j1 = UINT64_C(3232);
+j1 = UINT64_C(6352);
 j0 = j0 + j1;
 j1 = v38;
 j2 = UINT64_C(1);
 j1 = j1 << (j2 & 63);
 v5 = j1;
 j0 = j0 + j1;
-j1 = v20;
+j1 = v37;
 j2 = v5;
 j1 = j1 + j2;
-p104 = read_at(j1, m, 2u);
-i1 = load16(p104 + 0);
-p105 = write_at(j0, m, 2u);
-store16(p105 + 0, i1);
-goto l151;
+p102 = read_at(j1, m, 2u);
+i1 = load16(p102 + 0);
+p103 = write_at(j0, m, 2u);
+store16(p103 + 0, i1);
+goto l149;
 }
 j0 = v5;
 i0 = (j0 == 0);
 if (!i0) {
 j0 = v6;
-j1 = UINT64_C(3232);
+j1 = UINT64_C(6352);
 j0 = j0 + j1;
-j1 = v20;
+j1 = v37;
 j2 = v5;
 copy(m, j0, j1, j2);
 }
-l151:;
+l149:;
 j0 = v6;
-j1 = v47;
-store64(p1 + 3360, j1);
+j1 = v48;
+store64(p1 + 6480, j1);
 }
 j0 = v6;
-j1 = UINT64_C(2952);
+j1 = UINT64_C(6104);
 j0 = j0 + j1;
 i1 = UINT32_C(0);
 j2 = UINT64_C(104);
@@ -123668,8 +124110,8 @@ fill(m, j0, i1, j2);
 j0 = v43;
 j1 = UINT64_C(760);
 j0 = j0 + j1;
-p106 = read_at(j0, m, 8u);
-j0 = load64(p106 + 0);
+p104 = read_at(j0, m, 8u);
+j0 = load64(p104 + 0);
 v5 = j0;
 j1 = UINT64_C(24);
 i0 = (j0 > j1);
@@ -123681,7 +124123,7 @@ v38 = j0;
 i0 = (j0 == 0);
 if (!i0) {
 j0 = v6;
-j1 = UINT64_C(2952);
+j1 = UINT64_C(6104);
 j0 = j0 + j1;
 j1 = v43;
 j2 = UINT64_C(664);
@@ -123691,111 +124133,113 @@ copy(m, j0, j1, j2);
 }
 j0 = v6;
 j1 = v5;
-store64(p1 + 3048, j1);
+store64(p1 + 6200, j1);
 }
 j0 = v43;
 j1 = UINT64_C(778);
 j0 = j0 + j1;
-p107 = read_at(j0 + UINT64_C(18446744073709551358), m, 259u);
-i0 = load8(p107 + 258);
+p105 = read_at(j0 + UINT64_C(18446744073709551358), m, 259u);
+i0 = load8(p105 + 258);
 v4 = i0;
 j0 = v43;
 j1 = UINT64_C(777);
 j0 = j0 + j1;
-i0 = load8(p107 + 257);
+i0 = load8(p105 + 257);
 v23 = i0;
 j0 = v43;
 j1 = UINT64_C(771);
 j0 = j0 + j1;
-i0 = load8(p107 + 251);
+i0 = load8(p105 + 251);
 v44 = i0;
 j0 = v43;
 j1 = UINT64_C(770);
 j0 = j0 + j1;
-i0 = load8(p107 + 250);
+i0 = load8(p105 + 250);
 v24 = i0;
 j0 = v43;
 j1 = UINT64_C(769);
 j0 = j0 + j1;
-i0 = load8(p107 + 249);
+i0 = load8(p105 + 249);
 v21 = i0;
 j0 = v43;
 j1 = UINT64_C(768);
 j0 = j0 + j1;
-i0 = load8(p107 + 248);
+i0 = load8(p105 + 248);
 v18 = i0;
 j0 = v43;
 j1 = UINT64_C(521);
 j0 = j0 + j1;
-i0 = load8(p107 + 1);
+i0 = load8(p105 + 1);
 v28 = i0;
 j0 = v43;
 j1 = UINT64_C(520);
 j0 = j0 + j1;
-i0 = load8(p107 + 0);
+i0 = load8(p105 + 0);
 v29 = i0;
 j0 = v17;
 j1 = v6;
-j2 = UINT64_C(3232);
+j2 = UINT64_C(6352);
 j1 = j1 + j2;
 j2 = UINT64_C(136);
 copy(m, j0, j1, j2);
 j0 = v6;
-j1 = UINT64_C(384);
+j1 = UINT64_C(1960);
 j0 = j0 + j1;
 j1 = v6;
-j2 = UINT64_C(896);
+j2 = UINT64_C(4048);
 j1 = j1 + j2;
 j2 = UINT64_C(512);
 copy(m, j0, j1, j2);
 j0 = v6;
-j1 = UINT64_C(242);
+j1 = UINT64_C(1818);
 j0 = j0 + j1;
 j1 = v6;
-j2 = UINT64_C(3088);
+j2 = UINT64_C(6210);
 j1 = j1 + j2;
 j2 = UINT64_C(142);
 copy(m, j0, j1, j2);
 j0 = v6;
-j1 = UINT64_C(136);
+j1 = UINT64_C(1712);
 j0 = j0 + j1;
 j1 = v6;
-j2 = UINT64_C(2952);
+j2 = UINT64_C(6104);
 j1 = j1 + j2;
 j2 = UINT64_C(104);
 copy(m, j0, j1, j2);
-j0 = UINT64_C(2);
-v5 = j0;
-j0 = v48;
+j0 = v6;
+j0 = load64(p1 + 4040);
+v43 = j0;
 j1 = UINT64_C(2);
 i0 = (j0 == j1);
 if (!i0) {
-j0 = v11;
-j1 = v48;
+j0 = v6;
+j1 = UINT64_C(2472);
+j0 = j0 + j1;
+j1 = v43;
 j2 = UINT64_C(784);
 j1 = j1 * j2;
 j0 = j0 + j1;
 v5 = j0;
 j1 = v6;
-j2 = UINT64_C(384);
+j2 = UINT64_C(1960);
 j1 = j1 + j2;
 j2 = UINT64_C(512);
 copy(m, j0, j1, j2);
 j0 = v5;
 i1 = v28;
-p108 = write_at(j0 + UINT64_C(512), m, 272u);
-store8(p108 + 9, i1);
+p106 = write_at(j0 + UINT64_C(512), m, 272u);
+store8(p106 + 9, i1);
 j0 = v5;
 i1 = v29;
-store8(p108 + 8, i1);
+store8(p106 + 8, i1);
 j0 = v5;
-j1 = v37;
-store64(p108 + 0, j1);
+j1 = v47;
+store64(p106 + 0, j1);
 j0 = v5;
 j1 = UINT64_C(522);
 j0 = j0 + j1;
 j1 = v6;
-j2 = UINT64_C(242);
+j2 = UINT64_C(1818);
 j1 = j1 + j2;
 j2 = UINT64_C(142);
 copy(m, j0, j1, j2);
@@ -123803,48 +124247,45 @@ j0 = v5;
 j1 = UINT64_C(664);
 j0 = j0 + j1;
 j1 = v6;
-j2 = UINT64_C(136);
+j2 = UINT64_C(1712);
 j1 = j1 + j2;
 j2 = UINT64_C(104);
 copy(m, j0, j1, j2);
 j0 = v5;
 i1 = UINT32_C(0);
-store32(p108 + 267, i1);
-j0 = v5;
-i1 = v4;
-store8(p108 + 266, i1);
-j0 = v5;
-i1 = v23;
-store8(p108 + 265, i1);
-j0 = v5;
-i1 = UINT32_C(0);
-store32(p108 + 261, i1);
+store32(p106 + 261, i1);
 j0 = v5;
 i1 = v30;
-store8(p108 + 260, i1);
+store8(p106 + 260, i1);
 j0 = v5;
 i1 = v44;
-store8(p108 + 259, i1);
+store8(p106 + 259, i1);
 j0 = v5;
 i1 = v24;
-store8(p108 + 258, i1);
+store8(p106 + 258, i1);
 j0 = v5;
 i1 = v21;
-store8(p108 + 257, i1);
+store8(p106 + 257, i1);
 j0 = v5;
 i1 = v18;
-store8(p108 + 256, i1);
+store8(p106 + 256, i1);
 j0 = v5;
 i1 = UINT32_C(0);
-store8(p108 + 271, i1);
-j0 = v0;
-j1 = UINT64_C(30304);
-j0 = j0 + j1;
-j1 = v48;
+store32(p106 + 267, i1);
+j0 = v5;
+i1 = v4;
+store8(p106 + 266, i1);
+j0 = v5;
+i1 = v23;
+store8(p106 + 265, i1);
+j0 = v5;
+i1 = UINT32_C(0);
+store8(p106 + 271, i1);
+j0 = v6;
+j1 = v43;
 j2 = UINT64_C(1);
 j1 = j1 + j2;
-v5 = j1;
-store64(p92 + 0, j1);
+store64(p1 + 4040, j1);
 }
 j0 = v40;
 j1 = UINT64_C(784);
@@ -123856,8 +124297,28 @@ j0 = j0 + j1;
 v42 = j0;
 j1 = v2;
 i0 = (j0 != j1);
-if (i0) { goto l143; }
+if (i0) { goto l141; }
 }
+j0 = v6;
+j1 = UINT64_C(136);
+j0 = j0 + j1;
+j1 = v6;
+j2 = UINT64_C(2472);
+j1 = j1 + j2;
+j2 = UINT64_C(1576);
+copy(m, j0, j1, j2);
+j0 = v0;
+j1 = UINT64_C(28736);
+j0 = j0 + j1;
+j1 = UINT64_C(1);
+p107 = write_at(j0, m, 8u);
+store64(p107 + 0, j1);
+j0 = v11;
+j1 = v6;
+j2 = UINT64_C(2472);
+j1 = j1 + j2;
+j2 = UINT64_C(1576);
+copy(m, j0, j1, j2);
 }
 l132:;
 i0 = v7;
@@ -123869,7 +124330,7 @@ v7 = i0;
 i0 = v4;
 if (i0) { goto l6; }
 j0 = v6;
-j1 = UINT64_C(3744);
+j1 = UINT64_C(6864);
 j0 = j0 + j1;
 m->g0 = j0;
 return;
@@ -123878,8 +124339,351 @@ fio2070_trap();
 l2:;
 j0 = v6;
 i1 = v22;
-p109 = write_at(j0 + UINT64_C(3264), m, 2u);
-store16(p109 + 0, i1);
+p108 = write_at(j0 + UINT64_C(6384), m, 2u);
+store16(p108 + 0, i1);
+fio2070_trap();
+}
+static void arrayvec_array_vec_ArrayVec_T_CAP_new(struct machine *m, uint64_t v0)
+{
+uint64_t v1 = 0;
+uint64_t v2 = 0;
+uint32_t i0;
+uint32_t i1;
+uint64_t j0;
+uint64_t j1;
+uint64_t j2;
+uint8_t *p1;
+uint8_t *p2;
+uint8_t *p3;
+uint8_t *p4;
+j0 = m->g0;
+j1 = UINT64_C(4672);
+j0 = j0 - j1;
+p1 = write_at(j0, m, 4672u);
+v1 = j0;
+m->g0 = j0;
+j0 = v1;
+v1 = j0;
+j1 = UINT64_C(16);
+i0 = (SIGNED64(j0) < SIGNED64(j1));
+if (!i0) {
+j0 = v1;
+j1 = UINT64_C(784);
+j0 = j0 + j1;
+i1 = UINT32_C(0);
+j2 = UINT64_C(512);
+fill(m, j0, i1, j2);
+j0 = v1;
+j1 = UINT64_C(650);
+j0 = j0 + j1;
+i1 = UINT32_C(0);
+j2 = UINT64_C(134);
+fill(m, j0, i1, j2);
+j0 = v1;
+j1 = UINT64_C(136);
+j0 = j0 + j1;
+i1 = UINT32_C(0);
+j2 = UINT64_C(512);
+fill(m, j0, i1, j2);
+j0 = v1;
+j1 = UINT64_C(2);
+j0 = j0 + j1;
+i1 = UINT32_C(0);
+j2 = UINT64_C(134);
+fill(m, j0, i1, j2);
+j0 = v1;
+j1 = UINT64_C(2080);
+j0 = j0 + j1;
+i1 = UINT32_C(0);
+j2 = UINT64_C(512);
+fill(m, j0, i1, j2);
+j0 = v1;
+j1 = UINT64_C(1946);
+j0 = j0 + j1;
+i1 = UINT32_C(0);
+j2 = UINT64_C(134);
+fill(m, j0, i1, j2);
+j0 = v1;
+j1 = UINT64_C(1432);
+j0 = j0 + j1;
+i1 = UINT32_C(0);
+j2 = UINT64_C(512);
+fill(m, j0, i1, j2);
+j0 = v1;
+j1 = UINT64_C(1298);
+j0 = j0 + j1;
+i1 = UINT32_C(0);
+j2 = UINT64_C(134);
+fill(m, j0, i1, j2);
+j0 = v1;
+i1 = UINT32_C(0);
+store16(p1 + 4028, i1);
+j0 = v1;
+i1 = UINT32_C(0);
+store32(p1 + 4024, i1);
+j0 = v1;
+j1 = UINT64_C(4160);
+j0 = j0 + j1;
+i1 = UINT32_C(0);
+j2 = UINT64_C(512);
+fill(m, j0, i1, j2);
+j0 = UINT64_C(0);
+v2 = j0;
+for (;;) {
+j0 = v1;
+j1 = UINT64_C(4160);
+j0 = j0 + j1;
+j1 = v2;
+j0 = j0 + j1;
+j1 = UINT64_C(281479271743489);
+p2 = write_at(j0, m, 8u);
+store64(p2 + 0, j1);
+j0 = v2;
+j1 = UINT64_C(8);
+j0 = j0 + j1;
+v2 = j0;
+j1 = UINT64_C(512);
+i0 = (j0 != j1);
+if (!i0) break;
+}
+j0 = v1;
+j1 = UINT64_C(4030);
+j0 = j0 + j1;
+i1 = UINT32_C(0);
+j2 = UINT64_C(128);
+fill(m, j0, i1, j2);
+j0 = v1;
+j1 = UINT64_C(3890);
+j0 = j0 + j1;
+j1 = v1;
+j2 = UINT64_C(4024);
+j1 = j1 + j2;
+j2 = UINT64_C(134);
+copy(m, j0, j1, j2);
+j0 = v1;
+j1 = UINT64_C(2728);
+j0 = j0 + j1;
+j1 = v1;
+j2 = UINT64_C(4160);
+j1 = j1 + j2;
+j2 = UINT64_C(512);
+copy(m, j0, j1, j2);
+j0 = v1;
+j1 = UINT64_C(2594);
+j0 = j0 + j1;
+j1 = v1;
+j2 = UINT64_C(3890);
+j1 = j1 + j2;
+j2 = UINT64_C(134);
+copy(m, j0, j1, j2);
+j0 = v1;
+j1 = UINT64_C(3376);
+j0 = j0 + j1;
+j1 = v1;
+j2 = UINT64_C(2728);
+j1 = j1 + j2;
+j2 = UINT64_C(512);
+copy(m, j0, j1, j2);
+j0 = v1;
+j1 = UINT64_C(3242);
+j0 = j0 + j1;
+j1 = v1;
+j2 = UINT64_C(2594);
+j1 = j1 + j2;
+j2 = UINT64_C(134);
+copy(m, j0, j1, j2);
+j0 = v1;
+i1 = UINT32_C(0);
+store16(p1 + 4028, i1);
+j0 = v1;
+i1 = UINT32_C(0);
+store32(p1 + 4024, i1);
+j0 = v1;
+j1 = UINT64_C(4160);
+j0 = j0 + j1;
+i1 = UINT32_C(0);
+j2 = UINT64_C(512);
+fill(m, j0, i1, j2);
+j0 = UINT64_C(0);
+v2 = j0;
+for (;;) {
+j0 = v1;
+j1 = UINT64_C(4160);
+j0 = j0 + j1;
+j1 = v2;
+j0 = j0 + j1;
+j1 = UINT64_C(281479271743489);
+p3 = write_at(j0, m, 8u);
+store64(p3 + 0, j1);
+j0 = v2;
+j1 = UINT64_C(8);
+j0 = j0 + j1;
+v2 = j0;
+j1 = UINT64_C(512);
+i0 = (j0 != j1);
+if (!i0) break;
+}
+j0 = v1;
+j1 = UINT64_C(4030);
+j0 = j0 + j1;
+i1 = UINT32_C(0);
+j2 = UINT64_C(128);
+fill(m, j0, i1, j2);
+j0 = v1;
+j1 = UINT64_C(3890);
+j0 = j0 + j1;
+j1 = v1;
+j2 = UINT64_C(4024);
+j1 = j1 + j2;
+j2 = UINT64_C(134);
+copy(m, j0, j1, j2);
+j0 = v1;
+j1 = UINT64_C(2728);
+j0 = j0 + j1;
+j1 = v1;
+j2 = UINT64_C(4160);
+j1 = j1 + j2;
+j2 = UINT64_C(512);
+copy(m, j0, j1, j2);
+j0 = v1;
+j1 = UINT64_C(2594);
+j0 = j0 + j1;
+j1 = v1;
+j2 = UINT64_C(3890);
+j1 = j1 + j2;
+j2 = UINT64_C(134);
+copy(m, j0, j1, j2);
+j0 = v1;
+j1 = UINT64_C(2080);
+j0 = j0 + j1;
+j1 = v1;
+j2 = UINT64_C(3376);
+j1 = j1 + j2;
+j2 = UINT64_C(512);
+copy(m, j0, j1, j2);
+j0 = v1;
+j1 = UINT64_C(1946);
+j0 = j0 + j1;
+j1 = v1;
+j2 = UINT64_C(3242);
+j1 = j1 + j2;
+j2 = UINT64_C(134);
+copy(m, j0, j1, j2);
+j0 = v1;
+j1 = UINT64_C(1432);
+j0 = j0 + j1;
+j1 = v1;
+j2 = UINT64_C(2728);
+j1 = j1 + j2;
+j2 = UINT64_C(512);
+copy(m, j0, j1, j2);
+j0 = v1;
+j1 = UINT64_C(1298);
+j0 = j0 + j1;
+j1 = v1;
+j2 = UINT64_C(2594);
+j1 = j1 + j2;
+j2 = UINT64_C(134);
+copy(m, j0, j1, j2);
+j0 = v1;
+j1 = UINT64_C(784);
+j0 = j0 + j1;
+j1 = v1;
+j2 = UINT64_C(2080);
+j1 = j1 + j2;
+j2 = UINT64_C(512);
+copy(m, j0, j1, j2);
+j0 = v1;
+j1 = UINT64_C(650);
+j0 = j0 + j1;
+j1 = v1;
+j2 = UINT64_C(1946);
+j1 = j1 + j2;
+j2 = UINT64_C(134);
+copy(m, j0, j1, j2);
+j0 = v1;
+j1 = UINT64_C(136);
+j0 = j0 + j1;
+j1 = v1;
+j2 = UINT64_C(1432);
+j1 = j1 + j2;
+j2 = UINT64_C(512);
+copy(m, j0, j1, j2);
+j0 = v1;
+j1 = UINT64_C(2);
+j0 = j0 + j1;
+j1 = v1;
+j2 = UINT64_C(1298);
+j1 = j1 + j2;
+j2 = UINT64_C(134);
+copy(m, j0, j1, j2);
+j0 = v0;
+j1 = v1;
+j2 = UINT64_C(784);
+j1 = j1 + j2;
+j2 = UINT64_C(512);
+copy(m, j0, j1, j2);
+j0 = v0;
+i1 = UINT32_C(0);
+p4 = write_at(j0 + UINT64_C(512), m, 936u);
+store16(p4 + 8, i1);
+j0 = v0;
+j1 = UINT64_C(0);
+store64(p4 + 0, j1);
+j0 = v0;
+j1 = UINT64_C(522);
+j0 = j0 + j1;
+j1 = v1;
+j2 = UINT64_C(650);
+j1 = j1 + j2;
+j2 = UINT64_C(134);
+copy(m, j0, j1, j2);
+j0 = v0;
+j1 = UINT64_C(1);
+store64(p4 + 144, j1);
+j0 = v0;
+j1 = UINT64_C(664);
+j0 = j0 + j1;
+i1 = UINT32_C(0);
+j2 = UINT64_C(120);
+fill(m, j0, i1, j2);
+j0 = v0;
+j1 = UINT64_C(784);
+j0 = j0 + j1;
+j1 = v1;
+j2 = UINT64_C(136);
+j1 = j1 + j2;
+j2 = UINT64_C(512);
+copy(m, j0, j1, j2);
+j0 = v0;
+i1 = UINT32_C(0);
+store16(p4 + 792, i1);
+j0 = v0;
+j1 = UINT64_C(0);
+store64(p4 + 784, j1);
+j0 = v0;
+j1 = UINT64_C(1306);
+j0 = j0 + j1;
+j1 = v1;
+j2 = UINT64_C(2);
+j1 = j1 + j2;
+j2 = UINT64_C(134);
+copy(m, j0, j1, j2);
+j0 = v0;
+j1 = UINT64_C(1);
+store64(p4 + 928, j1);
+j0 = v0;
+j1 = UINT64_C(1448);
+j0 = j0 + j1;
+i1 = UINT32_C(0);
+j2 = UINT64_C(128);
+fill(m, j0, i1, j2);
+j0 = v1;
+j1 = UINT64_C(4672);
+j0 = j0 + j1;
+m->g0 = j0;
+return;
+}
 fio2070_trap();
 }
 static void fio_rows_stream_Stream_end(struct machine *m, uint64_t v0, uint64_t v1)
@@ -124612,12 +125416,14 @@ uint32_t v15 = 0;
 uint64_t v16 = 0;
 uint64_t v17 = 0;
 uint64_t v18 = 0;
-uint32_t v19 = 0;
+uint64_t v19 = 0;
 uint32_t v20 = 0;
+uint32_t v21 = 0;
 uint32_t i0;
 uint32_t i1;
 uint32_t i2;
 uint32_t i3;
+uint32_t i4;
 uint64_t j0;
 uint64_t j1;
 uint64_t j2;
@@ -124664,11 +125470,10 @@ uint8_t *p37;
 uint8_t *p38;
 uint8_t *p39;
 uint8_t *p40;
-uint8_t *p41;
 j0 = m->g0;
-j1 = UINT64_C(26000);
+j1 = UINT64_C(25184);
 j0 = j0 - j1;
-p1 = write_at(j0, m, 26000u);
+p1 = write_at(j0, m, 25184u);
 v6 = j0;
 m->g0 = j0;
 j0 = v6;
@@ -124682,10 +125487,7 @@ j0 = load64(p2 + 0);
 v7 = j0;
 j0 = v6;
 j1 = UINT64_C(0);
-store64(p1 + 46, j1);
-j0 = v6;
-j1 = UINT64_C(0);
-store64(p1 + 40, j1);
+store64(p1 + 38, j1);
 j0 = v6;
 j1 = UINT64_C(0);
 store64(p1 + 32, j1);
@@ -124696,11 +125498,14 @@ j0 = v6;
 j1 = UINT64_C(0);
 store64(p1 + 16, j1);
 j0 = v6;
-i1 = UINT32_C(0);
-store32(p1 + 8, i1);
+j1 = UINT64_C(0);
+store64(p1 + 8, j1);
 j0 = v6;
 i1 = UINT32_C(0);
-store16(p1 + 12, i1);
+store32(p1 + 0, i1);
+j0 = v6;
+i1 = UINT32_C(0);
+store16(p1 + 4, i1);
 i0 = UINT32_C(1);
 v8 = i0;
 i0 = UINT32_C(0);
@@ -124727,7 +125532,7 @@ i0 = UINT32_C(0);
 v8 = i0;
 l10:;
 j0 = v3;
-j1 = UINT64_C(336528);
+j1 = UINT64_C(336544);
 j0 = j0 + j1;
 i1 = UINT32_C(0);
 j2 = UINT64_C(120);
@@ -124866,7 +125671,7 @@ i0 = UINT32_C(1);
 v11 = i0;
 l23:;
 j0 = v6;
-j1 = UINT64_C(80);
+j1 = UINT64_C(72);
 j0 = j0 + j1;
 i1 = UINT32_C(0);
 j2 = UINT64_C(773);
@@ -124877,7 +125682,7 @@ goto l8;
 }
 }
 j0 = v6;
-j1 = UINT64_C(80);
+j1 = UINT64_C(72);
 j0 = j0 + j1;
 i1 = UINT32_C(0);
 j2 = UINT64_C(773);
@@ -124918,7 +125723,7 @@ l21:;
 i0 = UINT32_C(0);
 v12 = i0;
 j0 = v6;
-j1 = UINT64_C(80);
+j1 = UINT64_C(72);
 j0 = j0 + j1;
 i1 = UINT32_C(0);
 j2 = UINT64_C(773);
@@ -124930,7 +125735,7 @@ l20:;
 i0 = UINT32_C(0);
 v12 = i0;
 j0 = v6;
-j1 = UINT64_C(80);
+j1 = UINT64_C(72);
 j0 = j0 + j1;
 i1 = UINT32_C(0);
 j2 = UINT64_C(773);
@@ -124944,10 +125749,7 @@ if (i0) { goto l8; }
 l19:;
 j0 = v6;
 j1 = UINT64_C(0);
-store64(p1 + 12670, j1);
-j0 = v6;
-j1 = UINT64_C(0);
-store64(p1 + 12664, j1);
+store64(p1 + 12662, j1);
 j0 = v6;
 j1 = UINT64_C(0);
 store64(p1 + 12656, j1);
@@ -124957,14 +125759,17 @@ store64(p1 + 12648, j1);
 j0 = v6;
 j1 = UINT64_C(0);
 store64(p1 + 12640, j1);
+j0 = v6;
+j1 = UINT64_C(0);
+store64(p1 + 12632, j1);
 i0 = UINT32_C(0);
 v12 = i0;
 j0 = v6;
 i1 = UINT32_C(0);
-store32(p1 + 25216, i1);
+store32(p1 + 48, i1);
 j0 = v6;
 i1 = UINT32_C(0);
-store16(p1 + 25220, i1);
+store16(p1 + 52, i1);
 i0 = UINT32_C(0);
 v11 = i0;
 i0 = UINT32_C(0);
@@ -124983,7 +125788,7 @@ goto l5;
 l9:;
 j0 = v6;
 j1 = v7;
-store64(p1 + 56, j1);
+store64(p1 + 48, j1);
 j0 = v6;
 j1 = v2;
 j2 = UINT64_C(8);
@@ -124991,13 +125796,13 @@ j1 = j1 + j2;
 v5 = j1;
 p14 = read_at(j1, m, 16u);
 j1 = load64(p14 + 0);
-store64(p1 + 64, j1);
+store64(p1 + 56, j1);
 j0 = v6;
 j1 = v5;
 j1 = load64(p14 + 8);
-store64(p1 + 72, j1);
+store64(p1 + 64, j1);
 j0 = v3;
-j1 = UINT64_C(336520);
+j1 = UINT64_C(336536);
 j0 = j0 + j1;
 p15 = read_at(j0, m, 1u);
 i0 = load8(p15 + 0);
@@ -125007,25 +125812,20 @@ if (!i0) {
 j0 = v3;
 j1 = v1;
 j2 = v6;
-j3 = UINT64_C(56);
+j3 = UINT64_C(48);
 j2 = j2 + j3;
 i0 = fio_log_teller_Teller_hear_next(m, j0, j1, j2);
 v0 = i0;
 goto l3;
 }
 j0 = v6;
-j1 = v7;
-store64(p1 + 25192, j1);
+j0 = load64(p1 + 56);
+v14 = j0;
 j0 = v6;
-j1 = v5;
-j1 = load64(p14 + 0);
-store64(p1 + 25200, j1);
+i0 = load8(p1 + 64);
+v0 = i0;
 j0 = v6;
-j1 = v5;
-j1 = load64(p14 + 8);
-store64(p1 + 25208, j1);
-j0 = v6;
-j1 = UINT64_C(80);
+j1 = UINT64_C(72);
 j0 = j0 + j1;
 i1 = UINT32_C(0);
 j2 = UINT64_C(12560);
@@ -125063,7 +125863,7 @@ if (!i0) {
 j0 = v3;
 j1 = v18;
 j0 = j0 + j1;
-v14 = j0;
+v16 = j0;
 j1 = v1;
 j0 = j0 - j1;
 j1 = v17;
@@ -125082,11 +125882,11 @@ if (!i0) {
 j0 = v17;
 j1 = UINT64_C(18446744073709551612);
 j0 = j0 & j1;
-v16 = j0;
+v19 = j0;
 j0 = UINT64_C(0);
 v4 = j0;
 for (;;) {
-j0 = v14;
+j0 = v16;
 j1 = v4;
 j0 = j0 + j1;
 v5 = j0;
@@ -125122,7 +125922,7 @@ j2 = UINT64_C(3);
 j1 = j1 + j2;
 i1 = load8(p20 + 3);
 store8(p21 + 3, i1);
-j0 = v16;
+j0 = v19;
 j1 = v4;
 j2 = UINT64_C(4);
 j1 = j1 + j2;
@@ -125171,7 +125971,7 @@ goto l30;
 j0 = v17;
 i0 = (j0 == 0);
 if (!i0) {
-j0 = v14;
+j0 = v16;
 j1 = v1;
 j2 = v17;
 copy(m, j0, j1, j2);
@@ -125213,187 +126013,119 @@ p26 = write_at(j0, m, 8u);
 store64(p26 + 0, j1);
 }
 j0 = v6;
-j1 = UINT64_C(80);
+j1 = UINT64_C(72);
 j0 = j0 + j1;
 j1 = v3;
 fio_log_learning_Learning_look(m, j0, j1);
 j0 = v6;
-i0 = load8(p1 + 80);
+i0 = load8(p1 + 72);
 i1 = UINT32_C(1);
 i0 = (i0 != i1);
 if (i0) { goto l28; }
 j0 = v6;
-j1 = UINT64_C(12640);
+j1 = UINT64_C(12632);
 j0 = j0 + j1;
 j1 = v6;
-j2 = UINT64_C(88);
+j2 = UINT64_C(80);
 j1 = j1 + j2;
 j2 = UINT64_C(12552);
 copy(m, j0, j1, j2);
-j0 = v6;
-j0 = load64(p1 + 25184);
-v5 = j0;
-j0 = v6;
-j1 = UINT64_C(25216);
-j0 = j0 + j1;
-i1 = UINT32_C(0);
-j2 = UINT64_C(784);
-fill(m, j0, i1, j2);
-j0 = v5;
-i0 = (j0 == 0);
-if (!i0) {
 j0 = v3;
-j1 = UINT64_C(250648);
-j0 = j0 + j1;
-p27 = read_at(j0, m, 8u);
-j0 = load64(p27 + 0);
-j1 = UINT64_C(16);
-i0 = (j0 == j1);
-if (!i0) {
-j0 = v3;
-j1 = UINT64_C(238104);
-j0 = j0 + j1;
-v14 = j0;
-j0 = v3;
-j1 = UINT64_C(250656);
-j0 = j0 + j1;
-v16 = j0;
-j0 = v6;
-j1 = UINT64_C(12640);
-j0 = j0 + j1;
-v4 = j0;
-l38:;
-j0 = v6;
-j1 = UINT64_C(25216);
-j0 = j0 + j1;
-j1 = v4;
-fio_form_form_LineForm_copied(m, j0, j1);
-j0 = v3;
-j1 = UINT64_C(250648);
-j0 = j0 + j1;
-v7 = j0;
-j0 = load64(p27 + 0);
-v2 = j0;
-j1 = UINT64_C(16);
-i0 = (j0 == j1);
-if (!i0) {
-j0 = v14;
-j1 = v2;
-j2 = UINT64_C(784);
-j1 = j1 * j2;
+j1 = UINT64_C(238112);
 j0 = j0 + j1;
 j1 = v6;
-j2 = UINT64_C(25216);
+j2 = UINT64_C(12632);
 j1 = j1 + j2;
-j2 = UINT64_C(784);
-copy(m, j0, j1, j2);
-j0 = v7;
-j1 = v2;
-j2 = UINT64_C(1);
-j1 = j1 + j2;
-p28 = write_at(j0, m, 3344u);
-store64(p28 + 0, j1);
-j0 = v3;
-j1 = UINT64_C(253984);
-j0 = j0 + j1;
-v7 = j0;
-j0 = load64(p28 + 3336);
-v2 = j0;
-j1 = UINT64_C(16);
-i0 = (j0 == j1);
-if (!i0) {
-j0 = v16;
-j1 = v2;
-j2 = UINT64_C(208);
-j1 = j1 * j2;
-j0 = j0 + j1;
-i1 = UINT32_C(0);
-j2 = UINT64_C(208);
-fill(m, j0, i1, j2);
-j0 = v7;
-j1 = v2;
-j2 = UINT64_C(1);
-j1 = j1 + j2;
-store64(p28 + 3336, j1);
-}
-}
-j0 = v4;
-j1 = UINT64_C(784);
-j0 = j0 + j1;
-v4 = j0;
-j0 = v5;
-j1 = UINT64_C(18446744073709551615);
-j0 = j0 + j1;
-v5 = j0;
-j1 = UINT64_C(0);
-i0 = (j0 != j1);
-if (i0) { goto l38; }
-goto l36;
-}
-j0 = v6;
-j1 = UINT64_C(12640);
-j0 = j0 + j1;
-v4 = j0;
-l40:;
-j0 = v6;
-j1 = UINT64_C(25216);
-j0 = j0 + j1;
-j1 = v4;
-fio_form_form_LineForm_copied(m, j0, j1);
-j0 = v4;
-j1 = UINT64_C(784);
-j0 = j0 + j1;
-v4 = j0;
-j0 = v5;
-j1 = UINT64_C(18446744073709551615);
-j0 = j0 + j1;
-v5 = j0;
-i0 = (j0 == 0);
-i0 = (i0 == 0);
-if (i0) { goto l40; }
-}
-l36:;
-j0 = v3;
-j1 = UINT64_C(336520);
-j0 = j0 + j1;
-i1 = UINT32_C(1);
-p29 = write_at(j0 + UINT64_C(18446744073709539040), m, 12577u);
-store8(p29 + 12576, i1);
-j0 = v3;
-j1 = UINT64_C(323952);
-j0 = j0 + j1;
-j1 = v3;
-j2 = UINT64_C(69640);
-j1 = j1 + j2;
-j1 = load64(p17 + 0);
-store64(p29 + 8, j1);
-j0 = v3;
-j1 = UINT64_C(323944);
-j0 = j0 + j1;
-j1 = UINT64_C(18446744073709551615);
 j2 = v6;
-j2 = load64(p1 + 25200);
+j2 = load64(p1 + 25176);
+fio_log_by_forms_FormReader_add(m, j0, j1, j2);
+j0 = v3;
+j1 = UINT64_C(323960);
+j0 = j0 + j1;
+j1 = UINT64_C(18446744073709551615);
+j2 = v14;
 j3 = UINT64_C(1);
 j2 = j2 + j3;
 v5 = j2;
 j3 = v5;
 i3 = (j3 == 0);
 j1 = i3 ? j1 : j2;
-store64(p29 + 0, j1);
+p27 = write_at(j0, m, 12577u);
+store64(p27 + 0, j1);
+j0 = v3;
+j1 = UINT64_C(336536);
+j0 = j0 + j1;
+i1 = UINT32_C(1);
+store8(p27 + 12576, i1);
+j0 = v3;
+j1 = UINT64_C(323968);
+j0 = j0 + j1;
+j1 = v3;
+j2 = UINT64_C(69640);
+j1 = j1 + j2;
+j1 = load64(p17 + 0);
+store64(p27 + 8, j1);
 goto l28;
 }
 }
 }
-j0 = v3;
-j1 = v6;
-j2 = UINT64_C(25192);
+j0 = v6;
+j1 = UINT64_C(12632);
+j0 = j0 + j1;
+i1 = UINT32_C(0);
+j2 = UINT64_C(12552);
+fill(m, j0, i1, j2);
+j0 = v6;
+j1 = UINT64_C(12632);
+j0 = j0 + j1;
+j1 = v3;
+j2 = UINT64_C(69648);
 j1 = j1 + j2;
-fio_log_teller_Teller_know(m, j0, j1);
+j2 = v3;
+i3 = v0;
+i4 = UINT32_C(1);
+i3 = i3 & i4;
+fio_sniff_sniffing_Sniffer_sniff(m, j0, j1, j2, i3);
+j0 = v3;
+j1 = UINT64_C(238112);
+j0 = j0 + j1;
+j1 = v6;
+j2 = UINT64_C(12632);
+j1 = j1 + j2;
+j2 = v6;
+j2 = load64(p1 + 25176);
+fio_log_by_forms_FormReader_add(m, j0, j1, j2);
+j0 = v3;
+j1 = UINT64_C(323960);
+j0 = j0 + j1;
+j1 = UINT64_C(18446744073709551615);
+j2 = v14;
+j3 = UINT64_C(1);
+j2 = j2 + j3;
+v5 = j2;
+j3 = v5;
+i3 = (j3 == 0);
+j1 = i3 ? j1 : j2;
+p28 = write_at(j0 + UINT64_C(18446744073709297296), m, 266897u);
+store64(p28 + 254320, j1);
+j0 = v3;
+j1 = UINT64_C(336536);
+j0 = j0 + j1;
+i1 = UINT32_C(1);
+store8(p28 + 266896, i1);
+j0 = v3;
+j1 = UINT64_C(323968);
+j0 = j0 + j1;
+j1 = v3;
+j2 = UINT64_C(69640);
+j1 = j1 + j2;
+j1 = load64(p28 + 0);
+store64(p28 + 254328, j1);
 l28:;
 j0 = v3;
 j1 = v1;
 j2 = v6;
-j3 = UINT64_C(56);
+j3 = UINT64_C(48);
 j2 = j2 + j3;
 i0 = fio_log_teller_Teller_hear_next(m, j0, j1, j2);
 v0 = i0;
@@ -125410,8 +126142,8 @@ v2 = j0;
 j0 = v1;
 j1 = UINT64_C(1);
 j0 = j0 + j1;
-p30 = read_at(j0, m, 1u);
-i0 = load8(p30 + 0);
+p29 = read_at(j0, m, 1u);
+i0 = load8(p29 + 0);
 v8 = i0;
 i0 = v0;
 i1 = UINT32_C(62);
@@ -125424,7 +126156,7 @@ i1 = UINT32_C(32);
 i0 = (i0 != i1);
 if (!i0) {
 i0 = UINT32_C(1);
-v19 = i0;
+v20 = i0;
 i0 = UINT32_C(0);
 v13 = i0;
 j0 = v2;
@@ -125452,7 +126184,7 @@ j0 = v2;
 v1 = j0;
 l7:;
 i0 = UINT32_C(0);
-v19 = i0;
+v20 = i0;
 l6:;
 j0 = v14;
 j1 = UINT64_C(1547);
@@ -125479,7 +126211,7 @@ v16 = j0;
 goto l5;
 }
 j0 = v6;
-j1 = UINT64_C(80);
+j1 = UINT64_C(72);
 j0 = j0 + j1;
 v2 = j0;
 j0 = v14;
@@ -125487,10 +126219,10 @@ j1 = UINT64_C(1);
 j0 = j0 >> (j1 & 63);
 v16 = j0;
 v14 = j0;
-l46:;
+l41:;
 j0 = v1;
-p31 = read_at(j0, m, 1u);
-i0 = load8(p31 + 0);
+p30 = read_at(j0, m, 1u);
+i0 = load8(p30 + 0);
 v0 = i0;
 i1 = UINT32_C(48);
 i0 = (i0 >= i1);
@@ -125502,8 +126234,8 @@ goto l5;
 j0 = v1;
 j1 = UINT64_C(1);
 j0 = j0 + j1;
-p32 = read_at(j0, m, 1u);
-i0 = load8(p32 + 0);
+p31 = read_at(j0, m, 1u);
+i0 = load8(p31 + 0);
 v8 = i0;
 i0 = v0;
 i1 = UINT32_C(57);
@@ -125512,8 +126244,8 @@ if (!i0) {
 i0 = v0;
 i1 = UINT32_C(4294967248);
 i0 = i0 + i1;
-v20 = i0;
-goto l48;
+v21 = i0;
+goto l43;
 }
 i0 = v0;
 i1 = UINT32_C(65);
@@ -125530,8 +126262,8 @@ if (!i0) {
 i0 = v0;
 i1 = UINT32_C(4294967241);
 i0 = i0 + i1;
-v20 = i0;
-goto l48;
+v21 = i0;
+goto l43;
 }
 i0 = v0;
 i1 = UINT32_C(4294967199);
@@ -125548,8 +126280,8 @@ goto l5;
 i0 = v0;
 i1 = UINT32_C(4294967209);
 i0 = i0 + i1;
-v20 = i0;
-l48:;
+v21 = i0;
+l43:;
 i0 = v8;
 i1 = UINT32_C(255);
 i0 = i0 & i1;
@@ -125569,7 +126301,7 @@ i0 = v8;
 i1 = UINT32_C(4294967248);
 i0 = i0 + i1;
 v0 = i0;
-goto l54;
+goto l49;
 }
 i0 = v8;
 i1 = UINT32_C(255);
@@ -125590,7 +126322,7 @@ i0 = v8;
 i1 = UINT32_C(4294967241);
 i0 = i0 + i1;
 v0 = i0;
-goto l54;
+goto l49;
 }
 i0 = v8;
 i1 = UINT32_C(4294967199);
@@ -125608,15 +126340,15 @@ i0 = v8;
 i1 = UINT32_C(4294967209);
 i0 = i0 + i1;
 v0 = i0;
-l54:;
+l49:;
 j0 = v2;
 i1 = v0;
-i2 = v20;
+i2 = v21;
 i3 = UINT32_C(4);
 i2 = i2 << (i3 & 31);
 i1 = i1 + i2;
-p33 = write_at(j0, m, 1u);
-store8(p33 + 0, i1);
+p32 = write_at(j0, m, 1u);
+store8(p32 + 0, i1);
 j0 = v1;
 j1 = UINT64_C(2);
 j0 = j0 + j1;
@@ -125631,8 +126363,8 @@ j0 = j0 + j1;
 v14 = j0;
 i0 = (j0 == 0);
 i0 = (i0 == 0);
-if (i0) { goto l46; }
-goto l42;
+if (i0) { goto l41; }
+goto l37;
 }
 i0 = UINT32_C(1);
 v15 = i0;
@@ -125645,8 +126377,39 @@ i0 = i0 & i1;
 if (i0) { goto l5; }
 j0 = v14;
 v2 = j0;
-l59:;
+l54:;
 j0 = v1;
+p33 = read_at(j0, m, 1u);
+i0 = load8(p33 + 0);
+v0 = i0;
+i1 = UINT32_C(48);
+i0 = (i0 < i1);
+if (i0) { goto l5; }
+i0 = v0;
+i1 = UINT32_C(58);
+i0 = (i0 < i1);
+if (!i0) {
+i0 = v0;
+i1 = UINT32_C(65);
+i0 = (i0 < i1);
+if (i0) { goto l5; }
+i0 = v0;
+i1 = UINT32_C(71);
+i0 = (i0 < i1);
+if (!i0) {
+i0 = v0;
+i1 = UINT32_C(4294967199);
+i0 = i0 + i1;
+i1 = UINT32_C(255);
+i0 = i0 & i1;
+i1 = UINT32_C(5);
+i0 = (i0 > i1);
+if (i0) { goto l5; }
+}
+}
+j0 = v1;
+j1 = UINT64_C(1);
+j0 = j0 + j1;
 p34 = read_at(j0, m, 1u);
 i0 = load8(p34 + 0);
 v0 = i0;
@@ -125676,37 +126439,6 @@ if (i0) { goto l5; }
 }
 }
 j0 = v1;
-j1 = UINT64_C(1);
-j0 = j0 + j1;
-p35 = read_at(j0, m, 1u);
-i0 = load8(p35 + 0);
-v0 = i0;
-i1 = UINT32_C(48);
-i0 = (i0 < i1);
-if (i0) { goto l5; }
-i0 = v0;
-i1 = UINT32_C(58);
-i0 = (i0 < i1);
-if (!i0) {
-i0 = v0;
-i1 = UINT32_C(65);
-i0 = (i0 < i1);
-if (i0) { goto l5; }
-i0 = v0;
-i1 = UINT32_C(71);
-i0 = (i0 < i1);
-if (!i0) {
-i0 = v0;
-i1 = UINT32_C(4294967199);
-i0 = i0 + i1;
-i1 = UINT32_C(255);
-i0 = i0 & i1;
-i1 = UINT32_C(5);
-i0 = (i0 > i1);
-if (i0) { goto l5; }
-}
-}
-j0 = v1;
 j1 = UINT64_C(2);
 j0 = j0 + j1;
 v1 = j0;
@@ -125716,12 +126448,12 @@ j0 = j0 + j1;
 v2 = j0;
 j1 = UINT64_C(0);
 i0 = (j0 != j1);
-if (i0) { goto l59; }
+if (i0) { goto l54; }
 j0 = v14;
 j1 = UINT64_C(1);
 j0 = j0 >> (j1 & 63);
 v16 = j0;
-l42:;
+l37:;
 j0 = v16;
 j1 = UINT64_C(773);
 i0 = (j0 > j1);
@@ -125729,9 +126461,9 @@ if (!i0) {
 i0 = v13;
 if (!i0) {
 j0 = v6;
-i0 = load8(p1 + 80);
+i0 = load8(p1 + 72);
 v0 = i0;
-i0 = v19;
+i0 = v20;
 i0 = (i0 == 0);
 if (!i0) {
 i0 = UINT32_C(3);
@@ -125743,58 +126475,58 @@ i1 = UINT32_C(4294967247);
 i0 = i0 + i1;
 switch (i0) {
 case 0:
-goto l66;
+goto l61;
 case 1:
-goto l71;
+goto l66;
 case 2:
-goto l70;
+goto l65;
 case 3:
-goto l68;
+goto l63;
 case 4:
-goto l68;
+goto l63;
 case 5:
-goto l66;
+goto l61;
 case 6:
-goto l69;
+goto l64;
 case 7:
-goto l68;
+goto l63;
 case 8:
-goto l68;
+goto l63;
 case 9:
-goto l66;
+goto l61;
 case 10:
 goto l5;
 case 11:
-goto l67;
+goto l62;
 default:
-goto l68;
+goto l63;
 }
-l71:;
+l66:;
 j0 = UINT64_C(5);
 v1 = j0;
-goto l66;
-l70:;
+goto l61;
+l65:;
 j0 = v16;
 j1 = UINT64_C(1);
 i0 = (j0 == j1);
-if (i0) { goto l66; }
+if (i0) { goto l61; }
 j0 = v6;
-j0 = load8(p1 + 81);
+j0 = load8(p1 + 73);
 j1 = UINT64_C(3);
 j0 = j0 * j1;
 j1 = UINT64_C(2);
 j0 = j0 + j1;
 v1 = j0;
-goto l66;
-l69:;
+goto l61;
+l64:;
 j0 = UINT64_C(17);
 v1 = j0;
-goto l66;
-l68:;
+goto l61;
+l63:;
 i0 = v0;
 i1 = UINT32_C(49);
 i0 = (i0 < i1);
-if (i0) { goto l62; }
+if (i0) { goto l57; }
 i0 = v0;
 i1 = UINT32_C(54);
 i0 = (i0 < i1);
@@ -125802,18 +126534,18 @@ if (!i0) {
 i0 = v0;
 i1 = UINT32_C(58);
 i0 = (i0 < i1);
-if (i0) { goto l65; }
-goto l62;
+if (i0) { goto l60; }
+goto l57;
 }
-l67:;
+l62:;
 j0 = UINT64_C(1);
 v1 = j0;
-l66:;
+l61:;
 j0 = v1;
 j1 = v16;
 i0 = (j0 != j1);
-if (i0) { goto l62; }
-l65:;
+if (i0) { goto l57; }
+l60:;
 i0 = v0;
 i1 = UINT32_C(55);
 i0 = (i0 != i1);
@@ -125835,46 +126567,46 @@ i1 = UINT32_C(4294967119);
 i0 = i0 + i1;
 switch (i0) {
 case 0:
-goto l73;
+goto l68;
 case 1:
-goto l75;
+goto l70;
 case 2:
-goto l75;
+goto l70;
 case 3:
-goto l75;
+goto l70;
 case 4:
-goto l75;
+goto l70;
 case 5:
-goto l76;
+goto l71;
 case 6:
-goto l75;
+goto l70;
 case 7:
-goto l75;
+goto l70;
 case 8:
-goto l75;
+goto l70;
 case 9:
-goto l74;
+goto l69;
 default:
-goto l75;
+goto l70;
 }
-l76:;
+l71:;
 j0 = v16;
 j1 = UINT64_C(3);
 i0 = (j0 < j1);
-if (i0) { goto l73; }
+if (i0) { goto l68; }
 j0 = v6;
-j0 = load8(p1 + 82);
+j0 = load8(p1 + 74);
 j1 = UINT64_C(3);
 j0 = j0 * j1;
 j1 = UINT64_C(8);
 j0 = j0 + j1;
 v1 = j0;
-goto l73;
-l75:;
+goto l68;
+l70:;
 i0 = v0;
 i1 = UINT32_C(177);
 i0 = (i0 < i1);
-if (i0) { goto l62; }
+if (i0) { goto l57; }
 i0 = v0;
 i1 = UINT32_C(180);
 i0 = (i0 < i1);
@@ -125884,22 +126616,22 @@ v1 = j0;
 i0 = v0;
 i1 = UINT32_C(182);
 i0 = (i0 < i1);
-if (i0) { goto l73; }
+if (i0) { goto l68; }
 i0 = v0;
 i1 = UINT32_C(189);
 i0 = (i0 < i1);
-if (i0) { goto l72; }
-goto l62;
+if (i0) { goto l67; }
+goto l57;
 }
-l74:;
+l69:;
 j0 = UINT64_C(2);
 v1 = j0;
-l73:;
+l68:;
 j0 = v1;
 j1 = v16;
 i0 = (j0 != j1);
-if (i0) { goto l62; }
-l72:;
+if (i0) { goto l57; }
+l67:;
 i0 = UINT32_C(3);
 v15 = i0;
 i0 = UINT32_C(1);
@@ -125930,7 +126662,7 @@ if (i0) { goto l2; }
 goto l5;
 }
 j0 = v6;
-j1 = UINT64_C(80);
+j1 = UINT64_C(72);
 j0 = j0 + j1;
 j1 = v16;
 i0 = fio_log_own_texts_spells(m, j0, j1);
@@ -125941,7 +126673,7 @@ v15 = i0;
 goto l5;
 }
 }
-l62:;
+l57:;
 i0 = UINT32_C(2);
 v15 = i0;
 l5:;
@@ -125952,10 +126684,7 @@ i0 = (i0 == 0);
 if (!i0) {
 j0 = v6;
 j1 = UINT64_C(0);
-store64(p1 + 12670, j1);
-j0 = v6;
-j1 = UINT64_C(0);
-store64(p1 + 12664, j1);
+store64(p1 + 12662, j1);
 j0 = v6;
 j1 = UINT64_C(0);
 store64(p1 + 12656, j1);
@@ -125966,11 +126695,14 @@ j0 = v6;
 j1 = UINT64_C(0);
 store64(p1 + 12640, j1);
 j0 = v6;
-i1 = UINT32_C(0);
-store32(p1 + 25216, i1);
+j1 = UINT64_C(0);
+store64(p1 + 12632, j1);
 j0 = v6;
 i1 = UINT32_C(0);
-store16(p1 + 25220, i1);
+store32(p1 + 48, i1);
+j0 = v6;
+i1 = UINT32_C(0);
+store16(p1 + 52, i1);
 i0 = UINT32_C(5);
 v8 = i0;
 i0 = UINT32_C(4);
@@ -125982,21 +126714,18 @@ i1 = UINT32_C(4294967295);
 i0 = i0 + i1;
 switch (i0) {
 case 0:
-goto l81;
+goto l76;
 case 1:
-goto l80;
+goto l75;
 case 2:
-goto l79;
+goto l74;
 default:
-goto l81;
+goto l76;
 }
-l81:;
+l76:;
 j0 = v6;
 j1 = UINT64_C(0);
-store64(p1 + 12670, j1);
-j0 = v6;
-j1 = UINT64_C(0);
-store64(p1 + 12664, j1);
+store64(p1 + 12662, j1);
 j0 = v6;
 j1 = UINT64_C(0);
 store64(p1 + 12656, j1);
@@ -126007,23 +126736,23 @@ j0 = v6;
 j1 = UINT64_C(0);
 store64(p1 + 12640, j1);
 j0 = v6;
-i1 = UINT32_C(0);
-store32(p1 + 25216, i1);
+j1 = UINT64_C(0);
+store64(p1 + 12632, j1);
 j0 = v6;
 i1 = UINT32_C(0);
-store16(p1 + 25220, i1);
+store32(p1 + 48, i1);
+j0 = v6;
+i1 = UINT32_C(0);
+store16(p1 + 52, i1);
 i0 = UINT32_C(6);
 v8 = i0;
 i0 = UINT32_C(4);
 v0 = i0;
 goto l4;
-l80:;
+l75:;
 j0 = v6;
 j1 = UINT64_C(0);
-store64(p1 + 12670, j1);
-j0 = v6;
-j1 = UINT64_C(0);
-store64(p1 + 12664, j1);
+store64(p1 + 12662, j1);
 j0 = v6;
 j1 = UINT64_C(0);
 store64(p1 + 12656, j1);
@@ -126034,19 +126763,22 @@ j0 = v6;
 j1 = UINT64_C(0);
 store64(p1 + 12640, j1);
 j0 = v6;
-i1 = UINT32_C(0);
-store32(p1 + 25216, i1);
+j1 = UINT64_C(0);
+store64(p1 + 12632, j1);
 j0 = v6;
 i1 = UINT32_C(0);
-store16(p1 + 25220, i1);
+store32(p1 + 48, i1);
+j0 = v6;
+i1 = UINT32_C(0);
+store16(p1 + 52, i1);
 i0 = UINT32_C(2);
 v8 = i0;
 i0 = UINT32_C(4);
 v0 = i0;
 goto l4;
-l79:;
+l74:;
 j0 = v6;
-j1 = UINT64_C(80);
+j1 = UINT64_C(72);
 j0 = j0 + j1;
 j1 = v16;
 i0 = fio_log_own_texts_spells(m, j0, j1);
@@ -126061,7 +126793,7 @@ i0 = (j0 == 0);
 if (!i0) {
 j0 = v4;
 j1 = v6;
-j2 = UINT64_C(80);
+j2 = UINT64_C(72);
 j1 = j1 + j2;
 j2 = v16;
 copy(m, j0, j1, j2);
@@ -126070,13 +126802,13 @@ j0 = v4;
 j1 = UINT64_C(16384);
 j0 = j0 + j1;
 j1 = v16;
-p36 = write_at(j0, m, 8208u);
-store64(p36 + 0, j1);
+p35 = write_at(j0, m, 8208u);
+store64(p35 + 0, j1);
 j0 = v4;
 j1 = UINT64_C(24584);
 j0 = j0 + j1;
 v2 = j0;
-j0 = load64(p36 + 8200);
+j0 = load64(p35 + 8200);
 v1 = j0;
 j1 = UINT64_C(2048);
 i0 = (j0 == j1);
@@ -126089,13 +126821,13 @@ j2 = UINT64_C(2);
 j1 = j1 << (j2 & 63);
 j0 = j0 + j1;
 j1 = v16;
-p37 = write_at(j0, m, 4u);
-store32(p37 + 0, j1);
+p36 = write_at(j0, m, 4u);
+store32(p36 + 0, j1);
 j0 = v2;
 j1 = v1;
 j2 = UINT64_C(1);
 j1 = j1 + j2;
-store64(p36 + 8200, j1);
+store64(p35 + 8200, j1);
 }
 }
 }
@@ -126103,8 +126835,8 @@ j0 = v4;
 j1 = UINT64_C(49168);
 j0 = j0 + j1;
 v2 = j0;
-p38 = read_at(j0, m, 8u);
-j0 = load64(p38 + 0);
+p37 = read_at(j0, m, 8u);
+j0 = load64(p37 + 0);
 v1 = j0;
 j1 = UINT64_C(1024);
 i0 = (j0 == j1);
@@ -126118,8 +126850,8 @@ v4 = j0;
 j1 = UINT64_C(24608);
 j0 = j0 + j1;
 j1 = v3;
-p39 = write_at(j0 + UINT64_C(18446744073709551600), m, 24u);
-store64(p39 + 16, j1);
+p38 = write_at(j0 + UINT64_C(18446744073709551600), m, 24u);
+store64(p38 + 16, j1);
 j0 = v4;
 j1 = UINT64_C(24600);
 j0 = j0 + j1;
@@ -126133,25 +126865,22 @@ j3 = v14;
 j4 = v3;
 i3 = (j3 < j4);
 j1 = i3 ? j1 : j2;
-store64(p39 + 8, j1);
+store64(p38 + 8, j1);
 j0 = v4;
 j1 = UINT64_C(24592);
 j0 = j0 + j1;
 j1 = v7;
-store64(p39 + 0, j1);
+store64(p38 + 0, j1);
 j0 = v2;
 j1 = v1;
 j2 = UINT64_C(1);
 j1 = j1 + j2;
-p40 = write_at(j0, m, 8u);
-store64(p40 + 0, j1);
+p39 = write_at(j0, m, 8u);
+store64(p39 + 0, j1);
 }
 j0 = v6;
 j1 = UINT64_C(0);
-store64(p1 + 12670, j1);
-j0 = v6;
-j1 = UINT64_C(0);
-store64(p1 + 12664, j1);
+store64(p1 + 12662, j1);
 j0 = v6;
 j1 = UINT64_C(0);
 store64(p1 + 12656, j1);
@@ -126161,25 +126890,24 @@ store64(p1 + 12648, j1);
 j0 = v6;
 j1 = UINT64_C(0);
 store64(p1 + 12640, j1);
+j0 = v6;
+j1 = UINT64_C(0);
+store64(p1 + 12632, j1);
 i0 = UINT32_C(0);
 v8 = i0;
 j0 = v6;
 i1 = UINT32_C(0);
-store32(p1 + 25216, i1);
+store32(p1 + 48, i1);
 j0 = v6;
 i1 = UINT32_C(0);
-store16(p1 + 25220, i1);
+store16(p1 + 52, i1);
 i0 = UINT32_C(1);
 v0 = i0;
 l4:;
 j0 = v6;
 j1 = v6;
-j1 = load64(p1 + 12670);
-store64(p1 + 46, j1);
-j0 = v6;
-j1 = v6;
-j1 = load64(p1 + 12664);
-store64(p1 + 40, j1);
+j1 = load64(p1 + 12662);
+store64(p1 + 38, j1);
 j0 = v6;
 j1 = v6;
 j1 = load64(p1 + 12656);
@@ -126194,61 +126922,65 @@ j1 = load64(p1 + 12640);
 store64(p1 + 16, j1);
 j0 = v6;
 j1 = v6;
-i1 = load32(p1 + 25216);
-store32(p1 + 8, i1);
+j1 = load64(p1 + 12632);
+store64(p1 + 8, j1);
 j0 = v6;
 j1 = v6;
-i1 = load16(p1 + 25220);
-store16(p1 + 12, i1);
+i1 = load32(p1 + 48);
+store32(p1 + 0, i1);
+j0 = v6;
+j1 = v6;
+i1 = load16(p1 + 52);
+store16(p1 + 4, i1);
 j0 = v5;
 i1 = v8;
-p41 = write_at(j0, m, 56u);
-store8(p41 + 9, i1);
+p40 = write_at(j0, m, 56u);
+store8(p40 + 9, i1);
 j0 = v5;
 i1 = v0;
-store8(p41 + 8, i1);
+store8(p40 + 8, i1);
 j0 = v5;
 j1 = v7;
-store64(p41 + 0, j1);
+store64(p40 + 0, j1);
 j0 = v5;
 i1 = v11;
-store8(p41 + 49, i1);
+store8(p40 + 49, i1);
 j0 = v5;
 i1 = v12;
-store8(p41 + 48, i1);
+store8(p40 + 48, i1);
+j0 = v5;
+j1 = v6;
+j1 = load64(p1 + 8);
+store64(p40 + 10, j1);
 j0 = v5;
 j1 = v6;
 j1 = load64(p1 + 16);
-store64(p41 + 10, j1);
+store64(p40 + 18, j1);
 j0 = v5;
 j1 = v6;
 j1 = load64(p1 + 24);
-store64(p41 + 18, j1);
+store64(p40 + 26, j1);
 j0 = v5;
 j1 = v6;
 j1 = load64(p1 + 32);
-store64(p41 + 26, j1);
+store64(p40 + 34, j1);
 j0 = v5;
 j1 = v6;
-j1 = load64(p1 + 40);
-store64(p41 + 34, j1);
+j1 = load64(p1 + 38);
+store64(p40 + 40, j1);
 j0 = v5;
 j1 = v6;
-j1 = load64(p1 + 46);
-store64(p41 + 40, j1);
+i1 = load32(p1 + 0);
+store32(p40 + 50, i1);
 j0 = v5;
 j1 = v6;
-i1 = load32(p1 + 8);
-store32(p41 + 50, i1);
-j0 = v5;
-j1 = v6;
-i1 = load16(p1 + 12);
-store16(p41 + 54, i1);
+i1 = load16(p1 + 4);
+store16(p40 + 54, i1);
 i0 = UINT32_C(1);
 v0 = i0;
 l3:;
 j0 = v6;
-j1 = UINT64_C(26000);
+j1 = UINT64_C(25184);
 j0 = j0 + j1;
 m->g0 = j0;
 i0 = v0;
@@ -126274,16 +127006,15 @@ uint64_t v12 = 0;
 uint64_t v13 = 0;
 uint64_t v14 = 0;
 uint64_t v15 = 0;
-uint64_t v16 = 0;
-uint32_t v17 = 0;
+uint32_t v16 = 0;
+uint64_t v17 = 0;
 uint64_t v18 = 0;
 uint64_t v19 = 0;
 uint64_t v20 = 0;
 uint64_t v21 = 0;
-uint64_t v22 = 0;
+uint32_t v22 = 0;
 uint32_t v23 = 0;
 uint32_t v24 = 0;
-uint32_t v25 = 0;
 uint32_t i0;
 uint32_t i1;
 uint32_t i2;
@@ -126356,6 +127087,10 @@ uint8_t *p60;
 uint8_t *p61;
 uint8_t *p62;
 uint8_t *p63;
+uint8_t *p64;
+uint8_t *p65;
+uint8_t *p66;
+uint8_t *p67;
 j0 = m->g0;
 j1 = UINT64_C(69808);
 j0 = j0 - j1;
@@ -126368,7 +127103,7 @@ j1 = UINT64_C(16);
 i0 = (SIGNED64(j0) < SIGNED64(j1));
 if (!i0) {
 j0 = v0;
-j1 = UINT64_C(336520);
+j1 = UINT64_C(336536);
 j0 = j0 + j1;
 p2 = read_at(j0, m, 1u);
 i0 = load8(p2 + 0);
@@ -126384,7 +127119,7 @@ v6 = j0;
 i0 = UINT32_C(1);
 v7 = i0;
 j0 = v0;
-j1 = UINT64_C(336584);
+j1 = UINT64_C(336600);
 j0 = j0 + j1;
 p4 = read_at(j0, m, 1u);
 i0 = load8(p4 + 0);
@@ -126394,7 +127129,7 @@ if (i0) { goto l4; }
 j0 = UINT64_C(0);
 v3 = j0;
 j0 = v0;
-j1 = UINT64_C(323944);
+j1 = UINT64_C(323960);
 j0 = j0 + j1;
 p5 = read_at(j0, m, 8u);
 j0 = load64(p5 + 0);
@@ -126405,7 +127140,7 @@ j0 = v2;
 v3 = j0;
 j0 = UINT64_C(18446744073709551615);
 j1 = v0;
-j2 = UINT64_C(323952);
+j2 = UINT64_C(323968);
 j1 = j1 + j2;
 p6 = read_at(j1, m, 8u);
 j1 = load64(p6 + 0);
@@ -126430,13 +127165,16 @@ if (!i0) {
 j0 = UINT64_C(0);
 v3 = j0;
 j0 = v0;
-j1 = UINT64_C(323944);
+j1 = UINT64_C(323960);
 j0 = j0 + j1;
 j1 = UINT64_C(0);
 p7 = write_at(j0, m, 8u);
 store64(p7 + 0, j1);
 }
 }
+j0 = v4;
+j1 = UINT64_C(0);
+store64(p1 + 32, j1);
 j0 = v4;
 j1 = UINT64_C(0);
 store64(p1 + 40, j1);
@@ -126454,15 +127192,18 @@ j1 = UINT64_C(0);
 store64(p1 + 72, j1);
 j0 = v4;
 j1 = UINT64_C(0);
-store64(p1 + 80, j1);
+store64(p1 + 0, j1);
+j0 = v4;
+j1 = UINT64_C(0);
+store64(p1 + 8, j1);
+j0 = v4;
+j1 = UINT64_C(0);
+store64(p1 + 16, j1);
 j0 = v4;
 j1 = UINT64_C(0);
 store64(p1 + 24, j1);
-j0 = v4;
-j1 = UINT64_C(0);
-store64(p1 + 32, j1);
 j0 = v0;
-j1 = UINT64_C(336528);
+j1 = UINT64_C(336544);
 j0 = j0 + j1;
 p8 = read_at(j0, m, 1u);
 i0 = load8(p8 + 0);
@@ -126470,7 +127211,7 @@ i1 = UINT32_C(1);
 i0 = (i0 == i1);
 if (i0) { goto l4; }
 j0 = v0;
-j1 = UINT64_C(323960);
+j1 = UINT64_C(323976);
 j0 = j0 + j1;
 v9 = j0;
 p9 = read_at(j0, m, 1u);
@@ -126479,7 +127220,7 @@ i1 = UINT32_C(1);
 i0 = (i0 != i1);
 if (i0) { goto l5; }
 j0 = v0;
-j1 = UINT64_C(254000);
+j1 = UINT64_C(254016);
 j0 = j0 + j1;
 p10 = read_at(j0, m, 1u);
 i0 = load8(p10 + 0);
@@ -126487,7 +127228,7 @@ if (i0) { goto l5; }
 j0 = UINT64_C(0);
 v2 = j0;
 j0 = v0;
-j1 = UINT64_C(278656);
+j1 = UINT64_C(278672);
 j0 = j0 + j1;
 p11 = read_at(j0, m, 8u);
 j0 = load64(p11 + 0);
@@ -126495,82 +127236,78 @@ j1 = UINT64_C(0);
 i0 = (j0 != j1);
 if (i0) { goto l5; }
 j0 = v0;
-j1 = UINT64_C(238104);
-j0 = j0 + j1;
-v10 = j0;
-j0 = v0;
-j1 = UINT64_C(336512);
+j1 = UINT64_C(336528);
 j0 = j0 + j1;
 p12 = read_at(j0, m, 8u);
 j0 = load64(p12 + 0);
-v11 = j0;
+v10 = j0;
 j0 = v4;
-j1 = UINT64_C(18328);
+j1 = UINT64_C(18320);
 j0 = j0 + j1;
 i1 = UINT32_C(0);
 j2 = UINT64_C(12552);
 fill(m, j0, i1, j2);
 j0 = v4;
-j1 = UINT64_C(14984);
+j1 = UINT64_C(14976);
 j0 = j0 + j1;
 i1 = UINT32_C(0);
 j2 = UINT64_C(3344);
 fill(m, j0, i1, j2);
 j0 = v4;
-j1 = UINT64_C(2440);
+j1 = UINT64_C(2432);
 j0 = j0 + j1;
 i1 = UINT32_C(0);
 j2 = UINT64_C(12544);
 fill(m, j0, i1, j2);
 j0 = v4;
-j1 = UINT64_C(1656);
+j1 = UINT64_C(1648);
 j0 = j0 + j1;
 i1 = UINT32_C(0);
 j2 = UINT64_C(784);
 fill(m, j0, i1, j2);
 j0 = v4;
-j1 = UINT64_C(872);
+j1 = UINT64_C(864);
 j0 = j0 + j1;
 i1 = UINT32_C(0);
 j2 = UINT64_C(784);
 fill(m, j0, i1, j2);
 j0 = v4;
-j1 = UINT64_C(88);
+j1 = UINT64_C(80);
 j0 = j0 + j1;
 i1 = UINT32_C(0);
 j2 = UINT64_C(784);
 fill(m, j0, i1, j2);
 j0 = v4;
-j1 = UINT64_C(30880);
+j1 = UINT64_C(30872);
 j0 = j0 + j1;
 i1 = UINT32_C(0);
 j2 = UINT64_C(12544);
 fill(m, j0, i1, j2);
 j0 = v4;
-j1 = UINT64_C(43424);
+j1 = UINT64_C(43416);
 j0 = j0 + j1;
 i1 = UINT32_C(0);
 j2 = UINT64_C(12544);
 fill(m, j0, i1, j2);
 j0 = v4;
-j1 = UINT64_C(56616);
+j1 = UINT64_C(56608);
 j0 = j0 + j1;
 i1 = UINT32_C(0);
 j2 = UINT64_C(12544);
 fill(m, j0, i1, j2);
 j0 = v4;
-j1 = UINT64_C(69166);
+j1 = UINT64_C(69158);
 j0 = j0 + j1;
 v8 = j0;
 l9:;
 j0 = v4;
 i1 = UINT32_C(0);
-store16(p1 + 69164, i1);
+store16(p1 + 69156, i1);
 j0 = v4;
 i1 = UINT32_C(0);
-store32(p1 + 69160, i1);
+store32(p1 + 69152, i1);
 j0 = v4;
-j1 = UINT64_C(69296);
+j1 = UINT64_C(69288);
 j0 = j0 + j1;
 i1 = UINT32_C(0);
 j2 = UINT64_C(512);
@@ -126579,7 +127316,7 @@ j0 = UINT64_C(0);
 v3 = j0;
 for (;;) {
 j0 = v4;
-j1 = UINT64_C(69296);
+j1 = UINT64_C(69288);
 j0 = j0 + j1;
 j1 = v3;
 j0 = j0 + j1;
@@ -126599,23 +127336,23 @@ i1 = UINT32_C(0);
 j2 = UINT64_C(128);
 fill(m, j0, i1, j2);
 j0 = v4;
-j1 = UINT64_C(55970);
+j1 = UINT64_C(55962);
 j0 = j0 + j1;
 j1 = v4;
-j2 = UINT64_C(69160);
+j2 = UINT64_C(69152);
 j1 = j1 + j2;
 j2 = UINT64_C(134);
 copy(m, j0, j1, j2);
 j0 = v4;
-j1 = UINT64_C(56104);
+j1 = UINT64_C(56096);
 j0 = j0 + j1;
 j1 = v4;
-j2 = UINT64_C(69296);
+j2 = UINT64_C(69288);
 j1 = j1 + j2;
 j2 = UINT64_C(512);
 copy(m, j0, j1, j2);
 j0 = v4;
-j1 = UINT64_C(56616);
+j1 = UINT64_C(56608);
 j0 = j0 + j1;
 j1 = v2;
 j2 = UINT64_C(784);
@@ -126623,7 +127360,7 @@ j1 = j1 * j2;
 j0 = j0 + j1;
 v3 = j0;
 j1 = v4;
-j2 = UINT64_C(56104);
+j2 = UINT64_C(56096);
 j1 = j1 + j2;
 j2 = UINT64_C(512);
 copy(m, j0, j1, j2);
@@ -126632,7 +127369,7 @@ i1 = UINT32_C(0);
 p14 = write_at(j0 + UINT64_C(512), m, 152u);
 store16(p14 + 8, i1);
 j0 = UINT64_C(0);
-v12 = j0;
+v11 = j0;
 j0 = v3;
 j1 = UINT64_C(0);
 store64(p14 + 0, j1);
@@ -126640,7 +127377,7 @@ j0 = v3;
 j1 = UINT64_C(522);
 j0 = j0 + j1;
 j1 = v4;
-j2 = UINT64_C(55970);
+j2 = UINT64_C(55962);
 j1 = j1 + j2;
 j2 = UINT64_C(134);
 copy(m, j0, j1, j2);
@@ -126661,125 +127398,134 @@ j1 = UINT64_C(16);
 i0 = (j0 != j1);
 if (i0) { goto l9; }
 j0 = v4;
-j1 = UINT64_C(43424);
+j1 = UINT64_C(43416);
 j0 = j0 + j1;
 j1 = v4;
-j2 = UINT64_C(56616);
+j2 = UINT64_C(56608);
 j1 = j1 + j2;
 j2 = UINT64_C(12544);
 copy(m, j0, j1, j2);
 j0 = v4;
-j1 = UINT64_C(30880);
+j1 = UINT64_C(30872);
 j0 = j0 + j1;
 j1 = v4;
-j2 = UINT64_C(43424);
+j2 = UINT64_C(43416);
 j1 = j1 + j2;
 j2 = UINT64_C(12544);
 copy(m, j0, j1, j2);
 j0 = v4;
-j1 = UINT64_C(2440);
+j1 = UINT64_C(2432);
 j0 = j0 + j1;
 j1 = v4;
-j2 = UINT64_C(30880);
+j2 = UINT64_C(30872);
 j1 = j1 + j2;
 j2 = UINT64_C(12544);
 copy(m, j0, j1, j2);
 j0 = v4;
-j1 = UINT64_C(18328);
+j1 = UINT64_C(18320);
 j0 = j0 + j1;
 j1 = v4;
-j2 = UINT64_C(2440);
+j2 = UINT64_C(2432);
 j1 = j1 + j2;
 j2 = UINT64_C(12544);
 copy(m, j0, j1, j2);
 j0 = v4;
-j1 = UINT64_C(14984);
+j1 = UINT64_C(14976);
 j0 = j0 + j1;
 i1 = UINT32_C(0);
 j2 = UINT64_C(3336);
 fill(m, j0, i1, j2);
 j0 = v4;
 j1 = v0;
-j2 = UINT64_C(253992);
+j2 = UINT64_C(254008);
 j1 = j1 + j2;
-p15 = read_at(j1 + UINT64_C(18446744073709548272), m, 3352u);
-j1 = load64(p15 + 3344);
-store64(p1 + 18320, j1);
+p15 = read_at(j1 + UINT64_C(18446744073709535720), m, 15904u);
+j1 = load64(p15 + 15896);
+store64(p1 + 18312, j1);
 j0 = v0;
-j1 = UINT64_C(250656);
+j1 = UINT64_C(250672);
 j0 = j0 + j1;
+v12 = j0;
+j0 = v0;
+j1 = UINT64_C(238112);
+j0 = j0 + j1;
+i0 = load8(p15 + 0);
+i1 = UINT32_C(1);
+i0 = (i0 != i1);
+if (i0) { goto l6; }
+j0 = v0;
+j1 = UINT64_C(250664);
+j0 = j0 + j1;
+j0 = load64(p15 + 12552);
 v13 = j0;
-j0 = v0;
-j1 = UINT64_C(250648);
-j0 = j0 + j1;
-j0 = load64(p15 + 0);
-v14 = j0;
 i0 = (j0 == 0);
 if (i0) { goto l6; }
-j0 = UINT64_C(0);
-v12 = j0;
-j0 = v10;
+j0 = v0;
+j1 = UINT64_C(238120);
+j0 = j0 + j1;
 v2 = j0;
 j0 = UINT64_C(0);
-v15 = j0;
+v11 = j0;
+j0 = UINT64_C(0);
+v14 = j0;
 j0 = UINT64_C(0);
 v3 = j0;
 l11:;
-j0 = v15;
+j0 = v14;
 v8 = j0;
 j0 = v3;
 j1 = v0;
-j2 = UINT64_C(323936);
+j2 = UINT64_C(323952);
 j1 = j1 + j2;
 p16 = read_at(j1, m, 8u);
 j1 = load64(p16 + 0);
 i0 = (j0 < j1);
 if (!i0) {
 j0 = v8;
-v15 = j0;
+v14 = j0;
 goto l12;
 }
 j0 = v4;
-j1 = UINT64_C(1656);
+j1 = UINT64_C(1648);
 j0 = j0 + j1;
 j1 = v2;
 fio_form_form_LineForm_copied(m, j0, j1);
 j0 = UINT64_C(16);
-v15 = j0;
+v14 = j0;
 j0 = v8;
 j1 = UINT64_C(16);
 i0 = (j0 == j1);
 if (!i0) {
 j0 = v4;
-j1 = UINT64_C(18328);
+j1 = UINT64_C(18320);
 j0 = j0 + j1;
 j1 = v8;
 j2 = UINT64_C(784);
 j1 = j1 * j2;
 j0 = j0 + j1;
 j1 = v4;
-j2 = UINT64_C(1656);
+j2 = UINT64_C(1648);
 j1 = j1 + j2;
 j2 = UINT64_C(784);
 copy(m, j0, j1, j2);
 j0 = v4;
-j1 = UINT64_C(14984);
+j1 = UINT64_C(14976);
 j0 = j0 + j1;
-j1 = v13;
+j1 = v12;
 j2 = v3;
 fio_log_counts_Counts_add_from(m, j0, j1, j2);
 j0 = v8;
 j1 = UINT64_C(1);
 j0 = j0 + j1;
-v12 = j0;
-v15 = j0;
+v11 = j0;
+v14 = j0;
 }
 l12:;
 j0 = v2;
 j1 = UINT64_C(784);
 j0 = j0 + j1;
 v2 = j0;
-j0 = v14;
+j0 = v13;
 j1 = v3;
 j2 = UINT64_C(1);
 j1 = j1 + j2;
@@ -126791,107 +127537,133 @@ goto l6;
 fio2070_trap();
 l6:;
 j0 = v0;
-j1 = UINT64_C(323968);
+j1 = UINT64_C(323984);
 j0 = j0 + j1;
-v16 = j0;
-j0 = v11;
+v15 = j0;
+j0 = v10;
 i0 = (j0 == 0);
-v17 = i0;
+v16 = i0;
 if (!i0) {
 j0 = v0;
-j1 = UINT64_C(238882);
+j1 = UINT64_C(238898);
+j0 = j0 + j1;
+v17 = j0;
+j0 = v0;
+j1 = UINT64_C(238120);
 j0 = j0 + j1;
 v18 = j0;
 j0 = UINT64_C(0);
 v19 = j0;
-j0 = v12;
+j0 = v11;
 v3 = j0;
 l15:;
 j0 = v3;
 v20 = j0;
-j0 = v16;
-j1 = v19;
-j2 = UINT64_C(784);
-j1 = j1 * j2;
+j0 = v19;
+j1 = UINT64_C(784);
+j0 = j0 * j1;
+v2 = j0;
+j0 = v4;
+j1 = UINT64_C(69800);
+j0 = j0 + j1;
+v8 = j0;
+j0 = UINT64_C(0);
+v3 = j0;
+j0 = v0;
+j1 = UINT64_C(238112);
+j0 = j0 + j1;
+p17 = read_at(j0, m, 1u);
+i0 = load8(p17 + 0);
+i1 = UINT32_C(1);
+i0 = (i0 != i1);
+if (!i0) {
+j0 = v0;
+j1 = UINT64_C(250664);
+j0 = j0 + j1;
+p18 = read_at(j0, m, 8u);
+j0 = load64(p18 + 0);
+v3 = j0;
+j0 = v18;
+v8 = j0;
+}
+j0 = v15;
+j1 = v2;
 j0 = j0 + j1;
 v2 = j0;
-j0 = v0;
-j1 = UINT64_C(250648);
-j0 = j0 + j1;
-p17 = read_at(j0, m, 73296u);
-j0 = load64(p17 + 0);
-v3 = j0;
+j0 = v3;
 j1 = v0;
-j2 = UINT64_C(323936);
+j2 = UINT64_C(323952);
 j1 = j1 + j2;
-j1 = load64(p17 + 73288);
-v8 = j1;
+p19 = read_at(j1, m, 8u);
+j1 = load64(p19 + 0);
+v14 = j1;
 j2 = v3;
-j3 = v8;
+j3 = v14;
 i2 = (j2 < j3);
 j0 = i2 ? j0 : j1;
-v15 = j0;
+v14 = j0;
 i0 = (j0 == 0);
 if (!i0) {
+j0 = v8;
+j1 = UINT64_C(664);
+j0 = j0 + j1;
+v3 = j0;
 j0 = v2;
 j1 = UINT64_C(664);
 j0 = j0 + j1;
 v21 = j0;
 j0 = UINT64_C(0);
 v8 = j0;
-j0 = v10;
-v3 = j0;
-l19:;
+l20:;
 j0 = v3;
+j1 = UINT64_C(18446744073709550952);
+j0 = j0 + j1;
 j0 = fio_guess_hashes_hash_of(m, j0);
 j1 = v2;
 j1 = fio_guess_hashes_hash_of(m, j1);
 i0 = (j0 != j1);
 if (!i0) {
 j0 = v3;
-j1 = UINT64_C(778);
+j1 = UINT64_C(114);
 j0 = j0 + j1;
-p18 = read_at(j0, m, 1u);
-i0 = load8(p18 + 0);
+p20 = read_at(j0, m, 1u);
+i0 = load8(p20 + 0);
 j1 = v2;
 j2 = UINT64_C(778);
 j1 = j1 + j2;
-p19 = read_at(j1, m, 1u);
-i1 = load8(p19 + 0);
+p21 = read_at(j1, m, 1u);
+i1 = load8(p21 + 0);
 i0 = (i0 != i1);
 if (!i0) {
 j0 = v3;
-j1 = UINT64_C(760);
+j1 = UINT64_C(96);
 j0 = j0 + j1;
-p20 = read_at(j0, m, 8u);
-j0 = load64(p20 + 0);
-v14 = j0;
+p22 = read_at(j0, m, 8u);
+j0 = load64(p22 + 0);
+v13 = j0;
 j1 = v2;
 j2 = UINT64_C(760);
 j1 = j1 + j2;
-p21 = read_at(j1, m, 8u);
-j1 = load64(p21 + 0);
+p23 = read_at(j1, m, 8u);
+j1 = load64(p23 + 0);
 i0 = (j0 != j1);
 if (!i0) {
-j0 = v14;
+j0 = v13;
 i0 = (j0 == 0);
-if (i0) { goto l18; }
+if (i0) { goto l19; }
 j0 = v3;
-j1 = UINT64_C(664);
-j0 = j0 + j1;
-v22 = j0;
-p22 = read_at(j0, m, 4u);
-i0 = load32(p22 + 0);
+p24 = read_at(j0, m, 4u);
+i0 = load32(p24 + 0);
 j1 = v21;
-p23 = read_at(j1, m, 4u);
-i1 = load32(p23 + 0);
+p25 = read_at(j1, m, 4u);
+i1 = load32(p25 + 0);
 i0 = (i0 != i1);
 if (!i0) {
-j0 = v22;
-j1 = v14;
+j0 = v3;
+j1 = v13;
 j2 = v21;
 i0 = core_cmp_slices_groups_equal_i32_32_core_cmp_numbers_U32PartialEq(m, j0, j1, j2);
-if (i0) { goto l18; }
+if (i0) { goto l19; }
 }
 }
 }
@@ -126900,27 +127672,27 @@ j0 = v3;
 j1 = UINT64_C(784);
 j0 = j0 + j1;
 v3 = j0;
-j0 = v15;
+j0 = v14;
 j1 = v8;
 j2 = UINT64_C(1);
 j1 = j1 + j2;
 v8 = j1;
 i0 = (j0 != j1);
-if (i0) { goto l19; }
-goto l17;
-l18:;
+if (i0) { goto l20; }
+goto l18;
+l19:;
 j0 = v8;
-j1 = v15;
+j1 = v14;
 i0 = (j0 >= j1);
 if (!i0) {
 j0 = v20;
 v3 = j0;
-goto l16;
+goto l17;
 }
 }
-l17:;
+l18:;
 j0 = v4;
-j1 = UINT64_C(872);
+j1 = UINT64_C(864);
 j0 = j0 + j1;
 j1 = v2;
 fio_form_form_LineForm_copied(m, j0, j1);
@@ -126931,37 +127703,42 @@ j1 = UINT64_C(16);
 i0 = (j0 == j1);
 if (!i0) {
 j0 = v4;
-j1 = UINT64_C(18328);
+j1 = UINT64_C(18320);
 j0 = j0 + j1;
 j1 = v20;
 j2 = UINT64_C(784);
 j1 = j1 * j2;
 j0 = j0 + j1;
 j1 = v4;
-j2 = UINT64_C(872);
+j2 = UINT64_C(864);
 j1 = j1 + j2;
 j2 = UINT64_C(784);
 copy(m, j0, j1, j2);
-j0 = v0;
-j1 = UINT64_C(250648);
-j0 = j0 + j1;
-p24 = read_at(j0, m, 8u);
-j0 = load64(p24 + 0);
-v15 = j0;
-i0 = (j0 == 0);
-i0 = (i0 == 0);
-if (!i0) {
 j0 = UINT64_C(0);
 v8 = j0;
-goto l21;
-}
+j0 = v0;
+j1 = UINT64_C(238112);
+j0 = j0 + j1;
+p26 = read_at(j0, m, 1u);
+i0 = load8(p26 + 0);
+i1 = UINT32_C(1);
+i0 = (i0 != i1);
+if (!i0) {
+j0 = v0;
+j1 = UINT64_C(250664);
+j0 = j0 + j1;
+p27 = read_at(j0, m, 8u);
+j0 = load64(p27 + 0);
+v14 = j0;
+i0 = (j0 == 0);
+if (!i0) {
 j0 = v2;
 j1 = UINT64_C(664);
 j0 = j0 + j1;
 v21 = j0;
 j0 = UINT64_C(0);
 v8 = j0;
-j0 = v18;
+j0 = v17;
 v3 = j0;
 l23:;
 j0 = v3;
@@ -126973,47 +127750,47 @@ j1 = fio_guess_hashes_hash_of(m, j1);
 i0 = (j0 != j1);
 if (!i0) {
 j0 = v3;
-p25 = read_at(j0, m, 1u);
-i0 = load8(p25 + 0);
+p28 = read_at(j0, m, 1u);
+i0 = load8(p28 + 0);
 j1 = v2;
 j2 = UINT64_C(778);
 j1 = j1 + j2;
-p26 = read_at(j1, m, 1u);
-i1 = load8(p26 + 0);
+p29 = read_at(j1, m, 1u);
+i1 = load8(p29 + 0);
 i0 = (i0 != i1);
 if (!i0) {
 j0 = v3;
 j1 = UINT64_C(18446744073709551598);
 j0 = j0 + j1;
-p27 = read_at(j0, m, 8u);
-j0 = load64(p27 + 0);
-v14 = j0;
+p30 = read_at(j0, m, 8u);
+j0 = load64(p30 + 0);
+v13 = j0;
 j1 = v2;
 j2 = UINT64_C(760);
 j1 = j1 + j2;
-p28 = read_at(j1, m, 8u);
-j1 = load64(p28 + 0);
+p31 = read_at(j1, m, 8u);
+j1 = load64(p31 + 0);
 i0 = (j0 != j1);
 if (!i0) {
-j0 = v14;
+j0 = v13;
 i0 = (j0 == 0);
-if (i0) { goto l21; }
+if (i0) { goto l22; }
 j0 = v3;
 j1 = UINT64_C(18446744073709551502);
 j0 = j0 + j1;
-v22 = j0;
-p29 = read_at(j0, m, 4u);
-i0 = load32(p29 + 0);
+v11 = j0;
+p32 = read_at(j0, m, 4u);
+i0 = load32(p32 + 0);
 j1 = v21;
-p30 = read_at(j1, m, 4u);
-i1 = load32(p30 + 0);
+p33 = read_at(j1, m, 4u);
+i1 = load32(p33 + 0);
 i0 = (i0 != i1);
 if (!i0) {
-j0 = v22;
-j1 = v14;
+j0 = v11;
+j1 = v13;
 j2 = v21;
 i0 = core_cmp_slices_groups_equal_i32_32_core_cmp_numbers_U32PartialEq(m, j0, j1, j2);
-if (i0) { goto l21; }
+if (i0) { goto l22; }
 }
 }
 }
@@ -127022,106 +127799,120 @@ j0 = v3;
 j1 = UINT64_C(784);
 j0 = j0 + j1;
 v3 = j0;
-j0 = v15;
+j0 = v14;
 j1 = v8;
 j2 = UINT64_C(1);
 j1 = j1 + j2;
 v8 = j1;
 i0 = (j0 != j1);
 if (i0) { goto l23; }
-j0 = v15;
+j0 = v14;
 v8 = j0;
-l21:;
+}
+}
+l22:;
 j0 = v4;
-j1 = UINT64_C(14984);
+j1 = UINT64_C(14976);
 j0 = j0 + j1;
-j1 = v13;
+j1 = v12;
 j2 = v8;
 fio_log_counts_Counts_add_from(m, j0, j1, j2);
 j0 = v20;
 j1 = UINT64_C(1);
 j0 = j0 + j1;
-v12 = j0;
+v11 = j0;
 v3 = j0;
 }
-l16:;
+l17:;
 j0 = v19;
 j1 = UINT64_C(1);
 j0 = j0 + j1;
 v19 = j0;
-j1 = v11;
+j1 = v10;
 i0 = (j0 != j1);
 if (i0) { goto l15; }
 }
 j0 = v0;
-j1 = UINT64_C(250648);
+j1 = UINT64_C(238112);
 j0 = j0 + j1;
-v20 = j0;
-p31 = read_at(j0, m, 8u);
-j0 = load64(p31 + 0);
-v22 = j0;
+v17 = j0;
+p34 = read_at(j0, m, 1u);
+i0 = load8(p34 + 0);
+i1 = UINT32_C(1);
+i0 = (i0 != i1);
+if (!i0) {
+j0 = v0;
+j1 = UINT64_C(250664);
+j0 = j0 + j1;
+p35 = read_at(j0, m, 8u);
+j0 = load64(p35 + 0);
+v19 = j0;
 i0 = (j0 == 0);
 if (!i0) {
 j0 = v0;
-j1 = UINT64_C(324480);
+j1 = UINT64_C(238120);
 j0 = j0 + j1;
-v19 = j0;
+v20 = j0;
+j0 = v0;
+j1 = UINT64_C(324496);
+j0 = j0 + j1;
+v18 = j0;
 j0 = UINT64_C(0);
-v14 = j0;
-j0 = v12;
+v13 = j0;
+j0 = v11;
 v3 = j0;
 l26:;
 j0 = v3;
 v21 = j0;
 j0 = v0;
-j1 = UINT64_C(323936);
+j1 = UINT64_C(323952);
 j0 = j0 + j1;
-p32 = read_at(j0, m, 8u);
-j0 = load64(p32 + 0);
-j1 = v14;
+p36 = read_at(j0, m, 8u);
+j0 = load64(p36 + 0);
+j1 = v13;
 i0 = (j0 <= j1);
 if (!i0) {
 j0 = v21;
 v3 = j0;
 goto l27;
 }
-j0 = v10;
-j1 = v14;
+j0 = v20;
+j1 = v13;
 j2 = UINT64_C(784);
 j1 = j1 * j2;
 j0 = j0 + j1;
 v8 = j0;
-i0 = v17;
+i0 = v16;
 if (!i0) {
-j0 = v16;
+j0 = v15;
 v3 = j0;
-j0 = v11;
+j0 = v10;
 v2 = j0;
 j0 = v8;
 j1 = UINT64_C(512);
 j0 = j0 + j1;
-p33 = read_at(j0, m, 8u);
-j0 = load64(p33 + 0);
-v15 = j0;
+p37 = read_at(j0, m, 8u);
+j0 = load64(p37 + 0);
+v14 = j0;
 j1 = UINT64_C(2);
 i0 = (j0 >= j1);
 if (!i0) {
-j0 = v19;
+j0 = v18;
 v3 = j0;
-j0 = v11;
+j0 = v10;
 v2 = j0;
-j0 = v15;
+j0 = v14;
 i0 = (j0 == 0);
 i0 = (i0 == 0);
 if (!i0) {
-j0 = v19;
+j0 = v18;
 v3 = j0;
-j0 = v11;
+j0 = v10;
 v2 = j0;
 l32:;
 j0 = v3;
-p34 = read_at(j0, m, 8u);
-j0 = load64(p34 + 0);
+p38 = read_at(j0, m, 8u);
+j0 = load64(p38 + 0);
 i0 = (j0 == 0);
 i0 = (i0 == 0);
 if (!i0) {
@@ -127144,24 +127935,24 @@ goto l29;
 }
 l35:;
 j0 = v3;
-p35 = read_at(j0, m, 8u);
-j0 = load64(p35 + 0);
+p39 = read_at(j0, m, 8u);
+j0 = load64(p39 + 0);
 j1 = UINT64_C(1);
 i0 = (j0 != j1);
 if (!i0) {
 j0 = v8;
-p36 = read_at(j0, m, 1u);
-i0 = load8(p36 + 0);
-v23 = i0;
+p40 = read_at(j0, m, 1u);
+i0 = load8(p40 + 0);
+v22 = i0;
 j0 = v3;
 j1 = UINT64_C(18446744073709551104);
 j0 = j0 + j1;
-p37 = read_at(j0, m, 1u);
-i0 = load8(p37 + 0);
-v24 = i0;
+p41 = read_at(j0, m, 1u);
+i0 = load8(p41 + 0);
+v23 = i0;
 if (!i0) {
-i0 = v24;
-i1 = v23;
+i0 = v23;
+i1 = v22;
 i2 = UINT32_C(255);
 i1 = i1 & i2;
 i0 = (i0 != i1);
@@ -127169,13 +127960,13 @@ if (!i0) {
 j0 = v3;
 j1 = UINT64_C(18446744073709551105);
 j0 = j0 + j1;
-p38 = read_at(j0, m, 1u);
-i0 = load8(p38 + 0);
+p42 = read_at(j0, m, 1u);
+i0 = load8(p42 + 0);
 j1 = v8;
 j2 = UINT64_C(1);
 j1 = j1 + j2;
-p39 = read_at(j1, m, 1u);
-i1 = load8(p39 + 0);
+p43 = read_at(j1, m, 1u);
+i1 = load8(p43 + 0);
 i0 = (i0 != i1);
 if (i0) { goto l36; }
 j0 = v21;
@@ -127183,8 +127974,8 @@ v3 = j0;
 goto l27;
 }
 }
-i0 = v24;
-i1 = v23;
+i0 = v23;
+i1 = v22;
 i2 = UINT32_C(255);
 i1 = i1 & i2;
 i0 = (i0 == i1);
@@ -127211,82 +128002,82 @@ l38:;
 j0 = v3;
 j1 = UINT64_C(512);
 j0 = j0 + j1;
-p40 = read_at(j0, m, 8u);
-j0 = load64(p40 + 0);
-j1 = v15;
+p44 = read_at(j0, m, 8u);
+j0 = load64(p44 + 0);
+j1 = v14;
 i0 = (j0 != j1);
 if (!i0) {
 j0 = v3;
-p41 = read_at(j0, m, 1u);
-i0 = load8(p41 + 0);
-v23 = i0;
+p45 = read_at(j0, m, 1u);
+i0 = load8(p45 + 0);
+v22 = i0;
 j1 = v8;
-p42 = read_at(j1, m, 1u);
-i1 = load8(p42 + 0);
+p46 = read_at(j1, m, 1u);
+i1 = load8(p46 + 0);
 i0 = (i0 == i1);
 if (!i0) {
 i0 = UINT32_C(1);
-v23 = i0;
+v22 = i0;
 goto l40;
 }
-i0 = v23;
+i0 = v22;
 i0 = (i0 == 0);
 if (!i0) {
 i0 = UINT32_C(0);
-v23 = i0;
+v22 = i0;
 goto l40;
 }
 j0 = v3;
 j1 = UINT64_C(1);
 j0 = j0 + j1;
-p43 = read_at(j0, m, 1u);
-i0 = load8(p43 + 0);
-j1 = v8;
-j2 = UINT64_C(1);
-j1 = j1 + j2;
-p44 = read_at(j1, m, 1u);
-i1 = load8(p44 + 0);
-i0 = (i0 != i1);
-v23 = i0;
-l40:;
-j0 = v3;
-j1 = UINT64_C(2);
-j0 = j0 + j1;
-p45 = read_at(j0, m, 1u);
-i0 = load8(p45 + 0);
-v24 = i0;
-j1 = v8;
-j2 = UINT64_C(2);
-j1 = j1 + j2;
-p46 = read_at(j1, m, 1u);
-i1 = load8(p46 + 0);
-i0 = (i0 != i1);
-if (!i0) {
-i0 = UINT32_C(0);
-v25 = i0;
-i0 = v24;
-if (!i0) {
-j0 = v3;
-j1 = UINT64_C(3);
-j0 = j0 + j1;
 p47 = read_at(j0, m, 1u);
 i0 = load8(p47 + 0);
 j1 = v8;
-j2 = UINT64_C(3);
+j2 = UINT64_C(1);
 j1 = j1 + j2;
 p48 = read_at(j1, m, 1u);
 i1 = load8(p48 + 0);
 i0 = (i0 != i1);
-v25 = i0;
-}
+v22 = i0;
+l40:;
+j0 = v3;
+j1 = UINT64_C(2);
+j0 = j0 + j1;
+p49 = read_at(j0, m, 1u);
+i0 = load8(p49 + 0);
+v23 = i0;
+j1 = v8;
+j2 = UINT64_C(2);
+j1 = j1 + j2;
+p50 = read_at(j1, m, 1u);
+i1 = load8(p50 + 0);
+i0 = (i0 != i1);
+if (!i0) {
+i0 = UINT32_C(0);
+v24 = i0;
 i0 = v23;
-i1 = v25;
+if (!i0) {
+j0 = v3;
+j1 = UINT64_C(3);
+j0 = j0 + j1;
+p51 = read_at(j0, m, 1u);
+i0 = load8(p51 + 0);
+j1 = v8;
+j2 = UINT64_C(3);
+j1 = j1 + j2;
+p52 = read_at(j1, m, 1u);
+i1 = load8(p52 + 0);
+i0 = (i0 != i1);
+v24 = i0;
+}
+i0 = v22;
+i1 = v24;
 i0 = i0 | i1;
 if (!i0) {
 j0 = v3;
-j1 = v15;
+j1 = v14;
 j2 = v8;
-i0 = core_cmp_slices_groups_equal_52(m, j0, j1, j2);
+i0 = core_cmp_slices_groups_equal_53(m, j0, j1, j2);
 i0 = (i0 == 0);
 if (!i0) {
 j0 = v21;
@@ -127310,7 +128101,7 @@ if (i0) { goto l38; }
 }
 l29:;
 j0 = v4;
-j1 = UINT64_C(88);
+j1 = UINT64_C(80);
 j0 = j0 + j1;
 j1 = v8;
 fio_form_form_LineForm_copied(m, j0, j1);
@@ -127321,51 +128112,60 @@ j1 = UINT64_C(16);
 i0 = (j0 == j1);
 if (!i0) {
 j0 = v4;
-j1 = UINT64_C(18328);
+j1 = UINT64_C(18320);
 j0 = j0 + j1;
 j1 = v21;
 j2 = UINT64_C(784);
 j1 = j1 * j2;
 j0 = j0 + j1;
 j1 = v4;
-j2 = UINT64_C(88);
+j2 = UINT64_C(80);
 j1 = j1 + j2;
 j2 = UINT64_C(784);
 copy(m, j0, j1, j2);
 j0 = v4;
-j1 = UINT64_C(14984);
+j1 = UINT64_C(14976);
 j0 = j0 + j1;
-j1 = v13;
-j2 = v14;
+j1 = v12;
+j2 = v13;
 fio_log_counts_Counts_add_from(m, j0, j1, j2);
 j0 = v21;
 j1 = UINT64_C(1);
 j0 = j0 + j1;
-v12 = j0;
+v11 = j0;
 v3 = j0;
 }
 l27:;
-j0 = v14;
+j0 = v13;
 j1 = UINT64_C(1);
 j0 = j0 + j1;
-v14 = j0;
-j1 = v22;
+v13 = j0;
+j1 = v19;
 i0 = (j0 != j1);
 if (i0) { goto l26; }
 }
-j0 = v10;
+}
+j0 = v17;
+j1 = UINT64_C(1);
+p53 = write_at(j0, m, 8u);
+store64(p53 + 0, j1);
+j0 = v0;
+j1 = UINT64_C(238120);
+j0 = j0 + j1;
 j1 = v4;
-j2 = UINT64_C(18328);
+j2 = UINT64_C(18320);
 j1 = j1 + j2;
 j2 = UINT64_C(12544);
 copy(m, j0, j1, j2);
-j0 = v20;
-j1 = v12;
-p49 = write_at(j0, m, 8u);
-store64(p49 + 0, j1);
-j0 = v13;
+j0 = v0;
+j1 = UINT64_C(250664);
+j0 = j0 + j1;
+j1 = v11;
+p54 = write_at(j0, m, 73304u);
+store64(p54 + 0, j1);
+j0 = v12;
 j1 = v4;
-j2 = UINT64_C(14984);
+j2 = UINT64_C(14976);
 j1 = j1 + j2;
 j2 = UINT64_C(3344);
 copy(m, j0, j1, j2);
@@ -127374,10 +128174,9 @@ i1 = UINT32_C(0);
 j2 = UINT64_C(12560);
 fill(m, j0, i1, j2);
 j0 = v0;
-j1 = UINT64_C(323944);
+j1 = UINT64_C(323960);
 j0 = j0 + j1;
-p50 = read_at(j0, m, 8u);
-j0 = load64(p50 + 0);
+j0 = load64(p54 + 73296);
 v3 = j0;
 l5:;
 j0 = v3;
@@ -127399,21 +128198,21 @@ j1 = v3;
 j0 = j0 - j1;
 v8 = j0;
 j1 = v0;
-j2 = UINT64_C(323952);
+j2 = UINT64_C(323968);
 j1 = j1 + j2;
-p51 = read_at(j1, m, 8u);
-j1 = load64(p51 + 0);
+p55 = read_at(j1, m, 8u);
+j1 = load64(p55 + 0);
 i0 = (j0 >= j1);
 if (!i0) {
-j0 = UINT64_C(65536);
+j0 = UINT64_C(1048576);
 v1 = j0;
 j0 = UINT64_C(0);
-v15 = j0;
+v14 = j0;
 j0 = v0;
 j1 = UINT64_C(69640);
 j0 = j0 + j1;
-p52 = read_at(j0, m, 8u);
-j0 = load64(p52 + 0);
+p56 = read_at(j0, m, 8u);
+j0 = load64(p56 + 0);
 j1 = v8;
 i0 = (j0 > j1);
 if (!i0) {
@@ -127428,9 +128227,9 @@ j1 = j1 << (j2 & 63);
 j0 = j0 + j1;
 j1 = UINT64_C(65544);
 j0 = j0 + j1;
-v14 = j0;
-p53 = read_at(j0, m, 4u);
-j0 = load32(p53 + 0);
+v13 = j0;
+p57 = read_at(j0, m, 4u);
+j0 = load32(p57 + 0);
 v8 = j0;
 j0 = v2;
 j1 = v3;
@@ -127441,11 +128240,11 @@ v1 = j0;
 goto l44;
 }
 j0 = v8;
-j1 = v14;
+j1 = v13;
 j2 = UINT64_C(18446744073709551612);
 j1 = j1 + j2;
-p54 = read_at(j1, m, 4u);
-j1 = load32(p54 + 0);
+p58 = read_at(j1, m, 4u);
+j1 = load32(p58 + 0);
 v3 = j1;
 j0 = j0 - j1;
 v8 = j0;
@@ -127463,87 +128262,85 @@ if (i0) { goto l4; }
 j0 = v1;
 j1 = UINT64_C(65553);
 j0 = j0 + j1;
-p55 = read_at(j0, m, 1u);
-i0 = load8(p55 + 0);
+p59 = read_at(j0, m, 1u);
+i0 = load8(p59 + 0);
 i0 = (i0 == 0);
 if (i0) { goto l4; }
 j0 = v1;
 j1 = UINT64_C(65544);
 j0 = j0 + j1;
-p56 = read_at(j0 + UINT64_C(18446744073709551608), m, 9u);
-j0 = load8(p56 + 8);
-v15 = j0;
+p60 = read_at(j0 + UINT64_C(18446744073709551608), m, 9u);
+j0 = load8(p60 + 8);
+v14 = j0;
 j0 = v1;
 j1 = UINT64_C(65536);
 j0 = j0 + j1;
-j0 = load64(p56 + 0);
+j0 = load64(p60 + 0);
 v8 = j0;
 l44:;
 j0 = v4;
-j1 = v15;
-p57 = write_at(j0 + UINT64_C(8), m, 80u);
-store64(p57 + 24, j1);
+j1 = v14;
+p61 = write_at(j0, m, 80u);
+store64(p61 + 24, j1);
 j0 = v4;
 j1 = v8;
-store64(p57 + 16, j1);
+store64(p61 + 16, j1);
 j0 = v4;
 j1 = v1;
-store64(p57 + 8, j1);
+store64(p61 + 8, j1);
 j0 = v4;
 j1 = v2;
-store64(p57 + 0, j1);
+store64(p61 + 0, j1);
 j0 = v4;
-j1 = UINT64_C(40);
+j1 = UINT64_C(32);
 j0 = j0 + j1;
 j1 = v0;
-j2 = UINT64_C(238104);
+j2 = UINT64_C(238112);
 j1 = j1 + j2;
 j2 = v4;
-j3 = UINT64_C(8);
-j2 = j2 + j3;
 fio_log_by_forms_FormReader_hear(m, j0, j1, j2);
-j0 = v0;
-j1 = UINT64_C(336528);
-j0 = j0 + j1;
-j1 = UINT64_C(1);
-p58 = write_at(j0, m, 56u);
-store64(p58 + 0, j1);
-j0 = v0;
-j1 = UINT64_C(336536);
-j0 = j0 + j1;
-j1 = v4;
-j1 = load64(p57 + 32);
-store64(p58 + 8, j1);
 j0 = v0;
 j1 = UINT64_C(336544);
 j0 = j0 + j1;
-j1 = v4;
-j1 = load64(p57 + 40);
-store64(p58 + 16, j1);
+j1 = UINT64_C(1);
+p62 = write_at(j0, m, 56u);
+store64(p62 + 0, j1);
 j0 = v0;
 j1 = UINT64_C(336552);
 j0 = j0 + j1;
 j1 = v4;
-j1 = load64(p57 + 48);
-store64(p58 + 24, j1);
+j1 = load64(p61 + 32);
+store64(p62 + 8, j1);
 j0 = v0;
 j1 = UINT64_C(336560);
 j0 = j0 + j1;
 j1 = v4;
-j1 = load64(p57 + 56);
-store64(p58 + 32, j1);
+j1 = load64(p61 + 40);
+store64(p62 + 16, j1);
 j0 = v0;
 j1 = UINT64_C(336568);
 j0 = j0 + j1;
 j1 = v4;
-j1 = load64(p57 + 64);
-store64(p58 + 40, j1);
+j1 = load64(p61 + 48);
+store64(p62 + 24, j1);
 j0 = v0;
 j1 = UINT64_C(336576);
 j0 = j0 + j1;
 j1 = v4;
-j1 = load64(p57 + 72);
-store64(p58 + 48, j1);
+j1 = load64(p61 + 56);
+store64(p62 + 32, j1);
+j0 = v0;
+j1 = UINT64_C(336584);
+j0 = j0 + j1;
+j1 = v4;
+j1 = load64(p61 + 64);
+store64(p62 + 40, j1);
+j0 = v0;
+j1 = UINT64_C(336592);
+j0 = j0 + j1;
+j1 = v4;
+j1 = load64(p61 + 72);
+store64(p62 + 48, j1);
 l4:;
 j0 = UINT64_C(18446744073709551615);
 j1 = v5;
@@ -127558,44 +128355,44 @@ j1 = v6;
 i0 = (j0 <= j1);
 if (i0) { goto l2; }
 j0 = v0;
-j1 = UINT64_C(336584);
+j1 = UINT64_C(336600);
 j0 = j0 + j1;
-p59 = read_at(j0, m, 1u);
-i0 = load8(p59 + 0);
+p63 = read_at(j0, m, 1u);
+i0 = load8(p63 + 0);
 if (!i0) {
 j0 = v0;
-j1 = UINT64_C(336528);
+j1 = UINT64_C(336544);
 j0 = j0 + j1;
-p60 = read_at(j0, m, 1u);
-i0 = load8(p60 + 0);
+p64 = read_at(j0, m, 1u);
+i0 = load8(p64 + 0);
 i1 = UINT32_C(255);
 i0 = i0 & i1;
 i1 = UINT32_C(1);
 i0 = (i0 != i1);
 if (!i0) {
 j0 = v0;
-j1 = UINT64_C(336536);
+j1 = UINT64_C(336552);
 j0 = j0 + j1;
-p61 = read_at(j0, m, 1u);
-i0 = load8(p61 + 0);
+p65 = read_at(j0, m, 1u);
+i0 = load8(p65 + 0);
 i1 = UINT32_C(2);
 i0 = (i0 == i1);
 if (!i0) {
 i0 = UINT32_C(0);
 v7 = i0;
 j0 = v0;
-j1 = UINT64_C(254000);
+j1 = UINT64_C(254016);
 j0 = j0 + j1;
-p62 = read_at(j0, m, 1u);
-i0 = load8(p62 + 0);
+p66 = read_at(j0, m, 1u);
+i0 = load8(p66 + 0);
 i1 = UINT32_C(2);
 i0 = (i0 == i1);
 if (i0) { goto l2; }
 j0 = v0;
-j1 = UINT64_C(278656);
+j1 = UINT64_C(278672);
 j0 = j0 + j1;
-p63 = read_at(j0, m, 8u);
-j0 = load64(p63 + 0);
+p67 = read_at(j0, m, 8u);
+j0 = load64(p67 + 0);
 i0 = (j0 == 0);
 v7 = i0;
 goto l2;
@@ -127614,20 +128411,18 @@ i0 = v7;
 r = i0;
 return r;
 }
-static void fio_log_teller_Teller_know(struct machine *m, uint64_t v0, uint64_t v1)
+static void fio_log_by_forms_FormReader_add(struct machine *m, uint64_t v0, uint64_t v1, uint64_t v2)
 {
-uint64_t v2 = 0;
 uint64_t v3 = 0;
-uint32_t v4 = 0;
+uint64_t v4 = 0;
 uint64_t v5 = 0;
 uint64_t v6 = 0;
 uint64_t v7 = 0;
 uint64_t v8 = 0;
 uint64_t v9 = 0;
+uint64_t v10 = 0;
 uint32_t i0;
 uint32_t i1;
-uint32_t i3;
-uint32_t i4;
 uint64_t j0;
 uint64_t j1;
 uint64_t j2;
@@ -127638,215 +128433,267 @@ uint8_t *p3;
 uint8_t *p4;
 uint8_t *p5;
 uint8_t *p6;
+uint8_t *p7;
 j0 = m->g0;
-j1 = UINT64_C(37664);
+j1 = UINT64_C(52256);
 j0 = j0 - j1;
-p1 = write_at(j0, m, 37664u);
-v2 = j0;
-m->g0 = j0;
-j0 = v2;
+p1 = write_at(j0, m, 52256u);
 v3 = j0;
+m->g0 = j0;
+j0 = v3;
+v4 = j0;
 j1 = UINT64_C(16);
 i0 = (SIGNED64(j0) < SIGNED64(j1));
 if (!i0) {
+j0 = v4;
+i1 = UINT32_C(0);
+j2 = UINT64_C(784);
+fill(m, j0, i1, j2);
+j0 = v2;
+i0 = (j0 == 0);
+if (!i0) {
 j0 = v0;
-j1 = UINT64_C(336520);
+j1 = UINT64_C(12560);
 j0 = j0 + j1;
+v5 = j0;
+j0 = v0;
+j1 = UINT64_C(8);
+j0 = j0 + j1;
+v6 = j0;
+j0 = v4;
+j1 = UINT64_C(51614);
+j0 = j0 + j1;
+v7 = j0;
+j0 = UINT64_C(0);
+v8 = j0;
+l4:;
+j0 = v4;
+j1 = v1;
+j2 = v8;
+j3 = UINT64_C(784);
+j2 = j2 * j3;
+j1 = j1 + j2;
+fio_form_form_LineForm_copied(m, j0, j1);
+j0 = v0;
 p2 = read_at(j0, m, 1u);
 i0 = load8(p2 + 0);
+i1 = UINT32_C(1);
+i0 = (i0 == i1);
 if (!i0) {
-j0 = v1;
-p3 = read_at(j0 + UINT64_C(8), m, 9u);
-i0 = load8(p3 + 8);
-v4 = i0;
-j0 = v1;
-j0 = load64(p3 + 0);
-v5 = j0;
-j0 = v3;
-j1 = UINT64_C(25112);
+j0 = v4;
+j1 = UINT64_C(13328);
 j0 = j0 + j1;
 i1 = UINT32_C(0);
-j2 = UINT64_C(12552);
+j2 = UINT64_C(12544);
 fill(m, j0, i1, j2);
-j0 = v3;
-j1 = UINT64_C(25112);
+j0 = v4;
+j1 = UINT64_C(25872);
 j0 = j0 + j1;
-j1 = v0;
-j2 = UINT64_C(69648);
-j1 = j1 + j2;
-j2 = v0;
-i3 = v4;
-i4 = UINT32_C(1);
-i3 = i3 & i4;
-fio_sniff_sniffing_Sniffer_sniff(m, j0, j1, j2, i3);
+i1 = UINT32_C(0);
+j2 = UINT64_C(12544);
+fill(m, j0, i1, j2);
+j0 = v4;
+j1 = UINT64_C(39064);
+j0 = j0 + j1;
+i1 = UINT32_C(0);
+j2 = UINT64_C(12544);
+fill(m, j0, i1, j2);
+j0 = UINT64_C(0);
+v9 = j0;
+l8:;
+j0 = v4;
+i1 = UINT32_C(0);
+store16(p1 + 51612, i1);
+j0 = v4;
+i1 = UINT32_C(0);
+store32(p1 + 51608, i1);
+j0 = v4;
+j1 = UINT64_C(51744);
+j0 = j0 + j1;
+i1 = UINT32_C(0);
+j2 = UINT64_C(512);
+fill(m, j0, i1, j2);
+j0 = UINT64_C(0);
+v3 = j0;
+for (;;) {
+j0 = v4;
+j1 = UINT64_C(51744);
+j0 = j0 + j1;
+j1 = v3;
+j0 = j0 + j1;
+j1 = UINT64_C(281479271743489);
+p3 = write_at(j0, m, 8u);
+store64(p3 + 0, j1);
 j0 = v3;
 j1 = UINT64_C(8);
 j0 = j0 + j1;
-j1 = v3;
-j2 = UINT64_C(25112);
-j1 = j1 + j2;
-j2 = UINT64_C(12552);
-copy(m, j0, j1, j2);
-j0 = v3;
-j1 = UINT64_C(12560);
-j0 = j0 + j1;
-j1 = v3;
-j2 = UINT64_C(8);
-j1 = j1 + j2;
-j2 = UINT64_C(12552);
-copy(m, j0, j1, j2);
-j0 = v3;
-j0 = load64(p1 + 25104);
-v2 = j0;
-j0 = v3;
-j1 = UINT64_C(25112);
-j0 = j0 + j1;
-i1 = UINT32_C(0);
-j2 = UINT64_C(784);
-fill(m, j0, i1, j2);
-j0 = v2;
-i0 = (j0 == 0);
-if (!i0) {
-j0 = v0;
-j1 = UINT64_C(250648);
-j0 = j0 + j1;
-p4 = read_at(j0, m, 8u);
-j0 = load64(p4 + 0);
-j1 = UINT64_C(16);
-i0 = (j0 == j1);
-if (!i0) {
-j0 = v0;
-j1 = UINT64_C(238104);
-j0 = j0 + j1;
-v6 = j0;
-j0 = v0;
-j1 = UINT64_C(250656);
-j0 = j0 + j1;
-v7 = j0;
-j0 = v3;
-j1 = UINT64_C(12560);
-j0 = j0 + j1;
-v1 = j0;
-l6:;
-j0 = v3;
-j1 = UINT64_C(25112);
-j0 = j0 + j1;
-j1 = v1;
-fio_form_form_LineForm_copied(m, j0, j1);
-j0 = v0;
-j1 = UINT64_C(250648);
-j0 = j0 + j1;
-v8 = j0;
-j0 = load64(p4 + 0);
-v9 = j0;
-j1 = UINT64_C(16);
-i0 = (j0 == j1);
-if (!i0) {
-j0 = v6;
-j1 = v9;
-j2 = UINT64_C(784);
-j1 = j1 * j2;
-j0 = j0 + j1;
-j1 = v3;
-j2 = UINT64_C(25112);
-j1 = j1 + j2;
-j2 = UINT64_C(784);
-copy(m, j0, j1, j2);
-j0 = v8;
-j1 = v9;
-j2 = UINT64_C(1);
-j1 = j1 + j2;
-p5 = write_at(j0, m, 3344u);
-store64(p5 + 0, j1);
-j0 = v0;
-j1 = UINT64_C(253984);
-j0 = j0 + j1;
-v8 = j0;
-j0 = load64(p5 + 3336);
-v9 = j0;
-j1 = UINT64_C(16);
-i0 = (j0 == j1);
-if (!i0) {
-j0 = v7;
-j1 = v9;
-j2 = UINT64_C(208);
-j1 = j1 * j2;
-j0 = j0 + j1;
-i1 = UINT32_C(0);
-j2 = UINT64_C(208);
-fill(m, j0, i1, j2);
-j0 = v8;
-j1 = v9;
-j2 = UINT64_C(1);
-j1 = j1 + j2;
-store64(p5 + 3336, j1);
-}
-}
-j0 = v1;
-j1 = UINT64_C(784);
-j0 = j0 + j1;
-v1 = j0;
-j0 = v2;
-j1 = UINT64_C(18446744073709551615);
-j0 = j0 + j1;
-v2 = j0;
-j1 = UINT64_C(0);
+v3 = j0;
+j1 = UINT64_C(512);
 i0 = (j0 != j1);
-if (i0) { goto l6; }
-goto l4;
+if (!i0) break;
 }
-j0 = v3;
-j1 = UINT64_C(12560);
+j0 = v7;
+i1 = UINT32_C(0);
+j2 = UINT64_C(128);
+fill(m, j0, i1, j2);
+j0 = v4;
+j1 = UINT64_C(38418);
 j0 = j0 + j1;
-v1 = j0;
-l8:;
-j0 = v3;
-j1 = UINT64_C(25112);
+j1 = v4;
+j2 = UINT64_C(51608);
+j1 = j1 + j2;
+j2 = UINT64_C(134);
+copy(m, j0, j1, j2);
+j0 = v4;
+j1 = UINT64_C(38552);
 j0 = j0 + j1;
-j1 = v1;
-fio_form_form_LineForm_copied(m, j0, j1);
-j0 = v1;
+j1 = v4;
+j2 = UINT64_C(51744);
+j1 = j1 + j2;
+j2 = UINT64_C(512);
+copy(m, j0, j1, j2);
+j0 = v4;
+j1 = UINT64_C(39064);
+j0 = j0 + j1;
+j1 = v9;
+j2 = UINT64_C(784);
+j1 = j1 * j2;
+j0 = j0 + j1;
+v3 = j0;
+j1 = v4;
+j2 = UINT64_C(38552);
+j1 = j1 + j2;
+j2 = UINT64_C(512);
+copy(m, j0, j1, j2);
+j0 = v3;
+i1 = UINT32_C(0);
+p4 = write_at(j0 + UINT64_C(512), m, 152u);
+store16(p4 + 8, i1);
+j0 = UINT64_C(0);
+v10 = j0;
+j0 = v3;
+j1 = UINT64_C(0);
+store64(p4 + 0, j1);
+j0 = v3;
+j1 = UINT64_C(522);
+j0 = j0 + j1;
+j1 = v4;
+j2 = UINT64_C(38418);
+j1 = j1 + j2;
+j2 = UINT64_C(134);
+copy(m, j0, j1, j2);
+j0 = v3;
+j1 = UINT64_C(1);
+store64(p4 + 144, j1);
+j0 = v3;
+j1 = UINT64_C(664);
+j0 = j0 + j1;
+i1 = UINT32_C(0);
+j2 = UINT64_C(120);
+fill(m, j0, i1, j2);
+j0 = v9;
+j1 = UINT64_C(1);
+j0 = j0 + j1;
+v9 = j0;
+j1 = UINT64_C(16);
+i0 = (j0 != j1);
+if (i0) { goto l8; }
+j0 = v4;
+j1 = UINT64_C(25872);
+j0 = j0 + j1;
+j1 = v4;
+j2 = UINT64_C(39064);
+j1 = j1 + j2;
+j2 = UINT64_C(12544);
+copy(m, j0, j1, j2);
+j0 = v4;
+j1 = UINT64_C(13328);
+j0 = j0 + j1;
+j1 = v4;
+j2 = UINT64_C(25872);
+j1 = j1 + j2;
+j2 = UINT64_C(12544);
+copy(m, j0, j1, j2);
+j0 = v4;
 j1 = UINT64_C(784);
 j0 = j0 + j1;
-v1 = j0;
-j0 = v2;
-j1 = UINT64_C(18446744073709551615);
-j0 = j0 + j1;
-v2 = j0;
-i0 = (j0 == 0);
-i0 = (i0 == 0);
-if (i0) { goto l8; }
-}
-l4:;
-j0 = v0;
-j1 = UINT64_C(336520);
-j0 = j0 + j1;
-i1 = UINT32_C(1);
-p6 = write_at(j0 + UINT64_C(18446744073709284736), m, 266881u);
-store8(p6 + 266880, i1);
-j0 = v0;
-j1 = UINT64_C(323952);
-j0 = j0 + j1;
-j1 = v0;
-j2 = UINT64_C(69640);
+j1 = v4;
+j2 = UINT64_C(13328);
 j1 = j1 + j2;
-j1 = load64(p6 + 0);
-store64(p6 + 254312, j1);
+j2 = UINT64_C(12544);
+copy(m, j0, j1, j2);
 j0 = v0;
-j1 = UINT64_C(323944);
-j0 = j0 + j1;
-j1 = UINT64_C(18446744073709551615);
-j2 = v5;
-j3 = UINT64_C(1);
-j2 = j2 + j3;
-v2 = j2;
-j3 = v2;
-i3 = (j3 == 0);
-j1 = i3 ? j1 : j2;
-store64(p6 + 254304, j1);
+j1 = UINT64_C(1);
+p5 = write_at(j0, m, 8u);
+store64(p5 + 0, j1);
+j0 = v6;
+j1 = v4;
+j2 = UINT64_C(784);
+j1 = j1 + j2;
+j2 = UINT64_C(12544);
+copy(m, j0, j1, j2);
+goto l6;
 }
-j0 = v3;
-j1 = UINT64_C(37664);
+j0 = v0;
+j1 = UINT64_C(12552);
+j0 = j0 + j1;
+p6 = read_at(j0, m, 8u);
+j0 = load64(p6 + 0);
+v10 = j0;
+j1 = UINT64_C(16);
+i0 = (j0 == j1);
+if (i0) { goto l5; }
+l6:;
+j0 = v6;
+j1 = v10;
+j2 = UINT64_C(784);
+j1 = j1 * j2;
+j0 = j0 + j1;
+j1 = v4;
+j2 = UINT64_C(784);
+copy(m, j0, j1, j2);
+j0 = v0;
+j1 = UINT64_C(12552);
+j0 = j0 + j1;
+j1 = v10;
+j2 = UINT64_C(1);
+j1 = j1 + j2;
+p7 = write_at(j0, m, 3344u);
+store64(p7 + 0, j1);
+j0 = v0;
+j1 = UINT64_C(15888);
+j0 = j0 + j1;
+v9 = j0;
+j0 = load64(p7 + 3336);
+v3 = j0;
+j1 = UINT64_C(16);
+i0 = (j0 == j1);
+if (!i0) {
+j0 = v5;
+j1 = v3;
+j2 = UINT64_C(208);
+j1 = j1 * j2;
+j0 = j0 + j1;
+i1 = UINT32_C(0);
+j2 = UINT64_C(208);
+fill(m, j0, i1, j2);
+j0 = v9;
+j1 = v3;
+j2 = UINT64_C(1);
+j1 = j1 + j2;
+store64(p7 + 3336, j1);
+}
+l5:;
+j0 = v8;
+j1 = UINT64_C(1);
+j0 = j0 + j1;
+v8 = j0;
+j1 = v2;
+i0 = (j0 != j1);
+if (i0) { goto l4; }
+}
+j0 = v4;
+j1 = UINT64_C(52256);
 j0 = j0 + j1;
 m->g0 = j0;
 return;
@@ -129233,14 +130080,15 @@ uint64_t v3 = 0;
 uint64_t v4 = 0;
 uint64_t v5 = 0;
 uint32_t v6 = 0;
-uint32_t v7 = 0;
+uint64_t v7 = 0;
 uint32_t v8 = 0;
 uint32_t v9 = 0;
 uint32_t v10 = 0;
-uint64_t v11 = 0;
+uint32_t v11 = 0;
 uint32_t v12 = 0;
 uint32_t v13 = 0;
 uint32_t v14 = 0;
+uint64_t v15 = 0;
 uint32_t i0;
 uint32_t i1;
 uint32_t i2;
@@ -129259,6 +130107,7 @@ uint8_t *p6;
 uint8_t *p7;
 uint8_t *p8;
 uint8_t *p9;
+uint8_t *p10;
 j0 = m->g0;
 j1 = UINT64_C(48);
 j0 = j0 - j1;
@@ -129280,9 +130129,8 @@ v5 = j0;
 j0 = v2;
 i0 = load8(p2 + 16);
 v6 = i0;
-j0 = v3;
-j1 = UINT64_C(0);
-store64(p1 + 40, j1);
+j0 = UINT64_C(0);
+v7 = j0;
 j0 = v3;
 j1 = UINT64_C(0);
 store64(p1 + 32, j1);
@@ -129295,47 +130143,50 @@ store64(p1 + 16, j1);
 j0 = v3;
 j1 = UINT64_C(0);
 store64(p1 + 8, j1);
+j0 = v3;
+j1 = UINT64_C(0);
+store64(p1 + 0, j1);
 j0 = v1;
-j1 = UINT64_C(15896);
+j1 = UINT64_C(15904);
 j0 = j0 + j1;
 v2 = j0;
 p3 = read_at(j0, m, 1u);
 i0 = load8(p3 + 0);
-v7 = i0;
+v8 = i0;
 i0 = v6;
 j1 = v5;
 j2 = v4;
-j3 = UINT64_C(65753);
+j3 = UINT64_C(1048793);
 i1 = core_slice_reads_slice_T_contains_i8_31_core_cmp_numbers_U8PartialEq(m, j1, j2, j3);
-v8 = i1;
+v9 = i1;
 i0 = i0 | i1;
-v9 = i0;
+v10 = i0;
 i1 = UINT32_C(1);
 i0 = i0 & i1;
 i0 = (i0 == 0);
 if (!i0) {
-i0 = v7;
+i0 = v8;
 i1 = UINT32_C(255);
 i0 = i0 & i1;
-v10 = i0;
+v11 = i0;
 i1 = UINT32_C(2);
 i0 = (i0 != i1);
 if (!i0) {
 j0 = v1;
-j1 = UINT64_C(20040);
+j1 = UINT64_C(20048);
 j0 = j0 + j1;
 v5 = j0;
 j0 = v1;
-j1 = UINT64_C(20032);
+j1 = UINT64_C(20040);
 j0 = j0 + j1;
 p4 = read_at(j0, m, 2064u);
 j0 = load64(p4 + 0);
 v4 = j0;
 j0 = v1;
-j1 = UINT64_C(22088);
+j1 = UINT64_C(22096);
 j0 = j0 + j1;
 j0 = load64(p4 + 2056);
-v11 = j0;
+v7 = j0;
 i0 = (j0 == 0);
 v12 = i0;
 if (!i0) {
@@ -129343,11 +130194,11 @@ i0 = v12;
 if (!i0) {
 j0 = v5;
 i1 = UINT32_C(0);
-j2 = v11;
+j2 = v7;
 fill(m, j0, i1, j2);
 }
 j0 = v1;
-j1 = UINT64_C(22088);
+j1 = UINT64_C(22096);
 j0 = j0 + j1;
 j1 = UINT64_C(0);
 p5 = write_at(j0, m, 8u);
@@ -129362,13 +130213,13 @@ i0 = (j0 == 0);
 if (!i0) {
 j0 = v5;
 j1 = v1;
-j2 = UINT64_C(17984);
+j2 = UINT64_C(17992);
 j1 = j1 + j2;
 j2 = v4;
 copy(m, j0, j1, j2);
 }
 j0 = v1;
-j1 = UINT64_C(22088);
+j1 = UINT64_C(22096);
 j0 = j0 + j1;
 j1 = v4;
 p6 = write_at(j0, m, 8u);
@@ -129381,6 +130232,9 @@ p7 = write_at(j0, m, 1u);
 store8(p7 + 0, i1);
 j0 = v3;
 j1 = UINT64_C(0);
+store64(p1 + 3, j1);
+j0 = v3;
+j1 = UINT64_C(0);
 store64(p1 + 11, j1);
 j0 = v3;
 j1 = UINT64_C(0);
@@ -129390,15 +130244,12 @@ j1 = UINT64_C(0);
 store64(p1 + 27, j1);
 j0 = v3;
 j1 = UINT64_C(0);
-store64(p1 + 35, j1);
-j0 = v3;
-j1 = UINT64_C(0);
-store64(p1 + 40, j1);
-i0 = v10;
+store64(p1 + 32, j1);
+i0 = v11;
 i1 = UINT32_C(1);
 i0 = (i0 == i1);
 v12 = i0;
-i0 = v10;
+i0 = v11;
 i1 = UINT32_C(2);
 i0 = (i0 == i1);
 v13 = i0;
@@ -129407,49 +130258,64 @@ v14 = i0;
 goto l3;
 }
 j0 = v3;
+j1 = UINT64_C(40);
+j0 = j0 + j1;
+v15 = j0;
+j0 = v1;
+p8 = read_at(j0, m, 1u);
+i0 = load8(p8 + 0);
+i1 = UINT32_C(1);
+i0 = (i0 != i1);
+if (!i0) {
+j0 = v1;
 j1 = UINT64_C(8);
 j0 = j0 + j1;
+v15 = j0;
+j0 = v1;
+j1 = UINT64_C(12552);
+j0 = j0 + j1;
+p9 = read_at(j0, m, 8u);
+j0 = load64(p9 + 0);
+v7 = j0;
+}
+j0 = v3;
 j1 = v2;
-j2 = v1;
-j3 = v1;
-j4 = UINT64_C(12544);
-j3 = j3 + j4;
-p8 = read_at(j3, m, 8u);
-j3 = load64(p8 + 0);
+j2 = v15;
+j3 = v7;
 j4 = v5;
 j5 = v4;
 fio_rows_rows_Reading_read(m, j0, j1, j2, j3, j4, j5);
 j0 = v3;
-i0 = load8(p1 + 10);
+i0 = load8(p1 + 2);
 v13 = i0;
 j0 = v3;
-i0 = load8(p1 + 9);
+i0 = load8(p1 + 1);
 v12 = i0;
 j0 = v3;
-i0 = load8(p1 + 8);
+i0 = load8(p1 + 0);
 v14 = i0;
 l3:;
 i0 = UINT32_C(0);
-v10 = i0;
-i0 = v7;
+v11 = i0;
+i0 = v8;
 i1 = UINT32_C(255);
 i0 = i0 & i1;
 i0 = (i0 == 0);
 if (!i0) {
 i0 = UINT32_C(0);
-v10 = i0;
+v11 = i0;
 i0 = v12;
 i1 = UINT32_C(1);
 i0 = i0 & i1;
 if (!i0) {
 i0 = UINT32_C(0);
-v10 = i0;
+v11 = i0;
 i0 = v13;
 i1 = UINT32_C(1);
 i0 = i0 & i1;
 if (!i0) {
 i0 = UINT32_C(0);
-v10 = i0;
+v11 = i0;
 i0 = UINT32_C(1);
 i1 = v14;
 i2 = UINT32_C(255);
@@ -129458,63 +130324,63 @@ i0 = i0 << (i1 & 31);
 i1 = UINT32_C(92);
 i0 = i0 & i1;
 if (!i0) {
-i0 = v9;
+i0 = v10;
 i1 = UINT32_C(1);
 i0 = i0 ^ i1;
-v10 = i0;
+v11 = i0;
 }
 }
 }
 }
 j0 = v0;
 i1 = v13;
-p9 = write_at(j0, m, 48u);
-store8(p9 + 2, i1);
+p10 = write_at(j0, m, 48u);
+store8(p10 + 2, i1);
 j0 = v0;
 i1 = v12;
-store8(p9 + 1, i1);
+store8(p10 + 1, i1);
 j0 = v0;
 i1 = v14;
-store8(p9 + 0, i1);
+store8(p10 + 0, i1);
+j0 = v0;
+j1 = v3;
+j1 = load64(p1 + 3);
+store64(p10 + 3, j1);
 j0 = v0;
 j1 = v3;
 j1 = load64(p1 + 11);
-store64(p9 + 3, j1);
+store64(p10 + 11, j1);
 j0 = v0;
 j1 = v3;
 j1 = load64(p1 + 19);
-store64(p9 + 11, j1);
+store64(p10 + 19, j1);
 j0 = v0;
 j1 = v3;
 j1 = load64(p1 + 27);
-store64(p9 + 19, j1);
+store64(p10 + 27, j1);
 j0 = v0;
 j1 = v3;
-j1 = load64(p1 + 35);
-store64(p9 + 27, j1);
-j0 = v0;
-j1 = v3;
-j1 = load64(p1 + 40);
-store64(p9 + 32, j1);
+j1 = load64(p1 + 32);
+store64(p10 + 32, j1);
 j0 = v0;
 i1 = UINT32_C(0);
-store32(p9 + 43, i1);
+store32(p10 + 43, i1);
 j0 = v0;
-i1 = v8;
-store8(p9 + 42, i1);
+i1 = v9;
+store8(p10 + 42, i1);
 j0 = v0;
 i1 = UINT32_C(0);
-store8(p9 + 47, i1);
+store8(p10 + 47, i1);
 j0 = v0;
 i1 = v6;
 i2 = UINT32_C(1);
 i1 = i1 & i2;
-store8(p9 + 41, i1);
+store8(p10 + 41, i1);
 j0 = v0;
-i1 = v10;
+i1 = v11;
 i2 = UINT32_C(1);
 i1 = i1 & i2;
-store8(p9 + 40, i1);
+store8(p10 + 40, i1);
 j0 = v3;
 j1 = UINT64_C(48);
 j0 = j0 + j1;
@@ -133455,7 +134321,7 @@ default:
 goto l9;
 }
 l11:;
-j0 = UINT64_C(67477);
+j0 = UINT64_C(1050517);
 v3 = j0;
 j0 = UINT64_C(1);
 v4 = j0;
@@ -133481,11 +134347,11 @@ default:
 goto l19;
 }
 l21:;
-j0 = UINT64_C(67479);
+j0 = UINT64_C(1050519);
 v3 = j0;
 goto l17;
 l20:;
-j0 = UINT64_C(67480);
+j0 = UINT64_C(1050520);
 v3 = j0;
 j0 = UINT64_C(2);
 v4 = j0;
@@ -133503,13 +134369,13 @@ j1 = load64(p2 + 0);
 v6 = j1;
 j0 = j0 + j1;
 v7 = j0;
-j0 = UINT64_C(65536);
+j0 = UINT64_C(1048576);
 v3 = j0;
 j0 = UINT64_C(0);
 v4 = j0;
 goto l16;
 l18:;
-j0 = UINT64_C(67478);
+j0 = UINT64_C(1050518);
 v3 = j0;
 l17:;
 j0 = v0;
@@ -133678,7 +134544,7 @@ p14 = write_at(j0, m, 2u);
 store16(p14 + 0, i1);
 return;
 l10:;
-j0 = UINT64_C(67477);
+j0 = UINT64_C(1050517);
 v3 = j0;
 j0 = UINT64_C(1);
 v4 = j0;
@@ -133704,11 +134570,11 @@ default:
 goto l34;
 }
 l36:;
-j0 = UINT64_C(67479);
+j0 = UINT64_C(1050519);
 v3 = j0;
 goto l32;
 l35:;
-j0 = UINT64_C(67480);
+j0 = UINT64_C(1050520);
 v3 = j0;
 j0 = UINT64_C(2);
 v4 = j0;
@@ -133726,13 +134592,13 @@ j1 = load64(p15 + 0);
 v6 = j1;
 j0 = j0 + j1;
 v7 = j0;
-j0 = UINT64_C(65536);
+j0 = UINT64_C(1048576);
 v3 = j0;
 j0 = UINT64_C(0);
 v4 = j0;
 goto l31;
 l33:;
-j0 = UINT64_C(67478);
+j0 = UINT64_C(1050518);
 v3 = j0;
 l32:;
 j0 = v0;
@@ -133927,7 +134793,7 @@ i0 = i0 & i1;
 i1 = UINT32_C(91);
 i0 = (i0 == i1);
 if (i0) { goto l47; }
-j0 = UINT64_C(67477);
+j0 = UINT64_C(1050517);
 v3 = j0;
 goto l7;
 l52:;
@@ -133937,11 +134803,11 @@ i0 = i0 & i1;
 i1 = UINT32_C(160);
 i0 = (i0 != i1);
 if (!i0) {
-j0 = UINT64_C(67474);
+j0 = UINT64_C(1050514);
 v5 = j0;
 goto l48;
 }
-j0 = UINT64_C(67478);
+j0 = UINT64_C(1050518);
 v3 = j0;
 goto l7;
 l51:;
@@ -133951,7 +134817,7 @@ i0 = i0 & i1;
 i1 = UINT32_C(187);
 i0 = (i0 == i1);
 if (i0) { goto l47; }
-j0 = UINT64_C(67479);
+j0 = UINT64_C(1050519);
 v3 = j0;
 goto l7;
 l50:;
@@ -133961,7 +134827,7 @@ i0 = i0 & i1;
 i1 = UINT32_C(191);
 i0 = (i0 == i1);
 if (i0) { goto l47; }
-j0 = UINT64_C(67480);
+j0 = UINT64_C(1050520);
 v3 = j0;
 j0 = UINT64_C(2);
 v4 = j0;
@@ -133973,7 +134839,7 @@ i0 = v1;
 i1 = UINT32_C(255);
 i0 = i0 & i1;
 if (i0) { goto l42; }
-j0 = UINT64_C(65753);
+j0 = UINT64_C(1048793);
 v5 = j0;
 l48:;
 j0 = v0;
@@ -134013,7 +134879,7 @@ j1 = load64(p31 + 0);
 v4 = j1;
 j0 = j0 + j1;
 v7 = j0;
-j0 = UINT64_C(65536);
+j0 = UINT64_C(1048576);
 v5 = j0;
 j0 = UINT64_C(0);
 v3 = j0;
@@ -134115,7 +134981,7 @@ j1 = load64(p35 + 0);
 v6 = j1;
 j0 = j0 + j1;
 v7 = j0;
-j0 = UINT64_C(65536);
+j0 = UINT64_C(1048576);
 v3 = j0;
 j0 = UINT64_C(0);
 v4 = j0;
@@ -134514,7 +135380,7 @@ i1 = UINT32_C(4095);
 i0 = (i0 > i1);
 if (!i0) {
 j0 = v0;
-j1 = UINT64_C(426824);
+j1 = UINT64_C(426840);
 j0 = j0 + j1;
 v4 = j0;
 j0 = v1;
@@ -134522,7 +135388,7 @@ j1 = UINT64_C(499728);
 j0 = j0 + j1;
 v5 = j0;
 j0 = v0;
-j1 = UINT64_C(344240);
+j1 = UINT64_C(344256);
 j0 = j0 + j1;
 v6 = j0;
 j0 = v1;
@@ -134538,11 +135404,11 @@ j1 = UINT64_C(458768);
 j0 = j0 + j1;
 v9 = j0;
 j0 = v0;
-j1 = UINT64_C(323704);
+j1 = UINT64_C(323720);
 j0 = j0 + j1;
 v10 = j0;
 j0 = v0;
-j1 = UINT64_C(303664);
+j1 = UINT64_C(303672);
 j0 = j0 + j1;
 v11 = j0;
 j0 = v0;
@@ -134550,43 +135416,43 @@ j1 = UINT64_C(131104);
 j0 = j0 + j1;
 v12 = j0;
 j0 = v0;
-j1 = UINT64_C(321648);
+j1 = UINT64_C(321664);
 j0 = j0 + j1;
 v13 = j0;
 j0 = v0;
-j1 = UINT64_C(379216);
+j1 = UINT64_C(379232);
 j0 = j0 + j1;
 v14 = j0;
 j0 = v0;
-j1 = UINT64_C(329872);
+j1 = UINT64_C(329888);
 j0 = j0 + j1;
 v15 = j0;
 j0 = v0;
-j1 = UINT64_C(342168);
+j1 = UINT64_C(342184);
 j0 = j0 + j1;
 v16 = j0;
 j0 = v0;
-j1 = UINT64_C(346296);
+j1 = UINT64_C(346312);
 j0 = j0 + j1;
 v17 = j0;
 j0 = v0;
-j1 = UINT64_C(426808);
+j1 = UINT64_C(426824);
 j0 = j0 + j1;
 v18 = j0;
 j0 = v0;
-j1 = UINT64_C(418608);
+j1 = UINT64_C(418624);
 j0 = j0 + j1;
 v19 = j0;
 j0 = v0;
-j1 = UINT64_C(402088);
+j1 = UINT64_C(402104);
 j0 = j0 + j1;
 v20 = j0;
 j0 = v0;
-j1 = UINT64_C(402096);
+j1 = UINT64_C(402112);
 j0 = j0 + j1;
 v21 = j0;
 j0 = v0;
-j1 = UINT64_C(402216);
+j1 = UINT64_C(402232);
 j0 = j0 + j1;
 v22 = j0;
 j0 = v0;
@@ -134623,7 +135489,7 @@ i1 = UINT32_C(49152);
 i0 = (i0 > i1);
 if (i0) { goto l3; }
 j0 = v0;
-j1 = UINT64_C(451472);
+j1 = UINT64_C(451488);
 j0 = j0 + j1;
 p6 = read_at(j0, m, 1u);
 i0 = load8(p6 + 0);
@@ -134631,19 +135497,19 @@ i1 = UINT32_C(1);
 i0 = (i0 != i1);
 if (i0) { goto l3; }
 j0 = v0;
-j1 = UINT64_C(451473);
+j1 = UINT64_C(451489);
 j0 = j0 + j1;
 v25 = j0;
 j0 = v0;
-j1 = UINT64_C(451464);
+j1 = UINT64_C(451480);
 j0 = j0 + j1;
 v26 = j0;
 j0 = v0;
-j1 = UINT64_C(451456);
+j1 = UINT64_C(451472);
 j0 = j0 + j1;
 v27 = j0;
 j0 = v0;
-j1 = UINT64_C(451392);
+j1 = UINT64_C(451408);
 j0 = j0 + j1;
 v28 = j0;
 p7 = read_at(j0, m, 1u);
@@ -134651,33 +135517,33 @@ i0 = load8(p7 + 0);
 i0 = (i0 == 0);
 if (!i0) {
 j0 = v0;
-j1 = UINT64_C(451449);
+j1 = UINT64_C(451465);
 j0 = j0 + j1;
 p8 = read_at(j0 + UINT64_C(18446744073709551575), m, 42u);
 i0 = load8(p8 + 41);
 v29 = i0;
 j0 = v0;
-j1 = UINT64_C(451448);
+j1 = UINT64_C(451464);
 j0 = j0 + j1;
 i0 = load8(p8 + 40);
 v30 = i0;
 j0 = v0;
-j1 = UINT64_C(451440);
+j1 = UINT64_C(451456);
 j0 = j0 + j1;
 j0 = load64(p8 + 32);
 v31 = j0;
 j0 = v0;
-j1 = UINT64_C(451432);
+j1 = UINT64_C(451448);
 j0 = j0 + j1;
 j0 = load8(p8 + 24);
 v32 = j0;
 j0 = v0;
-j1 = UINT64_C(451409);
+j1 = UINT64_C(451425);
 j0 = j0 + j1;
 i0 = load8(p8 + 1);
 v33 = i0;
 j0 = v0;
-j1 = UINT64_C(451408);
+j1 = UINT64_C(451424);
 j0 = j0 + j1;
 i0 = load8(p8 + 0);
 v34 = i0;
@@ -134715,39 +135581,39 @@ j0 = v3;
 j1 = UINT64_C(0);
 store64(p1 + 24, j1);
 j0 = v0;
-j1 = UINT64_C(402144);
+j1 = UINT64_C(402160);
 j0 = j0 + j1;
 i0 = load8(p9 + 0);
 i1 = UINT32_C(1);
 i0 = (i0 != i1);
 if (!i0) {
 j0 = v0;
-j1 = UINT64_C(402192);
+j1 = UINT64_C(402208);
 j0 = j0 + j1;
 j0 = load64(p9 + 48);
 v31 = j0;
 j0 = v0;
-j1 = UINT64_C(402184);
+j1 = UINT64_C(402200);
 j0 = j0 + j1;
 j0 = load8(p9 + 40);
 v32 = j0;
 j0 = v0;
-j1 = UINT64_C(402160);
+j1 = UINT64_C(402176);
 j0 = j0 + j1;
 i0 = load8(p9 + 16);
 v34 = i0;
 j0 = v0;
-j1 = UINT64_C(402161);
+j1 = UINT64_C(402177);
 j0 = j0 + j1;
 i0 = load8(p9 + 17);
 v33 = i0;
 j0 = v0;
-j1 = UINT64_C(402200);
+j1 = UINT64_C(402216);
 j0 = j0 + j1;
 i0 = load8(p9 + 56);
 v30 = i0;
 j0 = v0;
-j1 = UINT64_C(402201);
+j1 = UINT64_C(402217);
 j0 = j0 + j1;
 i0 = load8(p9 + 57);
 v29 = i0;
@@ -134799,7 +135665,7 @@ i1 = UINT32_C(2);
 i0 = (i0 == i1);
 if (!i0) {
 j0 = v0;
-j1 = UINT64_C(319560);
+j1 = UINT64_C(319576);
 j0 = j0 + j1;
 p12 = read_at(j0, m, 1u);
 i0 = load8(p12 + 0);
@@ -134807,7 +135673,7 @@ i1 = UINT32_C(2);
 i0 = (i0 == i1);
 if (!i0) {
 j0 = v0;
-j1 = UINT64_C(344216);
+j1 = UINT64_C(344232);
 j0 = j0 + j1;
 p13 = read_at(j0, m, 8u);
 j0 = load64(p13 + 0);
@@ -134873,7 +135739,7 @@ j0 = v3;
 j1 = UINT64_C(0);
 store64(p1 + 64, j1);
 j0 = v0;
-j1 = UINT64_C(389504);
+j1 = UINT64_C(389520);
 j0 = j0 + j1;
 p14 = read_at(j0, m, 8u);
 j0 = load64(p14 + 0);
@@ -134897,13 +135763,13 @@ j1 = v39;
 j0 = j0 - j1;
 v37 = j0;
 j1 = v0;
-j2 = UINT64_C(389512);
+j2 = UINT64_C(389528);
 j1 = j1 + j2;
 p15 = read_at(j1, m, 8u);
 j1 = load64(p15 + 0);
 i0 = (j0 >= j1);
 if (i0) { goto l13; }
-j0 = UINT64_C(65536);
+j0 = UINT64_C(1048576);
 v36 = j0;
 j0 = UINT64_C(0);
 v40 = j0;
@@ -134920,7 +135786,7 @@ v37 = j0;
 goto l12;
 l15:;
 j0 = v0;
-j1 = UINT64_C(418600);
+j1 = UINT64_C(418616);
 j0 = j0 + j1;
 j0 = load64(p9 + 16456);
 v2 = j0;
@@ -134935,14 +135801,14 @@ j2 = v2;
 fill(m, j0, i1, j2);
 }
 j0 = v0;
-j1 = UINT64_C(418600);
+j1 = UINT64_C(418616);
 j0 = j0 + j1;
 j1 = UINT64_C(0);
 p17 = write_at(j0, m, 8u);
 store64(p17 + 0, j1);
 }
 j0 = v0;
-j1 = UINT64_C(426800);
+j1 = UINT64_C(426816);
 j0 = j0 + j1;
 j0 = load64(p9 + 24656);
 v2 = j0;
@@ -134960,14 +135826,14 @@ j2 = v2;
 fill(m, j0, i1, j2);
 }
 j0 = v0;
-j1 = UINT64_C(426800);
+j1 = UINT64_C(426816);
 j0 = j0 + j1;
 j1 = UINT64_C(0);
 p18 = write_at(j0, m, 8u);
 store64(p18 + 0, j1);
 }
 j0 = v0;
-j1 = UINT64_C(451384);
+j1 = UINT64_C(451400);
 j0 = j0 + j1;
 j0 = load64(p9 + 49240);
 v2 = j0;
@@ -134985,7 +135851,7 @@ j2 = v2;
 fill(m, j0, i1, j2);
 }
 j0 = v0;
-j1 = UINT64_C(451384);
+j1 = UINT64_C(451400);
 j0 = j0 + j1;
 j1 = UINT64_C(0);
 p19 = write_at(j0, m, 8u);
@@ -135067,7 +135933,7 @@ j0 = v0;
 v36 = j0;
 l12:;
 j0 = v0;
-j1 = UINT64_C(402208);
+j1 = UINT64_C(402224);
 j0 = j0 + j1;
 i0 = load8(p9 + 64);
 i0 = (i0 == 0);
@@ -135127,7 +135993,7 @@ i0 = (i0 != i1);
 if (i0) { goto l5; }
 j0 = v10;
 j1 = v0;
-j2 = UINT64_C(325752);
+j2 = UINT64_C(325768);
 j1 = j1 + j2;
 p25 = read_at(j1, m, 8u);
 j1 = load64(p25 + 0);
@@ -135138,23 +136004,23 @@ i0 = fio_log_by_forms_take_message(m, j0, j1, j2, j3, j4);
 i0 = (i0 == 0);
 if (i0) { goto l10; }
 j0 = v0;
-j1 = UINT64_C(379209);
+j1 = UINT64_C(379225);
 j0 = j0 + j1;
 p26 = read_at(j0 + UINT64_C(18446744073709551599), m, 18u);
 i0 = load8(p26 + 17);
 v29 = i0;
 j0 = v0;
-j1 = UINT64_C(379208);
+j1 = UINT64_C(379224);
 j0 = j0 + j1;
 i0 = load8(p26 + 16);
 v30 = i0;
 j0 = v0;
-j1 = UINT64_C(379200);
+j1 = UINT64_C(379216);
 j0 = j0 + j1;
 j0 = load64(p26 + 8);
 v31 = j0;
 j0 = v0;
-j1 = UINT64_C(379192);
+j1 = UINT64_C(379208);
 j0 = j0 + j1;
 j0 = load8(p26 + 0);
 v32 = j0;
@@ -135162,7 +136028,7 @@ i0 = v33;
 j0 = (uint64_t)i0;
 j1 = UINT64_C(255);
 j0 = j0 & j1;
-p27 = read_at(j0 + UINT64_C(68264), m, 1u);
+p27 = read_at(j0 + UINT64_C(1051304), m, 1u);
 i0 = load8(p27 + 0);
 v33 = i0;
 goto l7;
@@ -135173,7 +136039,7 @@ i0 = i0 & i1;
 i0 = (i0 == 0);
 if (i0) { goto l5; }
 j0 = v0;
-j1 = UINT64_C(319560);
+j1 = UINT64_C(319576);
 j0 = j0 + j1;
 v2 = j0;
 p28 = write_at(j0, m, 1u);
@@ -135190,7 +136056,7 @@ i0 = (i0 != i1);
 if (i0) { goto l8; }
 j0 = v13;
 j1 = v0;
-j2 = UINT64_C(323696);
+j2 = UINT64_C(323712);
 j1 = j1 + j2;
 p29 = read_at(j1, m, 8u);
 j1 = load64(p29 + 0);
@@ -135207,23 +136073,23 @@ v34 = i0;
 goto l5;
 l9:;
 j0 = v0;
-j1 = UINT64_C(379209);
+j1 = UINT64_C(379225);
 j0 = j0 + j1;
 p30 = read_at(j0 + UINT64_C(18446744073709551599), m, 18u);
 i0 = load8(p30 + 17);
 v29 = i0;
 j0 = v0;
-j1 = UINT64_C(379208);
+j1 = UINT64_C(379224);
 j0 = j0 + j1;
 i0 = load8(p30 + 16);
 v30 = i0;
 j0 = v0;
-j1 = UINT64_C(379200);
+j1 = UINT64_C(379216);
 j0 = j0 + j1;
 j0 = load64(p30 + 8);
 v31 = j0;
 j0 = v0;
-j1 = UINT64_C(379192);
+j1 = UINT64_C(379208);
 j0 = j0 + j1;
 j0 = load8(p30 + 0);
 v32 = j0;
@@ -135231,7 +136097,7 @@ i0 = v33;
 j0 = (uint64_t)i0;
 j1 = UINT64_C(255);
 j0 = j0 & j1;
-p31 = read_at(j0 + UINT64_C(68264), m, 1u);
+p31 = read_at(j0 + UINT64_C(1051304), m, 1u);
 i0 = load8(p31 + 0);
 v33 = i0;
 i0 = UINT32_C(1);
@@ -135245,13 +136111,13 @@ v42 = j0;
 i0 = UINT32_C(0);
 v43 = i0;
 j0 = v0;
-j1 = UINT64_C(379072);
+j1 = UINT64_C(379088);
 j0 = j0 + j1;
 p32 = read_at(j0 + UINT64_C(18446744073709551608), m, 16u);
 j0 = load64(p32 + 8);
 v2 = j0;
 j1 = v0;
-j2 = UINT64_C(379064);
+j2 = UINT64_C(379080);
 j1 = j1 + j2;
 j1 = load64(p32 + 0);
 i0 = (j0 >= j1);
@@ -135293,7 +136159,7 @@ j0 = load64(p1 + 16);
 v37 = j0;
 j0 = v6;
 j1 = v0;
-j2 = UINT64_C(346288);
+j2 = UINT64_C(346304);
 j1 = j1 + j2;
 p34 = read_at(j1, m, 8u);
 j1 = load64(p34 + 0);
@@ -135302,7 +136168,7 @@ i0 = fio_log_own_texts_spells(m, j0, j1);
 i0 = (i0 == 0);
 if (!i0) {
 j0 = v0;
-j1 = UINT64_C(426800);
+j1 = UINT64_C(426816);
 j0 = j0 + j1;
 j0 = load64(p9 + 24656);
 j1 = UINT64_C(2047);
@@ -135311,7 +136177,7 @@ if (!i0) {
 j0 = v44;
 j1 = UINT64_C(16384);
 j2 = v0;
-j3 = UINT64_C(418600);
+j3 = UINT64_C(418616);
 j2 = j2 + j3;
 j2 = load64(p9 + 16456);
 v45 = j2;
@@ -135349,39 +136215,39 @@ j0 = v46;
 j1 = v2;
 j0 = j0 + j1;
 v36 = j0;
-j1 = UINT64_C(402216);
+j1 = UINT64_C(402232);
 j0 = j0 + j1;
 j1 = v0;
 j2 = v2;
 j1 = j1 + j2;
 v39 = j1;
-j2 = UINT64_C(344240);
+j2 = UINT64_C(344256);
 j1 = j1 + j2;
 p35 = read_at(j1, m, 4u);
 i1 = load8(p35 + 0);
 p36 = write_at(j0, m, 4u);
 store8(p36 + 0, i1);
 j0 = v36;
-j1 = UINT64_C(402217);
+j1 = UINT64_C(402233);
 j0 = j0 + j1;
 j1 = v39;
-j2 = UINT64_C(344241);
+j2 = UINT64_C(344257);
 j1 = j1 + j2;
 i1 = load8(p35 + 1);
 store8(p36 + 1, i1);
 j0 = v36;
-j1 = UINT64_C(402218);
+j1 = UINT64_C(402234);
 j0 = j0 + j1;
 j1 = v39;
-j2 = UINT64_C(344242);
+j2 = UINT64_C(344258);
 j1 = j1 + j2;
 i1 = load8(p35 + 2);
 store8(p36 + 2, i1);
 j0 = v36;
-j1 = UINT64_C(402219);
+j1 = UINT64_C(402235);
 j0 = j0 + j1;
 j1 = v39;
-j2 = UINT64_C(344243);
+j2 = UINT64_C(344259);
 j1 = j1 + j2;
 i1 = load8(p35 + 3);
 store8(p36 + 3, i1);
@@ -135437,7 +136303,7 @@ copy(m, j0, j1, j2);
 }
 l29:;
 j0 = v0;
-j1 = UINT64_C(418600);
+j1 = UINT64_C(418616);
 j0 = j0 + j1;
 j1 = v45;
 j2 = v44;
@@ -135446,7 +136312,7 @@ v36 = j1;
 p39 = write_at(j0, m, 8u);
 store64(p39 + 0, j1);
 j0 = v0;
-j1 = UINT64_C(426800);
+j1 = UINT64_C(426816);
 j0 = j0 + j1;
 v39 = j0;
 j0 = load64(p9 + 24656);
@@ -135476,13 +136342,13 @@ j0 = v37;
 i0 = (j0 == 0);
 if (!i0) {
 j0 = v0;
-j1 = UINT64_C(379072);
+j1 = UINT64_C(379088);
 j0 = j0 + j1;
 p42 = read_at(j0 + UINT64_C(18446744073709551608), m, 16u);
 j0 = load64(p42 + 8);
 v2 = j0;
 j1 = v0;
-j2 = UINT64_C(379064);
+j2 = UINT64_C(379080);
 j1 = j1 + j2;
 j1 = load64(p42 + 0);
 v45 = j1;
@@ -135496,14 +136362,14 @@ j0 = j0 + j1;
 v36 = j0;
 l34:;
 j0 = v0;
-j1 = UINT64_C(379064);
+j1 = UINT64_C(379080);
 j0 = j0 + j1;
 j0 = load64(p42 + 0);
 j1 = v2;
 i0 = (j0 <= j1);
 if (i0) { goto l27; }
 j0 = v36;
-j1 = UINT64_C(346312);
+j1 = UINT64_C(346328);
 j0 = j0 + j1;
 p43 = read_at(j0, m, 2u);
 i0 = load16(p43 + 0);
@@ -135514,7 +136380,7 @@ i0 = v35;
 i0 = (i0 == 0);
 if (!i0) {
 j0 = v0;
-j1 = UINT64_C(451384);
+j1 = UINT64_C(451400);
 j0 = j0 + j1;
 v44 = j0;
 j0 = load64(p9 + 49240);
@@ -135523,13 +136389,13 @@ j1 = UINT64_C(1024);
 i0 = (j0 == j1);
 if (i0) { goto l36; }
 j0 = v36;
-j1 = UINT64_C(346296);
+j1 = UINT64_C(346312);
 j0 = j0 + j1;
 p44 = read_at(j0, m, 16u);
 j0 = load64(p44 + 0);
 v47 = j0;
 j0 = v36;
-j1 = UINT64_C(346304);
+j1 = UINT64_C(346320);
 j0 = j0 + j1;
 j0 = load32(p44 + 8);
 v48 = j0;
@@ -135540,7 +136406,7 @@ j1 = j1 * j2;
 j0 = j0 + j1;
 v46 = j0;
 j1 = v36;
-j2 = UINT64_C(346308);
+j2 = UINT64_C(346324);
 j1 = j1 + j2;
 j1 = load32(p44 + 12);
 p45 = write_at(j0, m, 24u);
@@ -135563,7 +136429,7 @@ j1 = v39;
 i0 = (j0 >= j1);
 if (i0) { goto l35; }
 j0 = v36;
-j1 = UINT64_C(346312);
+j1 = UINT64_C(346328);
 j0 = j0 + j1;
 i1 = v35;
 j2 = v37;
@@ -135578,7 +136444,7 @@ j1 = v39;
 i0 = (j0 >= j1);
 if (!i0) {
 j0 = v36;
-j1 = UINT64_C(346312);
+j1 = UINT64_C(346328);
 j0 = j0 + j1;
 i1 = v35;
 j2 = v37;
@@ -135590,7 +136456,7 @@ goto l27;
 }
 l35:;
 j0 = v0;
-j1 = UINT64_C(379072);
+j1 = UINT64_C(379088);
 j0 = j0 + j1;
 j1 = v2;
 j2 = UINT64_C(1);
@@ -135618,7 +136484,7 @@ if (i0) { goto l34; }
 }
 l27:;
 j0 = v0;
-j1 = UINT64_C(426800);
+j1 = UINT64_C(426816);
 j0 = j0 + j1;
 j0 = load64(p9 + 24656);
 v2 = j0;
@@ -135725,13 +136591,13 @@ j2 = j2 + j3;
 i0 = fio_log_teller_Teller_hear_next(m, j0, j1, j2);
 v38 = i0;
 j0 = v0;
-j1 = UINT64_C(451464);
+j1 = UINT64_C(451480);
 j0 = j0 + j1;
 j0 = load64(p50 + 8);
 v44 = j0;
 }
 j0 = v0;
-j1 = UINT64_C(451472);
+j1 = UINT64_C(451488);
 j0 = j0 + j1;
 j1 = v2;
 j2 = v26;
@@ -135745,7 +136611,7 @@ j0 = UINT64_C(0);
 v40 = j0;
 l43:;
 j0 = v0;
-j1 = UINT64_C(426800);
+j1 = UINT64_C(426816);
 j0 = j0 + j1;
 p52 = read_at(j0, m, 8u);
 j0 = load64(p52 + 0);
@@ -135970,7 +136836,7 @@ v2 = j0;
 l53:;
 j0 = v26;
 j1 = v0;
-j2 = UINT64_C(451384);
+j2 = UINT64_C(451400);
 j1 = j1 + j2;
 p61 = read_at(j1, m, 8u);
 j1 = load64(p61 + 0);
@@ -136088,7 +136954,7 @@ i1 = v33;
 j1 = (uint64_t)i1;
 j2 = UINT64_C(255);
 j1 = j1 & j2;
-p67 = read_at(j1 + UINT64_C(68275), m, 1u);
+p67 = read_at(j1 + UINT64_C(1051315), m, 1u);
 i1 = load8(p67 + 0);
 store8(p66 + 25, i1);
 j0 = v2;
@@ -136221,6 +137087,7 @@ uint64_t v11 = 0;
 uint64_t v12 = 0;
 uint32_t i0;
 uint32_t i1;
+uint32_t i3;
 uint64_t j0;
 uint64_t j1;
 uint64_t j2;
@@ -136257,10 +137124,13 @@ uint8_t *p25;
 uint8_t *p26;
 uint8_t *p27;
 uint8_t *p28;
+uint8_t *p29;
+uint8_t *p30;
+uint8_t *p31;
 j0 = m->g0;
-j1 = UINT64_C(128);
+j1 = UINT64_C(12624);
 j0 = j0 - j1;
-p1 = write_at(j0, m, 128u);
+p1 = write_at(j0, m, 12624u);
 v1 = j0;
 m->g0 = j0;
 j0 = v1;
@@ -136269,13 +137139,13 @@ j1 = UINT64_C(16);
 i0 = (SIGNED64(j0) < SIGNED64(j1));
 if (!i0) {
 j0 = v0;
-j1 = UINT64_C(451473);
+j1 = UINT64_C(451489);
 j0 = j0 + j1;
 p2 = read_at(j0, m, 1u);
 i0 = load8(p2 + 0);
 if (i0) { goto l2; }
 j0 = v0;
-j1 = UINT64_C(451472);
+j1 = UINT64_C(451488);
 j0 = j0 + j1;
 p3 = read_at(j0, m, 1u);
 i0 = load8(p3 + 0);
@@ -136283,7 +137153,7 @@ i1 = UINT32_C(1);
 i0 = (i0 != i1);
 if (!i0) {
 j0 = v0;
-j1 = UINT64_C(451473);
+j1 = UINT64_C(451489);
 j0 = j0 + j1;
 i1 = UINT32_C(1);
 p4 = write_at(j0, m, 1u);
@@ -136296,7 +137166,7 @@ store64(p1 + 16, j1);
 i0 = UINT32_C(0);
 v2 = i0;
 j0 = v0;
-j1 = UINT64_C(451456);
+j1 = UINT64_C(451472);
 j0 = j0 + j1;
 v3 = j0;
 p5 = read_at(j0, m, 8u);
@@ -136312,34 +137182,34 @@ p6 = read_at(j0, m, 1u);
 i0 = load8(p6 + 0);
 if (i0) { goto l3; }
 j0 = v0;
-j1 = UINT64_C(451464);
+j1 = UINT64_C(451480);
 j0 = j0 + j1;
 p7 = read_at(j0 + UINT64_C(18446744073709502240), m, 49384u);
 j0 = load64(p7 + 49376);
 v5 = j0;
 j0 = v1;
 j1 = UINT64_C(0);
+store64(p1 + 120, j1);
+j0 = v1;
+j1 = UINT64_C(0);
+store64(p1 + 112, j1);
+j0 = v1;
+j1 = UINT64_C(0);
+store64(p1 + 104, j1);
+j0 = v1;
+j1 = UINT64_C(0);
+store64(p1 + 96, j1);
+j0 = v1;
+j1 = UINT64_C(0);
+store64(p1 + 88, j1);
+j0 = v1;
+j1 = UINT64_C(0);
+store64(p1 + 80, j1);
+j0 = v1;
+j1 = UINT64_C(0);
 store64(p1 + 72, j1);
-j0 = v1;
-j1 = UINT64_C(0);
-store64(p1 + 64, j1);
-j0 = v1;
-j1 = UINT64_C(0);
-store64(p1 + 56, j1);
-j0 = v1;
-j1 = UINT64_C(0);
-store64(p1 + 48, j1);
-j0 = v1;
-j1 = UINT64_C(0);
-store64(p1 + 40, j1);
-j0 = v1;
-j1 = UINT64_C(0);
-store64(p1 + 32, j1);
-j0 = v1;
-j1 = UINT64_C(0);
-store64(p1 + 24, j1);
 j0 = v0;
-j1 = UINT64_C(402216);
+j1 = UINT64_C(402232);
 j0 = j0 + j1;
 v6 = j0;
 j0 = v0;
@@ -136347,7 +137217,7 @@ j1 = UINT64_C(65560);
 j0 = j0 + j1;
 v7 = j0;
 j0 = v0;
-j1 = UINT64_C(402088);
+j1 = UINT64_C(402104);
 j0 = j0 + j1;
 v8 = j0;
 i0 = load8(p7 + 0);
@@ -136356,54 +137226,54 @@ i0 = (i0 != i1);
 if (!i0) {
 j0 = v1;
 j1 = v0;
-j2 = UINT64_C(402136);
+j2 = UINT64_C(402152);
 j1 = j1 + j2;
 j1 = load64(p7 + 48);
-store64(p1 + 120, j1);
+store64(p1 + 64, j1);
+j0 = v1;
+j1 = v0;
+j2 = UINT64_C(402144);
+j1 = j1 + j2;
+j1 = load64(p7 + 40);
+store64(p1 + 56, j1);
+j0 = v1;
+j1 = v0;
+j2 = UINT64_C(402136);
+j1 = j1 + j2;
+j1 = load64(p7 + 32);
+store64(p1 + 48, j1);
 j0 = v1;
 j1 = v0;
 j2 = UINT64_C(402128);
 j1 = j1 + j2;
-j1 = load64(p7 + 40);
-store64(p1 + 112, j1);
+j1 = load64(p7 + 24);
+store64(p1 + 40, j1);
 j0 = v1;
 j1 = v0;
 j2 = UINT64_C(402120);
 j1 = j1 + j2;
-j1 = load64(p7 + 32);
-store64(p1 + 104, j1);
+j1 = load64(p7 + 16);
+store64(p1 + 32, j1);
 j0 = v1;
 j1 = v0;
 j2 = UINT64_C(402112);
 j1 = j1 + j2;
-j1 = load64(p7 + 24);
-store64(p1 + 96, j1);
-j0 = v1;
-j1 = v0;
-j2 = UINT64_C(402104);
-j1 = j1 + j2;
-j1 = load64(p7 + 16);
-store64(p1 + 88, j1);
-j0 = v1;
-j1 = v0;
-j2 = UINT64_C(402096);
-j1 = j1 + j2;
 j1 = load64(p7 + 8);
-store64(p1 + 80, j1);
+store64(p1 + 24, j1);
 j0 = v1;
-j1 = UINT64_C(24);
+j1 = UINT64_C(72);
 j0 = j0 + j1;
 j1 = v7;
 j2 = v0;
 j3 = v4;
 j4 = v5;
 j5 = v1;
-j6 = UINT64_C(80);
+j6 = UINT64_C(24);
 j5 = j5 + j6;
 j6 = v6;
 fio_log_teller_Teller_tell_heard(m, j0, j1, j2, j3, j4, j5, j6);
 j0 = v0;
-j1 = UINT64_C(402144);
+j1 = UINT64_C(402160);
 j0 = j0 + j1;
 j1 = UINT64_C(1);
 p8 = write_at(j0 + UINT64_C(18446744073709551560), m, 120u);
@@ -136430,46 +137300,46 @@ j0 = v8;
 j1 = UINT64_C(0);
 store64(p8 + 48, j1);
 j0 = v0;
-j1 = UINT64_C(402152);
-j0 = j0 + j1;
-j1 = v1;
-j1 = load64(p1 + 24);
-store64(p8 + 64, j1);
-j0 = v0;
-j1 = UINT64_C(402160);
-j0 = j0 + j1;
-j1 = v1;
-j1 = load64(p1 + 32);
-store64(p8 + 72, j1);
-j0 = v0;
 j1 = UINT64_C(402168);
 j0 = j0 + j1;
 j1 = v1;
-j1 = load64(p1 + 40);
-store64(p8 + 80, j1);
+j1 = load64(p1 + 72);
+store64(p8 + 64, j1);
 j0 = v0;
 j1 = UINT64_C(402176);
 j0 = j0 + j1;
 j1 = v1;
-j1 = load64(p1 + 48);
-store64(p8 + 88, j1);
+j1 = load64(p1 + 80);
+store64(p8 + 72, j1);
 j0 = v0;
 j1 = UINT64_C(402184);
 j0 = j0 + j1;
 j1 = v1;
-j1 = load64(p1 + 56);
-store64(p8 + 96, j1);
+j1 = load64(p1 + 88);
+store64(p8 + 80, j1);
 j0 = v0;
 j1 = UINT64_C(402192);
 j0 = j0 + j1;
 j1 = v1;
-j1 = load64(p1 + 64);
-store64(p8 + 104, j1);
+j1 = load64(p1 + 96);
+store64(p8 + 88, j1);
 j0 = v0;
 j1 = UINT64_C(402200);
 j0 = j0 + j1;
 j1 = v1;
-j1 = load64(p1 + 72);
+j1 = load64(p1 + 104);
+store64(p8 + 96, j1);
+j0 = v0;
+j1 = UINT64_C(402208);
+j0 = j0 + j1;
+j1 = v1;
+j1 = load64(p1 + 112);
+store64(p8 + 104, j1);
+j0 = v0;
+j1 = UINT64_C(402216);
+j0 = j0 + j1;
+j1 = v1;
+j1 = load64(p1 + 120);
 store64(p8 + 112, j1);
 j0 = v0;
 j1 = UINT64_C(65553);
@@ -136496,7 +137366,7 @@ i1 = UINT32_C(2);
 i0 = (i0 < i1);
 if (i0) { goto l6; }
 }
-j0 = UINT64_C(67477);
+j0 = UINT64_C(1050517);
 v4 = j0;
 j0 = UINT64_C(1);
 v8 = j0;
@@ -136522,11 +137392,11 @@ default:
 goto l17;
 }
 l19:;
-j0 = UINT64_C(67479);
+j0 = UINT64_C(1050519);
 v4 = j0;
 goto l15;
 l18:;
-j0 = UINT64_C(67480);
+j0 = UINT64_C(1050520);
 v4 = j0;
 j0 = UINT64_C(2);
 v8 = j0;
@@ -136538,13 +137408,13 @@ j0 = v0;
 j1 = v9;
 j0 = j0 + j1;
 v11 = j0;
-j0 = UINT64_C(65536);
+j0 = UINT64_C(1048576);
 v4 = j0;
 j0 = UINT64_C(0);
 v8 = j0;
 goto l14;
 l16:;
-j0 = UINT64_C(67478);
+j0 = UINT64_C(1050518);
 v4 = j0;
 l15:;
 j0 = v0;
@@ -136709,7 +137579,7 @@ p20 = write_at(j0, m, 2u);
 store16(p20 + 0, i1);
 l7:;
 j0 = v0;
-j1 = UINT64_C(451456);
+j1 = UINT64_C(451472);
 j0 = j0 + j1;
 v4 = j0;
 j1 = v4;
@@ -136721,7 +137591,7 @@ p21 = write_at(j0, m, 17u);
 store64(p21 + 0, j1);
 j0 = v1;
 j1 = v0;
-j2 = UINT64_C(451464);
+j2 = UINT64_C(451480);
 j1 = j1 + j2;
 j1 = load64(p7 + 49376);
 store64(p1 + 8, j1);
@@ -136729,10 +137599,10 @@ j0 = v1;
 j1 = v4;
 store64(p1 + 0, j1);
 j0 = v0;
-j1 = UINT64_C(451472);
+j1 = UINT64_C(451488);
 j0 = j0 + j1;
 j1 = v0;
-j2 = UINT64_C(451392);
+j2 = UINT64_C(451408);
 j1 = j1 + j2;
 i1 = load8(p7 + 49304);
 j2 = v0;
@@ -136740,7 +137610,7 @@ j3 = v1;
 j4 = v7;
 j5 = v6;
 j6 = v0;
-j7 = UINT64_C(451400);
+j7 = UINT64_C(451416);
 j6 = j6 + j7;
 i1 = fio_log_reader_read_line(m, i1, j2, j3, j4, j5, j6);
 v2 = i1;
@@ -136751,7 +137621,7 @@ j0 = v0;
 j1 = UINT64_C(65552);
 j0 = j0 + j1;
 i1 = UINT32_C(0);
-p22 = write_at(j0 + UINT64_C(18446744073709551608), m, 385929u);
+p22 = write_at(j0 + UINT64_C(18446744073709551608), m, 385945u);
 store16(p22 + 8, i1);
 j0 = v0;
 j1 = UINT64_C(65544);
@@ -136759,9 +137629,9 @@ j0 = j0 + j1;
 i1 = UINT32_C(0);
 store8(p22 + 0, i1);
 j0 = v0;
-j1 = UINT64_C(451472);
+j1 = UINT64_C(451488);
 j0 = j0 + j1;
-i0 = load8(p22 + 385928);
+i0 = load8(p22 + 385944);
 v2 = i0;
 goto l3;
 }
@@ -136770,25 +137640,29 @@ l3:;
 j0 = v3;
 p23 = read_at(j0, m, 8u);
 j0 = load64(p23 + 0);
-v3 = j0;
+v4 = j0;
 j0 = v0;
-j1 = UINT64_C(451464);
+j1 = UINT64_C(451480);
 j0 = j0 + j1;
 p24 = read_at(j0, m, 8u);
 j0 = load64(p24 + 0);
-v4 = j0;
+v3 = j0;
 i0 = v2;
 i1 = UINT32_C(1);
 i0 = i0 & i1;
 if (!i0) {
 j0 = v0;
-j1 = UINT64_C(451392);
+j1 = UINT64_C(451408);
 j0 = j0 + j1;
 p25 = read_at(j0, m, 1u);
 i0 = load8(p25 + 0);
 i1 = UINT32_C(255);
 i0 = i0 & i1;
 if (!i0) {
+j0 = v0;
+j1 = UINT64_C(65560);
+j0 = j0 + j1;
+v8 = j0;
 j0 = v1;
 i1 = UINT32_C(0);
 p26 = write_at(j0 + UINT64_C(24), m, 24u);
@@ -136797,23 +137671,72 @@ j0 = v1;
 i1 = UINT32_C(1);
 store8(p26 + 16, i1);
 j0 = v1;
-j1 = v4;
+j1 = v3;
 store64(p26 + 8, j1);
 j0 = v1;
-j1 = v3;
+j1 = v4;
 store64(p26 + 0, j1);
 j0 = v1;
 i1 = UINT32_C(0);
 store32(p26 + 20, i1);
 j0 = v0;
-j1 = UINT64_C(65560);
+j1 = UINT64_C(402096);
 j0 = j0 + j1;
-v3 = j0;
-j1 = v1;
-j2 = UINT64_C(24);
+v4 = j0;
+p27 = read_at(j0, m, 1u);
+i0 = load8(p27 + 0);
+if (!i0) {
+j0 = v1;
+j1 = UINT64_C(72);
+j0 = j0 + j1;
+i1 = UINT32_C(0);
+j2 = UINT64_C(12552);
+fill(m, j0, i1, j2);
+j0 = v1;
+j1 = UINT64_C(72);
+j0 = j0 + j1;
+j1 = v0;
+j2 = UINT64_C(135208);
 j1 = j1 + j2;
-fio_log_teller_Teller_know(m, j0, j1);
-j0 = v3;
+j2 = v8;
+i3 = UINT32_C(1);
+fio_sniff_sniffing_Sniffer_sniff(m, j0, j1, j2, i3);
+j0 = v0;
+j1 = UINT64_C(303672);
+j0 = j0 + j1;
+j1 = v1;
+j2 = UINT64_C(72);
+j1 = j1 + j2;
+j2 = v1;
+p28 = read_at(j2 + UINT64_C(12616), m, 8u);
+j2 = load64(p28 + 0);
+fio_log_by_forms_FormReader_add(m, j0, j1, j2);
+j0 = v0;
+j1 = UINT64_C(389520);
+j0 = j0 + j1;
+j1 = UINT64_C(18446744073709551615);
+j2 = v3;
+j3 = UINT64_C(1);
+j2 = j2 + j3;
+v3 = j2;
+j3 = v3;
+i3 = (j3 == 0);
+j1 = i3 ? j1 : j2;
+p29 = write_at(j0 + UINT64_C(18446744073709297296), m, 266897u);
+store64(p29 + 254320, j1);
+j0 = v4;
+i1 = UINT32_C(1);
+store8(p29 + 266896, i1);
+j0 = v0;
+j1 = UINT64_C(389528);
+j0 = j0 + j1;
+j1 = v0;
+j2 = UINT64_C(135200);
+j1 = j1 + j2;
+j1 = load64(p29 + 0);
+store64(p29 + 254328, j1);
+}
+j0 = v8;
 j1 = v0;
 j2 = v1;
 j3 = UINT64_C(24);
@@ -136821,34 +137744,34 @@ j2 = j2 + j3;
 i0 = fio_log_teller_Teller_hear_next(m, j0, j1, j2);
 (void)i0;
 j0 = v0;
-j1 = UINT64_C(451456);
-j0 = j0 + j1;
-p27 = read_at(j0, m, 8u);
-j0 = load64(p27 + 0);
-v3 = j0;
-j0 = v0;
-j1 = UINT64_C(451464);
-j0 = j0 + j1;
-j0 = load64(p24 + 0);
-v4 = j0;
-}
-}
-j0 = v0;
 j1 = UINT64_C(451472);
 j0 = j0 + j1;
-j1 = v4;
-j2 = v3;
-i1 = (j1 < j2);
-p28 = write_at(j0, m, 2u);
-store8(p28 + 0, i1);
+p30 = read_at(j0, m, 8u);
+j0 = load64(p30 + 0);
+v4 = j0;
 j0 = v0;
-j1 = UINT64_C(451473);
+j1 = UINT64_C(451480);
+j0 = j0 + j1;
+j0 = load64(p24 + 0);
+v3 = j0;
+}
+}
+j0 = v0;
+j1 = UINT64_C(451488);
+j0 = j0 + j1;
+j1 = v3;
+j2 = v4;
+i1 = (j1 < j2);
+p31 = write_at(j0, m, 2u);
+store8(p31 + 0, i1);
+j0 = v0;
+j1 = UINT64_C(451489);
 j0 = j0 + j1;
 i1 = UINT32_C(1);
-store8(p28 + 1, i1);
+store8(p31 + 1, i1);
 l2:;
 j0 = v1;
-j1 = UINT64_C(128);
+j1 = UINT64_C(12624);
 j0 = j0 + j1;
 m->g0 = j0;
 }
@@ -136995,7 +137918,6 @@ uint8_t *p48;
 uint8_t *p49;
 uint8_t *p50;
 uint8_t *p51;
-uint8_t *p52;
 j0 = m->g0;
 j1 = UINT64_C(104448);
 j0 = j0 - j1;
@@ -137010,7 +137932,7 @@ if (!i0) {
 i0 = UINT32_C(0);
 v5 = i0;
 j0 = v0;
-j1 = UINT64_C(451456);
+j1 = UINT64_C(451472);
 j0 = j0 + j1;
 p2 = read_at(j0, m, 8u);
 j0 = load64(p2 + 0);
@@ -137018,7 +137940,7 @@ j1 = UINT64_C(0);
 i0 = (j0 != j1);
 if (!i0) {
 j0 = v0;
-j1 = UINT64_C(451392);
+j1 = UINT64_C(451408);
 j0 = j0 + j1;
 p3 = read_at(j0, m, 1u);
 i0 = load8(p3 + 0);
@@ -137047,7 +137969,7 @@ fill(m, j0, i1, j2);
 j0 = UINT64_C(0);
 v8 = j0;
 j0 = v0;
-j1 = UINT64_C(389504);
+j1 = UINT64_C(389520);
 j0 = j0 + j1;
 j1 = UINT64_C(0);
 p4 = write_at(j0, m, 8u);
@@ -138168,7 +139090,7 @@ j0 = load64(p26 + 0);
 j1 = v18;
 i0 = (j0 > j1);
 if (!i0) {
-j0 = UINT64_C(65536);
+j0 = UINT64_C(1048576);
 v16 = j0;
 j0 = UINT64_C(0);
 v3 = j0;
@@ -138294,7 +139216,7 @@ store8(p1 + 65106, i1);
 j0 = v4;
 i1 = v49;
 store8(p1 + 65105, i1);
-j0 = UINT64_C(65536);
+j0 = UINT64_C(1048576);
 v16 = j0;
 j0 = UINT64_C(0);
 v3 = j0;
@@ -138466,7 +139388,7 @@ l48:;
 j0 = v26;
 j1 = v4;
 j1 = load64(p1 + 64992);
-j2 = UINT64_C(65752);
+j2 = UINT64_C(1048792);
 i0 = core_slice_reads_slice_T_contains(m, j0, j1, j2);
 v41 = i0;
 j0 = UINT64_C(1024);
@@ -138830,7 +139752,7 @@ p46 = write_at(j0, m, 8u);
 store64(p46 + 0, j1);
 }
 j0 = v0;
-j1 = UINT64_C(303616);
+j1 = UINT64_C(303624);
 j0 = j0 + j1;
 p47 = read_at(j0, m, 8u);
 j0 = load64(p47 + 0);
@@ -138844,184 +139766,77 @@ v3 = j0;
 i0 = (j0 == 0);
 if (!i0) {
 j0 = v0;
-j1 = UINT64_C(303488);
+j1 = UINT64_C(303496);
 j0 = j0 + j1;
 i1 = UINT32_C(0);
 j2 = v3;
 fill(m, j0, i1, j2);
 }
 j0 = v0;
-j1 = UINT64_C(303616);
+j1 = UINT64_C(303624);
 j0 = j0 + j1;
 j1 = UINT64_C(0);
 p48 = write_at(j0, m, 8u);
 store64(p48 + 0, j1);
 }
 j0 = v0;
-j1 = UINT64_C(303632);
+j1 = UINT64_C(303656);
 j0 = j0 + j1;
-j1 = UINT64_C(2);
-p49 = write_at(j0 + UINT64_C(18446744073709551608), m, 40u);
-store64(p49 + 8, j1);
+j1 = UINT64_C(0);
+p49 = write_at(j0 + UINT64_C(18446744073709551592), m, 41u);
+store64(p49 + 24, j1);
 j0 = v0;
-j1 = UINT64_C(303624);
+j1 = UINT64_C(303632);
 j0 = j0 + j1;
 i1 = UINT32_C(0);
 store8(p49 + 0, i1);
 j0 = v0;
-j1 = UINT64_C(303656);
-j0 = j0 + j1;
-j1 = UINT64_C(1024);
-store64(p49 + 32, j1);
-j0 = v0;
-j1 = UINT64_C(303648);
+j1 = UINT64_C(303664);
 j0 = j0 + j1;
 j1 = UINT64_C(0);
-store64(p49 + 24, j1);
-j0 = v0;
-j1 = UINT64_C(303642);
-j0 = j0 + j1;
-i1 = UINT32_C(0);
-store8(p49 + 18, i1);
+store64(p49 + 32, j1);
 j0 = v0;
 j1 = UINT64_C(303640);
 j0 = j0 + j1;
-i1 = UINT32_C(1);
-store16(p49 + 16, i1);
-j0 = v4;
-j0 = load64(p1 + 25096);
-v3 = j0;
-j0 = v4;
-j1 = UINT64_C(51784);
+j1 = UINT64_C(0);
+store64(p49 + 8, j1);
+j0 = v0;
+j1 = UINT64_C(303647);
 j0 = j0 + j1;
 i1 = UINT32_C(0);
-j2 = UINT64_C(784);
-fill(m, j0, i1, j2);
-j0 = v3;
-i0 = (j0 == 0);
+store32(p49 + 15, i1);
+j0 = v0;
+j1 = UINT64_C(303672);
+j0 = j0 + j1;
+v16 = j0;
+j1 = v4;
+j2 = UINT64_C(12552);
+j1 = j1 + j2;
+j2 = v4;
+j2 = load64(p1 + 25096);
+fio_log_by_forms_FormReader_add(m, j0, j1, j2);
+j0 = UINT64_C(0);
+v3 = j0;
+j0 = v16;
+i0 = load8(p49 + 40);
+i1 = UINT32_C(1);
+i0 = (i0 != i1);
 if (!i0) {
 j0 = v0;
-j1 = UINT64_C(316208);
+j1 = UINT64_C(316224);
 j0 = j0 + j1;
 p50 = read_at(j0, m, 8u);
 j0 = load64(p50 + 0);
-j1 = UINT64_C(16);
-i0 = (j0 == j1);
-if (!i0) {
+v3 = j0;
+}
 j0 = v0;
-j1 = UINT64_C(303664);
+j1 = UINT64_C(389512);
 j0 = j0 + j1;
-v2 = j0;
-j0 = v0;
-j1 = UINT64_C(316216);
-j0 = j0 + j1;
-v7 = j0;
-j0 = v4;
-j1 = UINT64_C(12552);
-j0 = j0 + j1;
-v16 = j0;
-l66:;
-j0 = v4;
-j1 = UINT64_C(51784);
-j0 = j0 + j1;
-j1 = v16;
-fio_form_form_LineForm_copied(m, j0, j1);
-j0 = v0;
-j1 = UINT64_C(316208);
-j0 = j0 + j1;
-v20 = j0;
-j0 = load64(p50 + 0);
-v12 = j0;
-j1 = UINT64_C(16);
-i0 = (j0 == j1);
-if (!i0) {
-j0 = v2;
-j1 = v12;
-j2 = UINT64_C(784);
-j1 = j1 * j2;
-j0 = j0 + j1;
-j1 = v4;
-j2 = UINT64_C(51784);
-j1 = j1 + j2;
-j2 = UINT64_C(784);
-copy(m, j0, j1, j2);
-j0 = v20;
-j1 = v12;
-j2 = UINT64_C(1);
-j1 = j1 + j2;
-p51 = write_at(j0, m, 3344u);
+j1 = v3;
+p51 = write_at(j0, m, 12585u);
 store64(p51 + 0, j1);
 j0 = v0;
-j1 = UINT64_C(319544);
-j0 = j0 + j1;
-v20 = j0;
-j0 = load64(p51 + 3336);
-v12 = j0;
-j1 = UINT64_C(16);
-i0 = (j0 == j1);
-if (!i0) {
-j0 = v7;
-j1 = v12;
-j2 = UINT64_C(208);
-j1 = j1 * j2;
-j0 = j0 + j1;
-i1 = UINT32_C(0);
-j2 = UINT64_C(208);
-fill(m, j0, i1, j2);
-j0 = v20;
-j1 = v12;
-j2 = UINT64_C(1);
-j1 = j1 + j2;
-store64(p51 + 3336, j1);
-}
-}
-j0 = v16;
-j1 = UINT64_C(784);
-j0 = j0 + j1;
-v16 = j0;
-j0 = v3;
-j1 = UINT64_C(18446744073709551615);
-j0 = j0 + j1;
-v3 = j0;
-j1 = UINT64_C(0);
-i0 = (j0 != j1);
-if (i0) { goto l66; }
-goto l64;
-}
-j0 = v4;
-j1 = UINT64_C(12552);
-j0 = j0 + j1;
-v16 = j0;
-l68:;
-j0 = v4;
-j1 = UINT64_C(51784);
-j0 = j0 + j1;
-j1 = v16;
-fio_form_form_LineForm_copied(m, j0, j1);
-j0 = v16;
-j1 = UINT64_C(784);
-j0 = j0 + j1;
-v16 = j0;
-j0 = v3;
-j1 = UINT64_C(18446744073709551615);
-j0 = j0 + j1;
-v3 = j0;
-i0 = (j0 == 0);
-i0 = (i0 == 0);
-if (i0) { goto l68; }
-}
-l64:;
-j0 = v0;
-j1 = UINT64_C(389496);
-j0 = j0 + j1;
-j1 = v0;
-j2 = UINT64_C(316208);
-j1 = j1 + j2;
-p52 = write_at(j1, m, 85873u);
-j1 = load64(p52 + 0);
-store64(p52 + 73288, j1);
-j0 = v0;
-j1 = UINT64_C(402080);
+j1 = UINT64_C(402096);
 j0 = j0 + j1;
 v3 = j0;
 j1 = v4;
@@ -139030,9 +139845,9 @@ v16 = j1;
 j2 = UINT64_C(0);
 i1 = (j1 != j2);
 j2 = v3;
-i2 = load8(p52 + 85872);
+i2 = load8(p51 + 12584);
 i1 = i1 | i2;
-store8(p52 + 85872, i1);
+store8(p51 + 12584, i1);
 j0 = v16;
 i0 = (uint32_t)j0;
 v5 = i0;
@@ -139066,10 +139881,6 @@ rattle_leave(m);
 }
 static void proved_log_start(struct machine *m, uint64_t v0, uint32_t v1)
 {
-uint64_t v2 = 0;
-uint64_t v3 = 0;
-uint64_t v4 = 0;
-uint64_t v5 = 0;
 uint32_t i0;
 uint32_t i1;
 uint32_t i2;
@@ -139080,2053 +139891,15 @@ uint64_t j0;
 uint64_t j1;
 uint64_t j2;
 uint8_t *p1;
-uint8_t *p2;
-uint8_t *p3;
-uint8_t *p4;
-uint8_t *p5;
-uint8_t *p6;
 j0 = m->g0;
-j1 = UINT64_C(2496640);
-j0 = j0 - j1;
-p1 = write_at(j0, m, 2496640u);
-v2 = j0;
-m->g0 = j0;
-j0 = v2;
-v3 = j0;
-j1 = UINT64_C(16);
-i0 = (SIGNED64(j0) < SIGNED64(j1));
+j1 = UINT64_C(15);
+i0 = (SIGNED64(j0) > SIGNED64(j1));
 if (!i0) {
-j0 = v3;
-j1 = UINT64_C(151016);
-j0 = j0 + j1;
-i1 = UINT32_C(0);
-j2 = UINT64_C(246612);
-fill(m, j0, i1, j2);
-j0 = v3;
-j1 = UINT64_C(137704);
-j0 = j0 + j1;
-i1 = UINT32_C(0);
-j2 = UINT64_C(13312);
-fill(m, j0, i1, j2);
-j0 = v3;
-j1 = UINT64_C(128576);
-j0 = j0 + j1;
-i1 = UINT32_C(0);
-j2 = UINT64_C(9128);
-fill(m, j0, i1, j2);
-j0 = v3;
-j1 = UINT64_C(99328);
-j0 = j0 + j1;
-i1 = UINT32_C(0);
-j2 = UINT64_C(29248);
-fill(m, j0, i1, j2);
-j0 = v3;
-j1 = UINT64_C(99194);
-j0 = j0 + j1;
-i1 = UINT32_C(0);
-j2 = UINT64_C(134);
-fill(m, j0, i1, j2);
-j0 = v3;
-j1 = UINT64_C(98680);
-j0 = j0 + j1;
-i1 = UINT32_C(0);
-j2 = UINT64_C(512);
-fill(m, j0, i1, j2);
-j0 = v3;
-j1 = UINT64_C(98546);
-j0 = j0 + j1;
-i1 = UINT32_C(0);
-j2 = UINT64_C(134);
-fill(m, j0, i1, j2);
-j0 = v3;
-i1 = UINT32_C(0);
-store8(p1 + 98544, i1);
-j0 = v3;
-i1 = UINT32_C(0);
-store32(p1 + 98540, i1);
-j0 = v3;
-j1 = UINT64_C(12696);
-j0 = j0 + j1;
-i1 = UINT32_C(0);
-j2 = UINT64_C(85840);
-fill(m, j0, i1, j2);
-j0 = v3;
-j1 = UINT64_C(144);
-j0 = j0 + j1;
-i1 = UINT32_C(0);
-j2 = UINT64_C(12552);
-fill(m, j0, i1, j2);
-j0 = v3;
-i1 = UINT32_C(0);
-store32(p1 + 139, i1);
-j0 = v3;
-i1 = UINT32_C(0);
-store32(p1 + 136, i1);
-j0 = UINT64_C(0);
-v2 = j0;
-j0 = v3;
-j1 = UINT64_C(0);
-store64(p1 + 88, j1);
-j0 = v3;
-j1 = UINT64_C(0);
-store64(p1 + 96, j1);
-j0 = v3;
-j1 = UINT64_C(0);
-store64(p1 + 104, j1);
-j0 = v3;
-j1 = UINT64_C(0);
-store64(p1 + 112, j1);
-j0 = v3;
-j1 = UINT64_C(0);
-store64(p1 + 120, j1);
-j0 = v3;
-j1 = UINT64_C(0);
-store64(p1 + 128, j1);
-j0 = v3;
-j1 = UINT64_C(0);
-store64(p1 + 32, j1);
-j0 = v3;
-j1 = UINT64_C(0);
-store64(p1 + 40, j1);
-j0 = v3;
-j1 = UINT64_C(0);
-store64(p1 + 48, j1);
-j0 = v3;
-j1 = UINT64_C(0);
-store64(p1 + 56, j1);
-j0 = v3;
-j1 = UINT64_C(0);
-store64(p1 + 64, j1);
-j0 = v3;
-j1 = UINT64_C(0);
-store64(p1 + 72, j1);
-j0 = v3;
-j1 = UINT64_C(0);
-store64(p1 + 80, j1);
-j0 = v3;
-i1 = UINT32_C(0);
-store32(p1 + 24, i1);
-j0 = v3;
-i1 = UINT32_C(0);
-store32(p1 + 27, i1);
-j0 = v3;
-i1 = UINT32_C(0);
-store32(p1 + 16, i1);
-j0 = v3;
-i1 = UINT32_C(0);
-store32(p1 + 19, i1);
-j0 = v3;
-i1 = UINT32_C(0);
-store16(p1 + 12, i1);
-j0 = v3;
-i1 = UINT32_C(0);
-store32(p1 + 8, i1);
-j0 = v3;
-j1 = UINT64_C(548640);
-j0 = j0 + j1;
-i1 = UINT32_C(0);
-j2 = UINT64_C(246612);
-fill(m, j0, i1, j2);
-j0 = v3;
-j1 = UINT64_C(535328);
-j0 = j0 + j1;
-i1 = UINT32_C(0);
-j2 = UINT64_C(13312);
-fill(m, j0, i1, j2);
-j0 = v3;
-j1 = UINT64_C(526200);
-j0 = j0 + j1;
-i1 = UINT32_C(0);
-j2 = UINT64_C(9128);
-fill(m, j0, i1, j2);
-j0 = v3;
-j1 = UINT64_C(496952);
-j0 = j0 + j1;
-i1 = UINT32_C(0);
-j2 = UINT64_C(29248);
-fill(m, j0, i1, j2);
-j0 = v3;
-j1 = UINT64_C(496818);
-j0 = j0 + j1;
-i1 = UINT32_C(0);
-j2 = UINT64_C(134);
-fill(m, j0, i1, j2);
-j0 = v3;
-j1 = UINT64_C(496304);
-j0 = j0 + j1;
-i1 = UINT32_C(0);
-j2 = UINT64_C(512);
-fill(m, j0, i1, j2);
-j0 = v3;
-j1 = UINT64_C(496170);
-j0 = j0 + j1;
-i1 = UINT32_C(0);
-j2 = UINT64_C(134);
-fill(m, j0, i1, j2);
-j0 = v3;
-i1 = UINT32_C(0);
-store8(p1 + 496168, i1);
-j0 = v3;
-i1 = UINT32_C(0);
-store32(p1 + 496164, i1);
-j0 = v3;
-j1 = UINT64_C(410320);
-j0 = j0 + j1;
-i1 = UINT32_C(0);
-j2 = UINT64_C(85840);
-fill(m, j0, i1, j2);
-j0 = v3;
-j1 = UINT64_C(397768);
-j0 = j0 + j1;
-i1 = UINT32_C(0);
-j2 = UINT64_C(12552);
-fill(m, j0, i1, j2);
-j0 = v3;
-i1 = UINT32_C(0);
-store32(p1 + 397763, i1);
-j0 = v3;
-i1 = UINT32_C(0);
-store32(p1 + 397760, i1);
-j0 = v3;
-j1 = UINT64_C(0);
-store64(p1 + 397712, j1);
-j0 = v3;
-j1 = UINT64_C(0);
-store64(p1 + 397720, j1);
-j0 = v3;
-j1 = UINT64_C(0);
-store64(p1 + 397728, j1);
-j0 = v3;
-j1 = UINT64_C(0);
-store64(p1 + 397736, j1);
-j0 = v3;
-j1 = UINT64_C(0);
-store64(p1 + 397744, j1);
-j0 = v3;
-j1 = UINT64_C(0);
-store64(p1 + 397752, j1);
-j0 = v3;
-j1 = UINT64_C(0);
-store64(p1 + 397656, j1);
-j0 = v3;
-j1 = UINT64_C(0);
-store64(p1 + 397664, j1);
-j0 = v3;
-j1 = UINT64_C(0);
-store64(p1 + 397672, j1);
-j0 = v3;
-j1 = UINT64_C(0);
-store64(p1 + 397680, j1);
-j0 = v3;
-j1 = UINT64_C(0);
-store64(p1 + 397688, j1);
-j0 = v3;
-j1 = UINT64_C(0);
-store64(p1 + 397696, j1);
-j0 = v3;
-j1 = UINT64_C(0);
-store64(p1 + 397704, j1);
-j0 = v3;
-i1 = UINT32_C(0);
-store32(p1 + 397648, i1);
-j0 = v3;
-i1 = UINT32_C(0);
-store32(p1 + 397651, i1);
-j0 = v3;
-i1 = UINT32_C(0);
-store32(p1 + 397640, i1);
-j0 = v3;
-i1 = UINT32_C(0);
-store32(p1 + 397643, i1);
-j0 = v3;
-i1 = UINT32_C(0);
-store16(p1 + 397636, i1);
-j0 = v3;
-i1 = UINT32_C(0);
-store32(p1 + 397632, i1);
-j0 = v3;
-j1 = UINT64_C(1192880);
-j0 = j0 + j1;
-i1 = UINT32_C(0);
-j2 = UINT64_C(246612);
-fill(m, j0, i1, j2);
-j0 = v3;
-i1 = UINT32_C(0);
-store32(p1 + 1192875, i1);
-j0 = v3;
-i1 = UINT32_C(0);
-store32(p1 + 1192872, i1);
-j0 = v3;
-i1 = UINT32_C(0);
-store32(p1 + 1192864, i1);
-j0 = v3;
-i1 = UINT32_C(0);
-store16(p1 + 1192868, i1);
-j0 = v3;
-j1 = UINT64_C(946248);
-j0 = j0 + j1;
-i1 = UINT32_C(0);
-j2 = UINT64_C(181052);
-fill(m, j0, i1, j2);
-j0 = v3;
-j1 = UINT64_C(932936);
-j0 = j0 + j1;
-i1 = UINT32_C(0);
-j2 = UINT64_C(13312);
-fill(m, j0, i1, j2);
-j0 = v3;
-j1 = UINT64_C(923808);
-j0 = j0 + j1;
-i1 = UINT32_C(0);
-j2 = UINT64_C(9128);
-fill(m, j0, i1, j2);
-j0 = v3;
-j1 = UINT64_C(894560);
-j0 = j0 + j1;
-i1 = UINT32_C(0);
-j2 = UINT64_C(29248);
-fill(m, j0, i1, j2);
-j0 = v3;
-j1 = UINT64_C(894426);
-j0 = j0 + j1;
-i1 = UINT32_C(0);
-j2 = UINT64_C(134);
-fill(m, j0, i1, j2);
-j0 = v3;
-j1 = UINT64_C(893912);
-j0 = j0 + j1;
-i1 = UINT32_C(0);
-j2 = UINT64_C(512);
-fill(m, j0, i1, j2);
-j0 = v3;
-j1 = UINT64_C(893778);
-j0 = j0 + j1;
-i1 = UINT32_C(0);
-j2 = UINT64_C(134);
-fill(m, j0, i1, j2);
-j0 = v3;
-i1 = UINT32_C(0);
-store8(p1 + 893776, i1);
-j0 = v3;
-i1 = UINT32_C(0);
-store32(p1 + 893772, i1);
-j0 = v3;
-j1 = UINT64_C(807928);
-j0 = j0 + j1;
-i1 = UINT32_C(0);
-j2 = UINT64_C(85840);
-fill(m, j0, i1, j2);
-j0 = v3;
-j1 = UINT64_C(795376);
-j0 = j0 + j1;
-i1 = UINT32_C(0);
-j2 = UINT64_C(12552);
-fill(m, j0, i1, j2);
-j0 = v3;
-i1 = UINT32_C(0);
-store32(p1 + 795371, i1);
-j0 = v3;
-i1 = UINT32_C(0);
-store32(p1 + 795368, i1);
-j0 = v3;
-j1 = UINT64_C(0);
-store64(p1 + 795320, j1);
-j0 = v3;
-j1 = UINT64_C(0);
-store64(p1 + 795328, j1);
-j0 = v3;
-j1 = UINT64_C(0);
-store64(p1 + 795336, j1);
-j0 = v3;
-j1 = UINT64_C(0);
-store64(p1 + 795344, j1);
-j0 = v3;
-j1 = UINT64_C(0);
-store64(p1 + 795352, j1);
-j0 = v3;
-j1 = UINT64_C(0);
-store64(p1 + 795360, j1);
-j0 = v3;
-j1 = UINT64_C(0);
-store64(p1 + 795264, j1);
-j0 = v3;
-j1 = UINT64_C(0);
-store64(p1 + 795272, j1);
-j0 = v3;
-j1 = UINT64_C(0);
-store64(p1 + 795280, j1);
-j0 = v3;
-j1 = UINT64_C(0);
-store64(p1 + 795288, j1);
-j0 = v3;
-j1 = UINT64_C(0);
-store64(p1 + 795296, j1);
-j0 = v3;
-j1 = UINT64_C(0);
-store64(p1 + 795304, j1);
-j0 = v3;
-j1 = UINT64_C(0);
-store64(p1 + 795312, j1);
-j0 = v3;
-i1 = UINT32_C(0);
-store32(p1 + 795256, i1);
-j0 = v3;
-i1 = UINT32_C(0);
-store32(p1 + 795259, i1);
-j0 = v3;
-j1 = UINT64_C(1127304);
-j0 = j0 + j1;
-i1 = UINT32_C(0);
-j2 = UINT64_C(65560);
-fill(m, j0, i1, j2);
-j0 = v3;
-i1 = UINT32_C(0);
-store32(p1 + 1771536, i1);
-j0 = v3;
-i1 = UINT32_C(0);
-store32(p1 + 1771539, i1);
-j0 = v3;
-i1 = UINT32_C(0);
-store32(p1 + 1771528, i1);
-j0 = v3;
-i1 = UINT32_C(0);
-store32(p1 + 1771531, i1);
-j0 = v3;
-j1 = UINT64_C(1590472);
-j0 = j0 + j1;
-i1 = UINT32_C(0);
-j2 = UINT64_C(181052);
-fill(m, j0, i1, j2);
-j0 = v3;
-j1 = UINT64_C(1577160);
-j0 = j0 + j1;
-i1 = UINT32_C(0);
-j2 = UINT64_C(13312);
-fill(m, j0, i1, j2);
-j0 = v3;
-j1 = UINT64_C(1568032);
-j0 = j0 + j1;
-i1 = UINT32_C(0);
-j2 = UINT64_C(9128);
-fill(m, j0, i1, j2);
-j0 = v3;
-j1 = UINT64_C(1538784);
-j0 = j0 + j1;
-i1 = UINT32_C(0);
-j2 = UINT64_C(29248);
-fill(m, j0, i1, j2);
-j0 = v3;
-j1 = UINT64_C(1538650);
-j0 = j0 + j1;
-i1 = UINT32_C(0);
-j2 = UINT64_C(134);
-fill(m, j0, i1, j2);
-j0 = v3;
-j1 = UINT64_C(1538136);
-j0 = j0 + j1;
-i1 = UINT32_C(0);
-j2 = UINT64_C(512);
-fill(m, j0, i1, j2);
-j0 = v3;
-j1 = UINT64_C(1538002);
-j0 = j0 + j1;
-i1 = UINT32_C(0);
-j2 = UINT64_C(134);
-fill(m, j0, i1, j2);
-j0 = v3;
-i1 = UINT32_C(0);
-store8(p1 + 1538000, i1);
-j0 = v3;
-i1 = UINT32_C(0);
-store32(p1 + 1537996, i1);
-j0 = v3;
-j1 = UINT64_C(1452152);
-j0 = j0 + j1;
-i1 = UINT32_C(0);
-j2 = UINT64_C(85840);
-fill(m, j0, i1, j2);
-j0 = v3;
-j1 = UINT64_C(1439600);
-j0 = j0 + j1;
-i1 = UINT32_C(0);
-j2 = UINT64_C(12552);
-fill(m, j0, i1, j2);
-j0 = v3;
-j1 = UINT64_C(0);
-store64(p1 + 1439592, j1);
-j0 = v3;
-j1 = UINT64_C(0);
-store64(p1 + 1439584, j1);
-j0 = v3;
-j1 = UINT64_C(0);
-store64(p1 + 1439576, j1);
-j0 = v3;
-j1 = UINT64_C(0);
-store64(p1 + 1439568, j1);
-j0 = v3;
-j1 = UINT64_C(0);
-store64(p1 + 1439560, j1);
-j0 = v3;
-j1 = UINT64_C(0);
-store64(p1 + 1439552, j1);
-j0 = v3;
-j1 = UINT64_C(0);
-store64(p1 + 1439496, j1);
-j0 = v3;
-j1 = UINT64_C(0);
-store64(p1 + 1439504, j1);
-j0 = v3;
-j1 = UINT64_C(0);
-store64(p1 + 1439512, j1);
-j0 = v3;
-j1 = UINT64_C(0);
-store64(p1 + 1439520, j1);
-j0 = v3;
-j1 = UINT64_C(0);
-store64(p1 + 1439528, j1);
-j0 = v3;
-j1 = UINT64_C(0);
-store64(p1 + 1439536, j1);
-j0 = v3;
-j1 = UINT64_C(0);
-store64(p1 + 1439544, j1);
-j0 = v3;
-j1 = UINT64_C(2005080);
-j0 = j0 + j1;
-i1 = UINT32_C(0);
-j2 = UINT64_C(181052);
-fill(m, j0, i1, j2);
-j0 = v3;
-i1 = UINT32_C(0);
-store8(p1 + 2005076, i1);
-j0 = v3;
-i1 = UINT32_C(0);
-store32(p1 + 2005072, i1);
-j0 = v3;
-j1 = UINT64_C(1824016);
-j0 = j0 + j1;
-i1 = UINT32_C(0);
-j2 = UINT64_C(111404);
-fill(m, j0, i1, j2);
-j0 = v3;
-j1 = UINT64_C(1810704);
-j0 = j0 + j1;
-i1 = UINT32_C(0);
-j2 = UINT64_C(13312);
-fill(m, j0, i1, j2);
-j0 = v3;
-j1 = UINT64_C(1801576);
-j0 = j0 + j1;
-i1 = UINT32_C(0);
-j2 = UINT64_C(9128);
-fill(m, j0, i1, j2);
-j0 = v3;
-j1 = UINT64_C(1772328);
-j0 = j0 + j1;
-i1 = UINT32_C(0);
-j2 = UINT64_C(29248);
-fill(m, j0, i1, j2);
-j0 = v3;
-j1 = UINT64_C(1772194);
-j0 = j0 + j1;
-i1 = UINT32_C(0);
-j2 = UINT64_C(134);
-fill(m, j0, i1, j2);
-j0 = v3;
-j1 = UINT64_C(1771680);
-j0 = j0 + j1;
-i1 = UINT32_C(0);
-j2 = UINT64_C(512);
-fill(m, j0, i1, j2);
-j0 = v3;
-j1 = UINT64_C(1771546);
-j0 = j0 + j1;
-i1 = UINT32_C(0);
-j2 = UINT64_C(134);
-fill(m, j0, i1, j2);
-j0 = v3;
-j1 = UINT64_C(1935424);
-j0 = j0 + j1;
-i1 = UINT32_C(0);
-j2 = UINT64_C(69648);
-fill(m, j0, i1, j2);
-j0 = v3;
-j1 = UINT64_C(2350016);
-j0 = j0 + j1;
-i1 = UINT32_C(0);
-j2 = UINT64_C(111404);
-fill(m, j0, i1, j2);
-j0 = v3;
-j1 = UINT64_C(2186920);
-j0 = j0 + j1;
-i1 = UINT32_C(0);
-j2 = UINT64_C(29248);
-fill(m, j0, i1, j2);
-j0 = v3;
-j1 = UINT64_C(2186786);
-j0 = j0 + j1;
-i1 = UINT32_C(0);
-j2 = UINT64_C(134);
-fill(m, j0, i1, j2);
-j0 = v3;
-j1 = UINT64_C(2186272);
-j0 = j0 + j1;
-i1 = UINT32_C(0);
-j2 = UINT64_C(512);
-fill(m, j0, i1, j2);
-j0 = v3;
-j1 = UINT64_C(2186138);
-j0 = j0 + j1;
-i1 = UINT32_C(0);
-j2 = UINT64_C(134);
-fill(m, j0, i1, j2);
-j0 = v3;
-j1 = UINT64_C(2257744);
-j0 = j0 + j1;
-i1 = UINT32_C(0);
-j2 = UINT64_C(92272);
-fill(m, j0, i1, j2);
-j0 = v3;
-j1 = UINT64_C(2238608);
-j0 = j0 + j1;
-i1 = UINT32_C(0);
-j2 = UINT64_C(19132);
-fill(m, j0, i1, j2);
-j0 = v3;
-j1 = UINT64_C(2225296);
-j0 = j0 + j1;
-i1 = UINT32_C(0);
-j2 = UINT64_C(13312);
-fill(m, j0, i1, j2);
-j0 = v3;
-j1 = UINT64_C(2216168);
-j0 = j0 + j1;
-i1 = UINT32_C(0);
-j2 = UINT64_C(9128);
-fill(m, j0, i1, j2);
-j0 = v3;
-j1 = UINT64_C(2462720);
-j0 = j0 + j1;
-i1 = UINT32_C(0);
-j2 = UINT64_C(29248);
-fill(m, j0, i1, j2);
-j0 = v3;
-j1 = UINT64_C(2462208);
-j0 = j0 + j1;
-i1 = UINT32_C(0);
-j2 = UINT64_C(512);
-fill(m, j0, i1, j2);
-j0 = v3;
-j1 = UINT64_C(2462074);
-j0 = j0 + j1;
-i1 = UINT32_C(0);
-j2 = UINT64_C(134);
-fill(m, j0, i1, j2);
-j0 = v3;
-j1 = UINT64_C(2461560);
-j0 = j0 + j1;
-i1 = UINT32_C(0);
-j2 = UINT64_C(512);
-fill(m, j0, i1, j2);
-j0 = v3;
-j1 = UINT64_C(2461426);
-j0 = j0 + j1;
-i1 = UINT32_C(0);
-j2 = UINT64_C(134);
-fill(m, j0, i1, j2);
-j0 = v3;
-j1 = UINT64_C(2492752);
-j0 = j0 + j1;
-i1 = UINT32_C(0);
-j2 = UINT64_C(512);
-fill(m, j0, i1, j2);
-j0 = v3;
-j1 = UINT64_C(2492618);
-j0 = j0 + j1;
-i1 = UINT32_C(0);
-j2 = UINT64_C(134);
-fill(m, j0, i1, j2);
-j0 = v3;
-j1 = UINT64_C(2492104);
-j0 = j0 + j1;
-i1 = UINT32_C(0);
-j2 = UINT64_C(512);
-fill(m, j0, i1, j2);
-j0 = v3;
-j1 = UINT64_C(2491970);
-j0 = j0 + j1;
-i1 = UINT32_C(0);
-j2 = UINT64_C(134);
-fill(m, j0, i1, j2);
-j0 = v3;
-j1 = UINT64_C(2494048);
-j0 = j0 + j1;
-i1 = UINT32_C(0);
-j2 = UINT64_C(512);
-fill(m, j0, i1, j2);
-j0 = v3;
-j1 = UINT64_C(2493914);
-j0 = j0 + j1;
-i1 = UINT32_C(0);
-j2 = UINT64_C(134);
-fill(m, j0, i1, j2);
-j0 = v3;
-j1 = UINT64_C(2493400);
-j0 = j0 + j1;
-i1 = UINT32_C(0);
-j2 = UINT64_C(512);
-fill(m, j0, i1, j2);
-j0 = v3;
-j1 = UINT64_C(2493266);
-j0 = j0 + j1;
-i1 = UINT32_C(0);
-j2 = UINT64_C(134);
-fill(m, j0, i1, j2);
-j0 = v3;
-i1 = UINT32_C(0);
-store16(p1 + 2495996, i1);
-j0 = v3;
-i1 = UINT32_C(0);
-store32(p1 + 2495992, i1);
-j0 = v3;
-j1 = UINT64_C(2496128);
-j0 = j0 + j1;
-i1 = UINT32_C(0);
-j2 = UINT64_C(512);
-fill(m, j0, i1, j2);
-for (;;) {
-j0 = v3;
-j1 = UINT64_C(2496128);
-j0 = j0 + j1;
-j1 = v2;
-j0 = j0 + j1;
-j1 = UINT64_C(281479271743489);
-p2 = write_at(j0, m, 8u);
-store64(p2 + 0, j1);
-j0 = v2;
-j1 = UINT64_C(8);
-j0 = j0 + j1;
-v2 = j0;
-j1 = UINT64_C(512);
-i0 = (j0 != j1);
-if (!i0) break;
+fio2070_trap();
 }
-j0 = v3;
-j1 = UINT64_C(2495998);
-j0 = j0 + j1;
-i1 = UINT32_C(0);
-j2 = UINT64_C(128);
-fill(m, j0, i1, j2);
-j0 = v3;
-j1 = UINT64_C(2495858);
-j0 = j0 + j1;
-j1 = v3;
-j2 = UINT64_C(2495992);
-j1 = j1 + j2;
-j2 = UINT64_C(134);
-copy(m, j0, j1, j2);
-j0 = v3;
-j1 = UINT64_C(2494696);
-j0 = j0 + j1;
-j1 = v3;
-j2 = UINT64_C(2496128);
-j1 = j1 + j2;
-j2 = UINT64_C(512);
-copy(m, j0, j1, j2);
-j0 = v3;
-j1 = UINT64_C(2494562);
-j0 = j0 + j1;
-j1 = v3;
-j2 = UINT64_C(2495858);
-j1 = j1 + j2;
-j2 = UINT64_C(134);
-copy(m, j0, j1, j2);
-j0 = v3;
-j1 = UINT64_C(2495344);
-j0 = j0 + j1;
-j1 = v3;
-j2 = UINT64_C(2494696);
-j1 = j1 + j2;
-j2 = UINT64_C(512);
-copy(m, j0, j1, j2);
-j0 = v3;
-j1 = UINT64_C(2495210);
-j0 = j0 + j1;
-j1 = v3;
-j2 = UINT64_C(2494562);
-j1 = j1 + j2;
-j2 = UINT64_C(134);
-copy(m, j0, j1, j2);
-j0 = v3;
-i1 = UINT32_C(0);
-store16(p1 + 2495996, i1);
-j0 = v3;
-i1 = UINT32_C(0);
-store32(p1 + 2495992, i1);
-j0 = v3;
-j1 = UINT64_C(2496128);
-j0 = j0 + j1;
-i1 = UINT32_C(0);
-j2 = UINT64_C(512);
-fill(m, j0, i1, j2);
-j0 = UINT64_C(0);
-v2 = j0;
-for (;;) {
-j0 = v3;
-j1 = UINT64_C(2496128);
-j0 = j0 + j1;
-j1 = v2;
-j0 = j0 + j1;
-j1 = UINT64_C(281479271743489);
-p3 = write_at(j0, m, 8u);
-store64(p3 + 0, j1);
-j0 = v2;
-j1 = UINT64_C(8);
-j0 = j0 + j1;
-v2 = j0;
-j1 = UINT64_C(512);
-i0 = (j0 != j1);
-if (!i0) break;
-}
-j0 = v3;
-j1 = UINT64_C(2495992);
-j0 = j0 + j1;
-j1 = UINT64_C(6);
-j0 = j0 + j1;
-i1 = UINT32_C(0);
-j2 = UINT64_C(128);
-fill(m, j0, i1, j2);
-j0 = v3;
-j1 = UINT64_C(2495858);
-j0 = j0 + j1;
-j1 = v3;
-j2 = UINT64_C(2495992);
-j1 = j1 + j2;
-j2 = UINT64_C(134);
-copy(m, j0, j1, j2);
-j0 = v3;
-j1 = UINT64_C(2494696);
-j0 = j0 + j1;
-j1 = v3;
-j2 = UINT64_C(2496128);
-j1 = j1 + j2;
-j2 = UINT64_C(512);
-copy(m, j0, j1, j2);
-j0 = v3;
-j1 = UINT64_C(2494562);
-j0 = j0 + j1;
-j1 = v3;
-j2 = UINT64_C(2495858);
-j1 = j1 + j2;
-j2 = UINT64_C(134);
-copy(m, j0, j1, j2);
-j0 = v3;
-j1 = UINT64_C(2494048);
-j0 = j0 + j1;
-j1 = v3;
-j2 = UINT64_C(2495344);
-j1 = j1 + j2;
-j2 = UINT64_C(512);
-copy(m, j0, j1, j2);
-j0 = v3;
-j1 = UINT64_C(2493914);
-j0 = j0 + j1;
-j1 = v3;
-j2 = UINT64_C(2495210);
-j1 = j1 + j2;
-j2 = UINT64_C(134);
-copy(m, j0, j1, j2);
-j0 = v3;
-j1 = UINT64_C(2493400);
-j0 = j0 + j1;
-j1 = v3;
-j2 = UINT64_C(2494696);
-j1 = j1 + j2;
-j2 = UINT64_C(512);
-copy(m, j0, j1, j2);
-j0 = v3;
-j1 = UINT64_C(2493266);
-j0 = j0 + j1;
-j1 = v3;
-j2 = UINT64_C(2494562);
-j1 = j1 + j2;
-j2 = UINT64_C(134);
-copy(m, j0, j1, j2);
-j0 = v3;
-j1 = UINT64_C(2492752);
-j0 = j0 + j1;
-j1 = v3;
-j2 = UINT64_C(2494048);
-j1 = j1 + j2;
-j2 = UINT64_C(512);
-copy(m, j0, j1, j2);
-j0 = v3;
-j1 = UINT64_C(2492618);
-j0 = j0 + j1;
-j1 = v3;
-j2 = UINT64_C(2493914);
-j1 = j1 + j2;
-j2 = UINT64_C(134);
-copy(m, j0, j1, j2);
-j0 = v3;
-j1 = UINT64_C(2492104);
-j0 = j0 + j1;
-j1 = v3;
-j2 = UINT64_C(2493400);
-j1 = j1 + j2;
-j2 = UINT64_C(512);
-copy(m, j0, j1, j2);
-j0 = v3;
-j1 = UINT64_C(2491970);
-j0 = j0 + j1;
-j1 = v3;
-j2 = UINT64_C(2493266);
-j1 = j1 + j2;
-j2 = UINT64_C(134);
-copy(m, j0, j1, j2);
-j0 = v3;
-j1 = UINT64_C(2462208);
-j0 = j0 + j1;
-j1 = v3;
-j2 = UINT64_C(2492752);
-j1 = j1 + j2;
-j2 = UINT64_C(512);
-copy(m, j0, j1, j2);
-j0 = v3;
-j1 = UINT64_C(2462074);
-j0 = j0 + j1;
-j1 = v3;
-j2 = UINT64_C(2492618);
-j1 = j1 + j2;
-j2 = UINT64_C(134);
-copy(m, j0, j1, j2);
-j0 = v3;
-j1 = UINT64_C(2461560);
-j0 = j0 + j1;
-j1 = v3;
-j2 = UINT64_C(2492104);
-j1 = j1 + j2;
-j2 = UINT64_C(512);
-copy(m, j0, j1, j2);
-j0 = v3;
-j1 = UINT64_C(2461426);
-j0 = j0 + j1;
-j1 = v3;
-j2 = UINT64_C(2491970);
-j1 = j1 + j2;
-j2 = UINT64_C(134);
-copy(m, j0, j1, j2);
-j0 = v3;
-j1 = UINT64_C(2462720);
-j0 = j0 + j1;
-i1 = UINT32_C(0);
-j2 = UINT64_C(28732);
-fill(m, j0, i1, j2);
-j0 = v3;
-j1 = UINT64_C(2491456);
-j0 = j0 + j1;
-j1 = v3;
-j2 = UINT64_C(2462208);
-j1 = j1 + j2;
-j2 = UINT64_C(512);
-copy(m, j0, j1, j2);
-j0 = v3;
-j1 = UINT64_C(2186920);
-j0 = j0 + j1;
-j1 = v3;
-j2 = UINT64_C(2462720);
-j1 = j1 + j2;
-j2 = UINT64_C(29248);
-copy(m, j0, j1, j2);
-j0 = v3;
-j1 = UINT64_C(2186786);
-j0 = j0 + j1;
-j1 = v3;
-j2 = UINT64_C(2462074);
-j1 = j1 + j2;
-j2 = UINT64_C(134);
-copy(m, j0, j1, j2);
-j0 = v3;
-j1 = UINT64_C(2186272);
-j0 = j0 + j1;
-j1 = v3;
-j2 = UINT64_C(2461560);
-j1 = j1 + j2;
-j2 = UINT64_C(512);
-copy(m, j0, j1, j2);
-j0 = v3;
-j1 = UINT64_C(2186138);
-j0 = j0 + j1;
-j1 = v3;
-j2 = UINT64_C(2461426);
-j1 = j1 + j2;
-j2 = UINT64_C(134);
-copy(m, j0, j1, j2);
-j0 = v3;
-j1 = UINT64_C(2350016);
-j0 = j0 + j1;
-j1 = v3;
-j2 = UINT64_C(2257744);
-j1 = j1 + j2;
-j2 = UINT64_C(92272);
-copy(m, j0, j1, j2);
-j0 = v3;
-j1 = UINT64_C(2350016);
-j0 = j0 + j1;
-j1 = UINT64_C(92272);
-j0 = j0 + j1;
-j1 = v3;
-j2 = UINT64_C(2238608);
-j1 = j1 + j2;
-j2 = UINT64_C(19132);
-copy(m, j0, j1, j2);
-j0 = v3;
-j1 = UINT64_C(1824016);
-j0 = j0 + j1;
-j1 = v3;
-j2 = UINT64_C(2350016);
-j1 = j1 + j2;
-j2 = UINT64_C(111404);
-copy(m, j0, j1, j2);
-j0 = v3;
-j1 = UINT64_C(1810704);
-j0 = j0 + j1;
-j1 = v3;
-j2 = UINT64_C(2225296);
-j1 = j1 + j2;
-j2 = UINT64_C(13312);
-copy(m, j0, j1, j2);
-j0 = v3;
-j1 = UINT64_C(1801576);
-j0 = j0 + j1;
-j1 = v3;
-j2 = UINT64_C(2216168);
-j1 = j1 + j2;
-j2 = UINT64_C(9128);
-copy(m, j0, j1, j2);
-j0 = v3;
-j1 = UINT64_C(1772328);
-j0 = j0 + j1;
-j1 = v3;
-j2 = UINT64_C(2186920);
-j1 = j1 + j2;
-j2 = UINT64_C(29248);
-copy(m, j0, j1, j2);
-j0 = v3;
-j1 = UINT64_C(1772194);
-j0 = j0 + j1;
-j1 = v3;
-j2 = UINT64_C(2186786);
-j1 = j1 + j2;
-j2 = UINT64_C(134);
-copy(m, j0, j1, j2);
-j0 = v3;
-j1 = UINT64_C(1771680);
-j0 = j0 + j1;
-j1 = v3;
-j2 = UINT64_C(2186272);
-j1 = j1 + j2;
-j2 = UINT64_C(512);
-copy(m, j0, j1, j2);
-j0 = v3;
-j1 = UINT64_C(1771546);
-j0 = j0 + j1;
-j1 = v3;
-j2 = UINT64_C(2186138);
-j1 = j1 + j2;
-j2 = UINT64_C(134);
-copy(m, j0, j1, j2);
-j0 = v3;
-j1 = UINT64_C(2005080);
-j0 = j0 + j1;
-j1 = v3;
-j2 = UINT64_C(1935424);
-j1 = j1 + j2;
-j2 = UINT64_C(69648);
-copy(m, j0, j1, j2);
-j0 = v3;
-j1 = UINT64_C(2005080);
-j0 = j0 + j1;
-j1 = UINT64_C(69648);
-j0 = j0 + j1;
-j1 = v3;
-j2 = UINT64_C(1824016);
-j1 = j1 + j2;
-j2 = UINT64_C(111404);
-copy(m, j0, j1, j2);
-j0 = v3;
-j1 = UINT64_C(1590472);
-j0 = j0 + j1;
-j1 = v3;
-j2 = UINT64_C(2005080);
-j1 = j1 + j2;
-j2 = UINT64_C(181052);
-copy(m, j0, j1, j2);
-j0 = v3;
-j1 = UINT64_C(1577160);
-j0 = j0 + j1;
-j1 = v3;
-j2 = UINT64_C(1810704);
-j1 = j1 + j2;
-j2 = UINT64_C(13312);
-copy(m, j0, j1, j2);
-j0 = v3;
-j1 = UINT64_C(1568032);
-j0 = j0 + j1;
-j1 = v3;
-j2 = UINT64_C(1801576);
-j1 = j1 + j2;
-j2 = UINT64_C(9128);
-copy(m, j0, j1, j2);
-j0 = v3;
-j1 = UINT64_C(1538784);
-j0 = j0 + j1;
-j1 = v3;
-j2 = UINT64_C(1772328);
-j1 = j1 + j2;
-j2 = UINT64_C(29248);
-copy(m, j0, j1, j2);
-j0 = v3;
-j1 = UINT64_C(1538650);
-j0 = j0 + j1;
-j1 = v3;
-j2 = UINT64_C(1772194);
-j1 = j1 + j2;
-j2 = UINT64_C(134);
-copy(m, j0, j1, j2);
-j0 = v3;
-j1 = UINT64_C(1538136);
-j0 = j0 + j1;
-j1 = v3;
-j2 = UINT64_C(1771680);
-j1 = j1 + j2;
-j2 = UINT64_C(512);
-copy(m, j0, j1, j2);
-j0 = v3;
-j1 = UINT64_C(1538002);
-j0 = j0 + j1;
-j1 = v3;
-j2 = UINT64_C(1771546);
-j1 = j1 + j2;
-j2 = UINT64_C(134);
-copy(m, j0, j1, j2);
-j0 = v3;
-j1 = v3;
-i1 = load8(p1 + 2005076);
-store8(p1 + 1538000, i1);
-j0 = v3;
-j1 = v3;
-i1 = load32(p1 + 2005072);
-store32(p1 + 1537996, i1);
-j0 = v3;
-j1 = UINT64_C(1935424);
-j0 = j0 + j1;
-i1 = UINT32_C(0);
-j2 = UINT64_C(2062);
-fill(m, j0, i1, j2);
-j0 = v3;
-j1 = UINT64_C(2257744);
-j0 = j0 + j1;
-i1 = UINT32_C(0);
-j2 = UINT64_C(12544);
-fill(m, j0, i1, j2);
-j0 = v3;
-j1 = UINT64_C(1824016);
-j0 = j0 + j1;
-i1 = UINT32_C(0);
-j2 = UINT64_C(12544);
-fill(m, j0, i1, j2);
-j0 = v3;
-j1 = UINT64_C(2350016);
-j0 = j0 + j1;
-i1 = UINT32_C(0);
-j2 = UINT64_C(12544);
-fill(m, j0, i1, j2);
-j0 = v3;
-j1 = UINT64_C(2005080);
-j0 = j0 + j1;
-i1 = UINT32_C(0);
-j2 = UINT64_C(12544);
-fill(m, j0, i1, j2);
-j0 = v3;
-j1 = UINT64_C(1772328);
-j0 = j0 + j1;
-j1 = UINT64_C(6);
-j0 = j0 + j1;
-v4 = j0;
-j0 = UINT64_C(0);
-v5 = j0;
-l5:;
-j0 = v3;
-i1 = UINT32_C(0);
-store16(p1 + 1772332, i1);
-j0 = v3;
-i1 = UINT32_C(0);
-store32(p1 + 1772328, i1);
-j0 = v3;
-j1 = UINT64_C(2462720);
-j0 = j0 + j1;
-i1 = UINT32_C(0);
-j2 = UINT64_C(512);
-fill(m, j0, i1, j2);
-j0 = UINT64_C(0);
-v2 = j0;
-for (;;) {
-j0 = v3;
-j1 = UINT64_C(2462720);
-j0 = j0 + j1;
-j1 = v2;
-j0 = j0 + j1;
-j1 = UINT64_C(281479271743489);
-p4 = write_at(j0, m, 8u);
-store64(p4 + 0, j1);
-j0 = v2;
-j1 = UINT64_C(8);
-j0 = j0 + j1;
-v2 = j0;
-j1 = UINT64_C(512);
-i0 = (j0 != j1);
-if (!i0) break;
-}
-j0 = v4;
-i1 = UINT32_C(0);
-j2 = UINT64_C(128);
-fill(m, j0, i1, j2);
-j0 = v3;
-j1 = UINT64_C(2238608);
-j0 = j0 + j1;
-j1 = v3;
-j2 = UINT64_C(1772328);
-j1 = j1 + j2;
-j2 = UINT64_C(134);
-copy(m, j0, j1, j2);
-j0 = v3;
-j1 = UINT64_C(2186920);
-j0 = j0 + j1;
-j1 = v3;
-j2 = UINT64_C(2462720);
-j1 = j1 + j2;
-j2 = UINT64_C(512);
-copy(m, j0, j1, j2);
-j0 = v3;
-j1 = UINT64_C(2005080);
-j0 = j0 + j1;
-j1 = v5;
-j2 = UINT64_C(784);
-j1 = j1 * j2;
-j0 = j0 + j1;
-v2 = j0;
-j1 = v3;
-j2 = UINT64_C(2186920);
-j1 = j1 + j2;
-j2 = UINT64_C(512);
-copy(m, j0, j1, j2);
-j0 = v2;
-i1 = UINT32_C(0);
-p5 = write_at(j0 + UINT64_C(512), m, 152u);
-store16(p5 + 8, i1);
-j0 = v2;
-j1 = UINT64_C(0);
-store64(p5 + 0, j1);
-j0 = v2;
-j1 = UINT64_C(522);
-j0 = j0 + j1;
-j1 = v3;
-j2 = UINT64_C(2238608);
-j1 = j1 + j2;
-j2 = UINT64_C(134);
-copy(m, j0, j1, j2);
-j0 = v2;
-j1 = UINT64_C(1);
-store64(p5 + 144, j1);
-j0 = v2;
-j1 = UINT64_C(664);
-j0 = j0 + j1;
-i1 = UINT32_C(0);
-j2 = UINT64_C(120);
-fill(m, j0, i1, j2);
-j0 = v5;
-j1 = UINT64_C(1);
-j0 = j0 + j1;
-v5 = j0;
-j1 = UINT64_C(16);
-i0 = (j0 != j1);
-if (i0) { goto l5; }
-j0 = v3;
-j1 = UINT64_C(2350016);
-j0 = j0 + j1;
-j1 = v3;
-j2 = UINT64_C(2005080);
-j1 = j1 + j2;
-j2 = UINT64_C(12544);
-copy(m, j0, j1, j2);
-j0 = v3;
-j1 = UINT64_C(1824016);
-j0 = j0 + j1;
-j1 = v3;
-j2 = UINT64_C(2350016);
-j1 = j1 + j2;
-j2 = UINT64_C(12544);
-copy(m, j0, j1, j2);
-j0 = v3;
-j1 = UINT64_C(2257744);
-j0 = j0 + j1;
-j1 = v3;
-j2 = UINT64_C(1824016);
-j1 = j1 + j2;
-j2 = UINT64_C(12544);
-copy(m, j0, j1, j2);
-j0 = v3;
-j1 = UINT64_C(1935430);
-j0 = j0 + j1;
-i1 = UINT32_C(0);
-j2 = UINT64_C(2056);
-fill(m, j0, i1, j2);
-j0 = v3;
-j1 = UINT64_C(1452152);
-j0 = j0 + j1;
-j1 = v3;
-j2 = UINT64_C(2257744);
-j1 = j1 + j2;
-j2 = UINT64_C(12544);
-copy(m, j0, j1, j2);
-j0 = v3;
-j1 = UINT64_C(1452152);
-j0 = j0 + j1;
-j1 = UINT64_C(12544);
-j0 = j0 + j1;
-i1 = UINT32_C(0);
-j2 = UINT64_C(63002);
-fill(m, j0, i1, j2);
-j0 = v3;
-j1 = UINT64_C(1527698);
-j0 = j0 + j1;
-j1 = v3;
-j2 = UINT64_C(1935424);
-j1 = j1 + j2;
-j2 = UINT64_C(2062);
-copy(m, j0, j1, j2);
-j0 = v3;
-j1 = UINT64_C(1529760);
-j0 = j0 + j1;
-i1 = UINT32_C(0);
-j2 = UINT64_C(8232);
-fill(m, j0, i1, j2);
-j0 = v3;
-j1 = UINT64_C(946248);
-j0 = j0 + j1;
-j1 = v3;
-j2 = UINT64_C(1590472);
-j1 = j1 + j2;
-j2 = UINT64_C(181052);
-copy(m, j0, j1, j2);
-j0 = v3;
-j1 = UINT64_C(932936);
-j0 = j0 + j1;
-j1 = v3;
-j2 = UINT64_C(1577160);
-j1 = j1 + j2;
-j2 = UINT64_C(13312);
-copy(m, j0, j1, j2);
-j0 = v3;
-j1 = UINT64_C(923808);
-j0 = j0 + j1;
-j1 = v3;
-j2 = UINT64_C(1568032);
-j1 = j1 + j2;
-j2 = UINT64_C(9128);
-copy(m, j0, j1, j2);
-j0 = v3;
-j1 = UINT64_C(894560);
-j0 = j0 + j1;
-j1 = v3;
-j2 = UINT64_C(1538784);
-j1 = j1 + j2;
-j2 = UINT64_C(29248);
-copy(m, j0, j1, j2);
-j0 = v3;
-j1 = UINT64_C(894426);
-j0 = j0 + j1;
-j1 = v3;
-j2 = UINT64_C(1538650);
-j1 = j1 + j2;
-j2 = UINT64_C(134);
-copy(m, j0, j1, j2);
-j0 = v3;
-j1 = UINT64_C(893912);
-j0 = j0 + j1;
-j1 = v3;
-j2 = UINT64_C(1538136);
-j1 = j1 + j2;
-j2 = UINT64_C(512);
-copy(m, j0, j1, j2);
-j0 = v3;
-j1 = UINT64_C(893778);
-j0 = j0 + j1;
-j1 = v3;
-j2 = UINT64_C(1538002);
-j1 = j1 + j2;
-j2 = UINT64_C(134);
-copy(m, j0, j1, j2);
-j0 = v3;
-j1 = v3;
-i1 = load8(p1 + 1538000);
-store8(p1 + 893776, i1);
-j0 = v3;
-j1 = v3;
-i1 = load32(p1 + 1537996);
-store32(p1 + 893772, i1);
-j0 = v3;
-j1 = UINT64_C(807928);
-j0 = j0 + j1;
-j1 = v3;
-j2 = UINT64_C(1452152);
-j1 = j1 + j2;
-j2 = UINT64_C(85840);
-copy(m, j0, j1, j2);
-j0 = v3;
-j1 = UINT64_C(795376);
-j0 = j0 + j1;
-j1 = v3;
-j2 = UINT64_C(1439600);
-j1 = j1 + j2;
-j2 = UINT64_C(12552);
-copy(m, j0, j1, j2);
-j0 = v3;
-j1 = v3;
-i1 = load32(p1 + 1771539);
-store32(p1 + 795371, i1);
-j0 = v3;
-j1 = v3;
-i1 = load32(p1 + 1771536);
-store32(p1 + 795368, i1);
-j0 = v3;
-j1 = v3;
-j1 = load64(p1 + 1439552);
-store64(p1 + 795320, j1);
-j0 = v3;
-j1 = v3;
-j1 = load64(p1 + 1439560);
-store64(p1 + 795328, j1);
-j0 = v3;
-j1 = v3;
-j1 = load64(p1 + 1439568);
-store64(p1 + 795336, j1);
-j0 = v3;
-j1 = v3;
-j1 = load64(p1 + 1439576);
-store64(p1 + 795344, j1);
-j0 = v3;
-j1 = v3;
-j1 = load64(p1 + 1439584);
-store64(p1 + 795352, j1);
-j0 = v3;
-j1 = v3;
-j1 = load64(p1 + 1439592);
-store64(p1 + 795360, j1);
-j0 = v3;
-j1 = v3;
-j1 = load64(p1 + 1439496);
-store64(p1 + 795264, j1);
-j0 = v3;
-j1 = v3;
-j1 = load64(p1 + 1439504);
-store64(p1 + 795272, j1);
-j0 = v3;
-j1 = v3;
-j1 = load64(p1 + 1439512);
-store64(p1 + 795280, j1);
-j0 = v3;
-j1 = v3;
-j1 = load64(p1 + 1439520);
-store64(p1 + 795288, j1);
-j0 = v3;
-j1 = v3;
-j1 = load64(p1 + 1439528);
-store64(p1 + 795296, j1);
-j0 = v3;
-j1 = v3;
-j1 = load64(p1 + 1439536);
-store64(p1 + 795304, j1);
-j0 = v3;
-j1 = v3;
-j1 = load64(p1 + 1439544);
-store64(p1 + 795312, j1);
-j0 = v3;
-j1 = v3;
-i1 = load32(p1 + 1771531);
-store32(p1 + 795259, i1);
-j0 = v3;
-j1 = v3;
-i1 = load32(p1 + 1771528);
-store32(p1 + 795256, i1);
-j0 = v3;
-j1 = UINT64_C(1192880);
-j0 = j0 + j1;
-j1 = v3;
-j2 = UINT64_C(1127304);
-j1 = j1 + j2;
-j2 = UINT64_C(65560);
-copy(m, j0, j1, j2);
-j0 = v3;
-j1 = UINT64_C(1192880);
-j0 = j0 + j1;
-j1 = UINT64_C(65560);
-j0 = j0 + j1;
-j1 = v3;
-j2 = UINT64_C(946248);
-j1 = j1 + j2;
-j2 = UINT64_C(181052);
-copy(m, j0, j1, j2);
-j0 = v3;
-j1 = UINT64_C(548640);
-j0 = j0 + j1;
-j1 = v3;
-j2 = UINT64_C(1192880);
-j1 = j1 + j2;
-j2 = UINT64_C(246612);
-copy(m, j0, j1, j2);
-j0 = v3;
-j1 = UINT64_C(535328);
-j0 = j0 + j1;
-j1 = v3;
-j2 = UINT64_C(932936);
-j1 = j1 + j2;
-j2 = UINT64_C(13312);
-copy(m, j0, j1, j2);
-j0 = v3;
-j1 = UINT64_C(526200);
-j0 = j0 + j1;
-j1 = v3;
-j2 = UINT64_C(923808);
-j1 = j1 + j2;
-j2 = UINT64_C(9128);
-copy(m, j0, j1, j2);
-j0 = v3;
-j1 = UINT64_C(496952);
-j0 = j0 + j1;
-j1 = v3;
-j2 = UINT64_C(894560);
-j1 = j1 + j2;
-j2 = UINT64_C(29248);
-copy(m, j0, j1, j2);
-j0 = v3;
-j1 = UINT64_C(496818);
-j0 = j0 + j1;
-j1 = v3;
-j2 = UINT64_C(894426);
-j1 = j1 + j2;
-j2 = UINT64_C(134);
-copy(m, j0, j1, j2);
-j0 = v3;
-j1 = UINT64_C(496304);
-j0 = j0 + j1;
-j1 = v3;
-j2 = UINT64_C(893912);
-j1 = j1 + j2;
-j2 = UINT64_C(512);
-copy(m, j0, j1, j2);
-j0 = v3;
-j1 = UINT64_C(496170);
-j0 = j0 + j1;
-j1 = v3;
-j2 = UINT64_C(893778);
-j1 = j1 + j2;
-j2 = UINT64_C(134);
-copy(m, j0, j1, j2);
-j0 = v3;
-j1 = v3;
-i1 = load8(p1 + 893776);
-store8(p1 + 496168, i1);
-j0 = v3;
-j1 = v3;
-i1 = load32(p1 + 893772);
-store32(p1 + 496164, i1);
-j0 = v3;
-j1 = UINT64_C(410320);
-j0 = j0 + j1;
-j1 = v3;
-j2 = UINT64_C(807928);
-j1 = j1 + j2;
-j2 = UINT64_C(85840);
-copy(m, j0, j1, j2);
-j0 = v3;
-j1 = UINT64_C(397768);
-j0 = j0 + j1;
-j1 = v3;
-j2 = UINT64_C(795376);
-j1 = j1 + j2;
-j2 = UINT64_C(12552);
-copy(m, j0, j1, j2);
-j0 = v3;
-j1 = v3;
-i1 = load32(p1 + 795371);
-store32(p1 + 397763, i1);
-j0 = v3;
-j1 = v3;
-i1 = load32(p1 + 795368);
-store32(p1 + 397760, i1);
-j0 = v3;
-j1 = v3;
-j1 = load64(p1 + 795320);
-store64(p1 + 397712, j1);
-j0 = v3;
-j1 = v3;
-j1 = load64(p1 + 795328);
-store64(p1 + 397720, j1);
-j0 = v3;
-j1 = v3;
-j1 = load64(p1 + 795336);
-store64(p1 + 397728, j1);
-j0 = v3;
-j1 = v3;
-j1 = load64(p1 + 795344);
-store64(p1 + 397736, j1);
-j0 = v3;
-j1 = v3;
-j1 = load64(p1 + 795352);
-store64(p1 + 397744, j1);
-j0 = v3;
-j1 = v3;
-j1 = load64(p1 + 795360);
-store64(p1 + 397752, j1);
-j0 = v3;
-j1 = v3;
-j1 = load64(p1 + 795264);
-store64(p1 + 397656, j1);
-j0 = v3;
-j1 = v3;
-j1 = load64(p1 + 795272);
-store64(p1 + 397664, j1);
-j0 = v3;
-j1 = v3;
-j1 = load64(p1 + 795280);
-store64(p1 + 397672, j1);
-j0 = v3;
-j1 = v3;
-j1 = load64(p1 + 795288);
-store64(p1 + 397680, j1);
-j0 = v3;
-j1 = v3;
-j1 = load64(p1 + 795296);
-store64(p1 + 397688, j1);
-j0 = v3;
-j1 = v3;
-j1 = load64(p1 + 795304);
-store64(p1 + 397696, j1);
-j0 = v3;
-j1 = v3;
-j1 = load64(p1 + 795312);
-store64(p1 + 397704, j1);
-j0 = v3;
-j1 = v3;
-i1 = load32(p1 + 795259);
-store32(p1 + 397651, i1);
-j0 = v3;
-j1 = v3;
-i1 = load32(p1 + 795256);
-store32(p1 + 397648, i1);
-j0 = v3;
-j1 = v3;
-i1 = load32(p1 + 1192872);
-store32(p1 + 397640, i1);
-j0 = v3;
-j1 = v3;
-i1 = load32(p1 + 1192875);
-store32(p1 + 397643, i1);
-j0 = v3;
-j1 = v3;
-i1 = load32(p1 + 1192864);
-store32(p1 + 397632, i1);
-j0 = v3;
-j1 = v3;
-i1 = load16(p1 + 1192868);
-store16(p1 + 397636, i1);
-j0 = v3;
-j1 = UINT64_C(151016);
-j0 = j0 + j1;
-j1 = v3;
-j2 = UINT64_C(548640);
-j1 = j1 + j2;
-j2 = UINT64_C(246612);
-copy(m, j0, j1, j2);
-j0 = v3;
-j1 = UINT64_C(137704);
-j0 = j0 + j1;
-j1 = v3;
-j2 = UINT64_C(535328);
-j1 = j1 + j2;
-j2 = UINT64_C(13312);
-copy(m, j0, j1, j2);
-j0 = v3;
-j1 = UINT64_C(128576);
-j0 = j0 + j1;
-j1 = v3;
-j2 = UINT64_C(526200);
-j1 = j1 + j2;
-j2 = UINT64_C(9128);
-copy(m, j0, j1, j2);
-j0 = v3;
-j1 = UINT64_C(99328);
-j0 = j0 + j1;
-j1 = v3;
-j2 = UINT64_C(496952);
-j1 = j1 + j2;
-j2 = UINT64_C(29248);
-copy(m, j0, j1, j2);
-j0 = v3;
-j1 = UINT64_C(99194);
-j0 = j0 + j1;
-j1 = v3;
-j2 = UINT64_C(496818);
-j1 = j1 + j2;
-j2 = UINT64_C(134);
-copy(m, j0, j1, j2);
-j0 = v3;
-j1 = UINT64_C(98680);
-j0 = j0 + j1;
-j1 = v3;
-j2 = UINT64_C(496304);
-j1 = j1 + j2;
-j2 = UINT64_C(512);
-copy(m, j0, j1, j2);
-j0 = v3;
-j1 = UINT64_C(98546);
-j0 = j0 + j1;
-j1 = v3;
-j2 = UINT64_C(496170);
-j1 = j1 + j2;
-j2 = UINT64_C(134);
-copy(m, j0, j1, j2);
-j0 = v3;
-j1 = v3;
-i1 = load8(p1 + 496168);
-store8(p1 + 98544, i1);
-j0 = v3;
-j1 = v3;
-i1 = load32(p1 + 496164);
-store32(p1 + 98540, i1);
-j0 = v3;
-j1 = UINT64_C(12696);
-j0 = j0 + j1;
-j1 = v3;
-j2 = UINT64_C(410320);
-j1 = j1 + j2;
-j2 = UINT64_C(85840);
-copy(m, j0, j1, j2);
-j0 = v3;
-j1 = UINT64_C(144);
-j0 = j0 + j1;
-j1 = v3;
-j2 = UINT64_C(397768);
-j1 = j1 + j2;
-j2 = UINT64_C(12552);
-copy(m, j0, j1, j2);
-j0 = v3;
-j1 = v3;
-i1 = load32(p1 + 397763);
-store32(p1 + 139, i1);
-j0 = v3;
-j1 = v3;
-i1 = load32(p1 + 397760);
-store32(p1 + 136, i1);
-j0 = v3;
-j1 = v3;
-j1 = load64(p1 + 397712);
-store64(p1 + 88, j1);
-j0 = v3;
-j1 = v3;
-j1 = load64(p1 + 397720);
-store64(p1 + 96, j1);
-j0 = v3;
-j1 = v3;
-j1 = load64(p1 + 397728);
-store64(p1 + 104, j1);
-j0 = v3;
-j1 = v3;
-j1 = load64(p1 + 397736);
-store64(p1 + 112, j1);
-j0 = v3;
-j1 = v3;
-j1 = load64(p1 + 397744);
-store64(p1 + 120, j1);
-j0 = v3;
-j1 = v3;
-j1 = load64(p1 + 397752);
-store64(p1 + 128, j1);
-j0 = v3;
-j1 = v3;
-j1 = load64(p1 + 397656);
-store64(p1 + 32, j1);
-j0 = v3;
-j1 = v3;
-j1 = load64(p1 + 397664);
-store64(p1 + 40, j1);
-j0 = v3;
-j1 = v3;
-j1 = load64(p1 + 397672);
-store64(p1 + 48, j1);
-j0 = v3;
-j1 = v3;
-j1 = load64(p1 + 397680);
-store64(p1 + 56, j1);
-j0 = v3;
-j1 = v3;
-j1 = load64(p1 + 397688);
-store64(p1 + 64, j1);
-j0 = v3;
-j1 = v3;
-j1 = load64(p1 + 397696);
-store64(p1 + 72, j1);
-j0 = v3;
-j1 = v3;
-j1 = load64(p1 + 397704);
-store64(p1 + 80, j1);
-j0 = v3;
-j1 = v3;
-i1 = load32(p1 + 397651);
-store32(p1 + 27, i1);
-j0 = v3;
-j1 = v3;
-i1 = load32(p1 + 397648);
-store32(p1 + 24, i1);
-j0 = v3;
-j1 = v3;
-i1 = load32(p1 + 397643);
-store32(p1 + 19, i1);
-j0 = v3;
-j1 = v3;
-i1 = load32(p1 + 397640);
-store32(p1 + 16, i1);
-j0 = v3;
-j1 = v3;
-i1 = load32(p1 + 397632);
-store32(p1 + 8, i1);
-j0 = v3;
-j1 = v3;
-i1 = load16(p1 + 397636);
-store16(p1 + 12, i1);
-j0 = v0;
-j1 = v3;
-j2 = UINT64_C(151016);
-j1 = j1 + j2;
-j2 = UINT64_C(246612);
-copy(m, j0, j1, j2);
 j0 = v0;
 i1 = UINT32_C(0);
-p6 = write_at(j0 + UINT64_C(246612), m, 204868u);
-store32(p6 + 0, i1);
-j0 = v0;
-j1 = UINT64_C(246616);
-j0 = j0 + j1;
-j1 = v3;
-j2 = UINT64_C(137704);
-j1 = j1 + j2;
-j2 = UINT64_C(13312);
-copy(m, j0, j1, j2);
-j0 = v0;
-j1 = UINT64_C(259928);
-j0 = j0 + j1;
-j1 = v3;
-j2 = UINT64_C(128576);
-j1 = j1 + j2;
-j2 = UINT64_C(9128);
-copy(m, j0, j1, j2);
-j0 = v0;
-j1 = UINT64_C(269056);
-j0 = j0 + j1;
-j1 = v3;
-j2 = UINT64_C(99328);
-j1 = j1 + j2;
-j2 = UINT64_C(29248);
-copy(m, j0, j1, j2);
-j0 = v0;
-i1 = UINT32_C(0);
-store16(p6 + 51700, i1);
-j0 = v0;
-j1 = UINT64_C(0);
-store64(p6 + 51692, j1);
-j0 = v0;
-j1 = UINT64_C(298314);
-j0 = j0 + j1;
-j1 = v3;
-j2 = UINT64_C(99194);
-j1 = j1 + j2;
-j2 = UINT64_C(134);
-copy(m, j0, j1, j2);
-j0 = v0;
-j1 = UINT64_C(1);
-store64(p6 + 51836, j1);
-j0 = v0;
-j1 = UINT64_C(298456);
-j0 = j0 + j1;
-i1 = UINT32_C(0);
-j2 = UINT64_C(120);
-fill(m, j0, i1, j2);
-j0 = v0;
-j1 = UINT64_C(298576);
-j0 = j0 + j1;
-j1 = v3;
-j2 = UINT64_C(98680);
-j1 = j1 + j2;
-j2 = UINT64_C(512);
-copy(m, j0, j1, j2);
-j0 = v0;
-i1 = UINT32_C(0);
-store16(p6 + 52484, i1);
-j0 = v0;
-j1 = UINT64_C(0);
-store64(p6 + 52476, j1);
-j0 = v0;
-j1 = UINT64_C(299098);
-j0 = j0 + j1;
-j1 = v3;
-j2 = UINT64_C(98546);
-j1 = j1 + j2;
-j2 = UINT64_C(134);
-copy(m, j0, j1, j2);
-j0 = v0;
-j1 = UINT64_C(1);
-store64(p6 + 52620, j1);
-j0 = v0;
-j1 = UINT64_C(299240);
-j0 = j0 + j1;
-i1 = UINT32_C(0);
-j2 = UINT64_C(4392);
-fill(m, j0, i1, j2);
-j0 = v0;
-i1 = UINT32_C(0);
-store8(p6 + 57030, i1);
-j0 = v0;
-i1 = UINT32_C(1);
-store16(p6 + 57028, i1);
-j0 = v0;
-j1 = UINT64_C(2);
-store64(p6 + 57020, j1);
-j0 = v0;
-j1 = UINT64_C(1024);
-store64(p6 + 57044, j1);
-j0 = v0;
-j1 = UINT64_C(0);
-store64(p6 + 57036, j1);
-j0 = v0;
-j1 = v3;
-i1 = load32(p1 + 98540);
-store32(p6 + 57031, i1);
-j0 = v0;
-j1 = v3;
-i1 = load8(p1 + 98544);
-store8(p6 + 57035, i1);
-j0 = v0;
-j1 = UINT64_C(303664);
-j0 = j0 + j1;
-j1 = v3;
-j2 = UINT64_C(12696);
-j1 = j1 + j2;
-j2 = UINT64_C(85840);
-copy(m, j0, j1, j2);
-j0 = v0;
-j1 = UINT64_C(0);
-store64(p6 + 142908, j1);
-j0 = v0;
-j1 = UINT64_C(0);
-store64(p6 + 142900, j1);
-j0 = v0;
-j1 = UINT64_C(0);
-store64(p6 + 142892, j1);
-j0 = v0;
-j1 = UINT64_C(389528);
-j0 = j0 + j1;
-j1 = v3;
-j2 = UINT64_C(144);
-j1 = j1 + j2;
-j2 = UINT64_C(12552);
-copy(m, j0, j1, j2);
-j0 = v0;
-i1 = UINT32_C(0);
-store8(p6 + 155468, i1);
-j0 = v0;
-j1 = UINT64_C(0);
-store64(p6 + 155476, j1);
-j0 = v0;
-j1 = v3;
-i1 = load32(p1 + 136);
-store32(p6 + 155469, i1);
-j0 = v0;
-j1 = v3;
-i1 = load32(p1 + 139);
-store32(p6 + 155472, i1);
-j0 = v0;
-j1 = v3;
-j1 = load64(p1 + 88);
-store64(p6 + 155484, j1);
-j0 = v0;
-j1 = v3;
-j1 = load64(p1 + 96);
-store64(p6 + 155492, j1);
-j0 = v0;
-j1 = v3;
-j1 = load64(p1 + 104);
-store64(p6 + 155500, j1);
-j0 = v0;
-j1 = v3;
-j1 = load64(p1 + 112);
-store64(p6 + 155508, j1);
-j0 = v0;
-j1 = v3;
-j1 = load64(p1 + 120);
-store64(p6 + 155516, j1);
-j0 = v0;
-j1 = v3;
-j1 = load64(p1 + 128);
-store64(p6 + 155524, j1);
-j0 = v0;
-j1 = UINT64_C(0);
-store64(p6 + 155532, j1);
-j0 = v0;
-i1 = UINT32_C(0);
-store8(p6 + 155596, i1);
-j0 = v0;
-j1 = v3;
-j1 = load64(p1 + 80);
-store64(p6 + 155588, j1);
-j0 = v0;
-j1 = v3;
-j1 = load64(p1 + 72);
-store64(p6 + 155580, j1);
-j0 = v0;
-j1 = v3;
-j1 = load64(p1 + 64);
-store64(p6 + 155572, j1);
-j0 = v0;
-j1 = v3;
-j1 = load64(p1 + 56);
-store64(p6 + 155564, j1);
-j0 = v0;
-j1 = v3;
-j1 = load64(p1 + 48);
-store64(p6 + 155556, j1);
-j0 = v0;
-j1 = v3;
-j1 = load64(p1 + 40);
-store64(p6 + 155548, j1);
-j0 = v0;
-j1 = v3;
-j1 = load64(p1 + 32);
-store64(p6 + 155540, j1);
-j0 = v0;
-j1 = v3;
-i1 = load32(p1 + 27);
-store32(p6 + 155600, i1);
-j0 = v0;
-j1 = v3;
-i1 = load32(p1 + 24);
-store32(p6 + 155597, i1);
-j0 = v0;
-j1 = UINT64_C(402216);
-j0 = j0 + j1;
-i1 = UINT32_C(0);
-j2 = UINT64_C(49176);
+j2 = UINT64_C(451408);
 fill(m, j0, i1, j2);
 j0 = v0;
 i1 = UINT32_C(1);
@@ -141143,36 +139916,14 @@ i3 = v1;
 i4 = UINT32_C(1);
 i3 = (i3 == i4);
 i1 = i3 ? i1 : i2;
-store8(p6 + 204780, i1);
+p1 = write_at(j0 + UINT64_C(451408), m, 1u);
+store8(p1 + 0, i1);
 j0 = v0;
-j1 = v3;
-i1 = load32(p1 + 16);
-store32(p6 + 204781, i1);
-j0 = v0;
-j1 = v3;
-i1 = load32(p1 + 19);
-store32(p6 + 204784, i1);
-j0 = v0;
-j1 = UINT64_C(451400);
+j1 = UINT64_C(451409);
 j0 = j0 + j1;
 i1 = UINT32_C(0);
-j2 = UINT64_C(74);
+j2 = UINT64_C(87);
 fill(m, j0, i1, j2);
-j0 = v0;
-j1 = v3;
-i1 = load16(p1 + 12);
-store16(p6 + 204866, i1);
-j0 = v0;
-j1 = v3;
-i1 = load32(p1 + 8);
-store32(p6 + 204862, i1);
-j0 = v3;
-j1 = UINT64_C(2496640);
-j0 = j0 + j1;
-m->g0 = j0;
-return;
-}
-fio2070_trap();
 }
 static void enter_log_signs_start(struct machine *m, uint64_t v0)
 {
@@ -147464,8 +146215,8 @@ static uint64_t proved_log_read(struct machine *m, uint64_t v0, uint64_t v1, uin
 uint64_t v4 = 0;
 uint64_t v5 = 0;
 uint64_t v6 = 0;
-uint64_t v7 = 0;
-uint32_t v8 = 0;
+uint32_t v7 = 0;
+uint64_t v8 = 0;
 uint64_t v9 = 0;
 uint64_t v10 = 0;
 uint64_t v11 = 0;
@@ -147476,9 +146227,9 @@ uint64_t v15 = 0;
 uint64_t v16 = 0;
 uint64_t v17 = 0;
 uint64_t v18 = 0;
-uint64_t v19 = 0;
+uint32_t v19 = 0;
 uint64_t v20 = 0;
-uint32_t v21 = 0;
+uint64_t v21 = 0;
 uint64_t v22 = 0;
 uint64_t v23 = 0;
 uint64_t v24 = 0;
@@ -147552,22 +146303,10 @@ uint8_t *p53;
 uint8_t *p54;
 uint8_t *p55;
 uint8_t *p56;
-uint8_t *p57;
-uint8_t *p58;
-uint8_t *p59;
-uint8_t *p60;
-uint8_t *p61;
-uint8_t *p62;
-uint8_t *p63;
-uint8_t *p64;
-uint8_t *p65;
-uint8_t *p66;
-uint8_t *p67;
-uint8_t *p68;
 j0 = m->g0;
-j1 = UINT64_C(1296);
+j1 = UINT64_C(128);
 j0 = j0 - j1;
-p1 = write_at(j0, m, 1296u);
+p1 = write_at(j0, m, 128u);
 v4 = j0;
 m->g0 = j0;
 j0 = v4;
@@ -147576,1026 +146315,864 @@ j1 = UINT64_C(16);
 i0 = (SIGNED64(j0) < SIGNED64(j1));
 if (!i0) {
 j0 = v2;
-j1 = UINT64_C(0);
-i0 = (j0 != j1);
+i0 = (j0 == 0);
 if (!i0) {
-j0 = UINT64_C(0);
-v6 = j0;
-j0 = v3;
-j1 = UINT64_C(0);
-p2 = write_at(j0, m, 16u);
-store64(p2 + 8, j1);
-j0 = v3;
-j1 = UINT64_C(0);
-store64(p2 + 0, j1);
-j0 = v0;
-j1 = v3;
-fio_c_log_verdicts_fill(m, j0, j1);
-goto l2;
-}
 j0 = UINT64_C(4096);
 j1 = UINT64_C(0);
 j2 = v1;
 i2 = (j2 == 0);
 j0 = i2 ? j0 : j1;
-v7 = j0;
+v4 = j0;
 j0 = v0;
-j1 = UINT64_C(451473);
+j1 = UINT64_C(451489);
 j0 = j0 + j1;
-p3 = read_at(j0, m, 1u);
-i0 = load8(p3 + 0);
+p2 = read_at(j0, m, 1u);
+i0 = load8(p2 + 0);
 i1 = UINT32_C(1);
 i0 = (i0 != i1);
 if (!i0) {
 j0 = v0;
-j1 = UINT64_C(451464);
+j1 = UINT64_C(451480);
 j0 = j0 + j1;
-p4 = read_at(j0 + UINT64_C(18446744073709551608), m, 16u);
-j0 = load64(p4 + 8);
+p3 = read_at(j0 + UINT64_C(18446744073709551608), m, 16u);
+j0 = load64(p3 + 8);
 j1 = v0;
-j2 = UINT64_C(451456);
+j2 = UINT64_C(451472);
 j1 = j1 + j2;
-j1 = load64(p4 + 0);
+j1 = load64(p3 + 0);
 i0 = (j0 != j1);
 if (!i0) {
 j0 = v0;
 j1 = UINT64_C(65536);
 j0 = j0 + j1;
-p5 = read_at(j0, m, 8u);
-j0 = load64(p5 + 0);
-v4 = j0;
+p4 = read_at(j0, m, 8u);
+j0 = load64(p4 + 0);
+v6 = j0;
 i0 = (j0 == 0);
-v8 = i0;
+v7 = i0;
 if (!i0) {
-i0 = v8;
+i0 = v7;
 if (!i0) {
 j0 = v0;
 i1 = UINT32_C(0);
-j2 = v4;
+j2 = v6;
 fill(m, j0, i1, j2);
 }
 j0 = v0;
 j1 = UINT64_C(65536);
 j0 = j0 + j1;
 j1 = UINT64_C(0);
-p6 = write_at(j0, m, 8u);
-store64(p6 + 0, j1);
+p5 = write_at(j0, m, 8u);
+store64(p5 + 0, j1);
 }
 j0 = v0;
 j1 = UINT64_C(65552);
 j0 = j0 + j1;
 i1 = UINT32_C(0);
-p7 = write_at(j0 + UINT64_C(18446744073709551608), m, 65560u);
-store16(p7 + 8, i1);
+p6 = write_at(j0 + UINT64_C(18446744073709551608), m, 65560u);
+store16(p6 + 8, i1);
 j0 = v0;
 j1 = UINT64_C(65544);
 j0 = j0 + j1;
 i1 = UINT32_C(0);
-store8(p7 + 0, i1);
+store8(p6 + 0, i1);
 j0 = v0;
 j1 = UINT64_C(131096);
 j0 = j0 + j1;
-j0 = load64(p7 + 65552);
-v4 = j0;
+j0 = load64(p6 + 65552);
+v6 = j0;
 i0 = (j0 == 0);
-v8 = i0;
+v7 = i0;
 if (!i0) {
-i0 = v8;
+i0 = v7;
 if (!i0) {
 j0 = v0;
 j1 = UINT64_C(65560);
 j0 = j0 + j1;
 i1 = UINT32_C(0);
-j2 = v4;
+j2 = v6;
 fill(m, j0, i1, j2);
 }
 j0 = v0;
 j1 = UINT64_C(131096);
 j0 = j0 + j1;
 j1 = UINT64_C(0);
-store64(p7 + 65552, j1);
+store64(p6 + 65552, j1);
 }
 j0 = v0;
 j1 = UINT64_C(135200);
 j0 = j0 + j1;
-p8 = read_at(j0, m, 8u);
-j0 = load64(p8 + 0);
-v4 = j0;
+p7 = read_at(j0, m, 8u);
+j0 = load64(p7 + 0);
+v6 = j0;
 i0 = (j0 == 0);
 if (!i0) {
-j0 = v4;
+j0 = v6;
 j1 = UINT64_C(2);
 j0 = j0 << (j1 & 63);
-v4 = j0;
+v6 = j0;
 i0 = (j0 == 0);
 if (!i0) {
 j0 = v0;
 j1 = UINT64_C(131104);
 j0 = j0 + j1;
 i1 = UINT32_C(0);
-j2 = v4;
+j2 = v6;
 fill(m, j0, i1, j2);
 }
 j0 = v0;
 j1 = UINT64_C(135200);
 j0 = j0 + j1;
 j1 = UINT64_C(0);
-p9 = write_at(j0, m, 8u);
-store64(p9 + 0, j1);
+p8 = write_at(j0, m, 8u);
+store64(p8 + 0, j1);
 }
-j0 = v0;
-j1 = UINT64_C(303616);
-j0 = j0 + j1;
-p10 = read_at(j0, m, 8u);
-j0 = load64(p10 + 0);
-v4 = j0;
-i0 = (j0 == 0);
-if (!i0) {
-j0 = v4;
-j1 = UINT64_C(3);
-j0 = j0 << (j1 & 63);
-v4 = j0;
-i0 = (j0 == 0);
-if (!i0) {
-j0 = v0;
-j1 = UINT64_C(303488);
-j0 = j0 + j1;
-i1 = UINT32_C(0);
-j2 = v4;
-fill(m, j0, i1, j2);
-}
-j0 = v0;
-j1 = UINT64_C(303616);
-j0 = j0 + j1;
-j1 = UINT64_C(0);
-p11 = write_at(j0, m, 8u);
-store64(p11 + 0, j1);
-}
-j0 = v0;
-j1 = UINT64_C(303632);
-j0 = j0 + j1;
-j1 = UINT64_C(2);
-p12 = write_at(j0 + UINT64_C(18446744073709551608), m, 12592u);
-store64(p12 + 8, j1);
 j0 = v0;
 j1 = UINT64_C(303624);
 j0 = j0 + j1;
-i1 = UINT32_C(0);
-store8(p12 + 0, i1);
+p9 = read_at(j0, m, 8u);
+j0 = load64(p9 + 0);
+v6 = j0;
+i0 = (j0 == 0);
+if (!i0) {
+j0 = v6;
+j1 = UINT64_C(3);
+j0 = j0 << (j1 & 63);
+v6 = j0;
+i0 = (j0 == 0);
+if (!i0) {
 j0 = v0;
-j1 = UINT64_C(303656);
+j1 = UINT64_C(303496);
 j0 = j0 + j1;
-j1 = UINT64_C(1024);
-store64(p12 + 32, j1);
-j0 = UINT64_C(0);
-v9 = j0;
+i1 = UINT32_C(0);
+j2 = v6;
+fill(m, j0, i1, j2);
+}
 j0 = v0;
-j1 = UINT64_C(303648);
+j1 = UINT64_C(303624);
 j0 = j0 + j1;
 j1 = UINT64_C(0);
-store64(p12 + 24, j1);
-j0 = v0;
-j1 = UINT64_C(303642);
-j0 = j0 + j1;
-i1 = UINT32_C(0);
-store8(p12 + 18, i1);
+p10 = write_at(j0, m, 8u);
+store64(p10 + 0, j1);
+}
 j0 = v0;
 j1 = UINT64_C(303640);
 j0 = j0 + j1;
-i1 = UINT32_C(1);
-store16(p12 + 16, i1);
+j1 = UINT64_C(0);
+p11 = write_at(j0 + UINT64_C(18446744073709551608), m, 15936u);
+store64(p11 + 8, j1);
 j0 = v0;
-j1 = UINT64_C(316208);
+j1 = UINT64_C(303632);
 j0 = j0 + j1;
-j0 = load64(p12 + 12584);
-v10 = j0;
+i1 = UINT32_C(0);
+store8(p11 + 0, i1);
+j0 = v0;
+j1 = UINT64_C(303647);
+j0 = j0 + j1;
+i1 = UINT32_C(0);
+store32(p11 + 15, i1);
+j0 = v0;
+j1 = UINT64_C(303656);
+j0 = j0 + j1;
+i1 = UINT32_C(0);
+j2 = UINT64_C(12576);
+fill(m, j0, i1, j2);
+j0 = v0;
+j1 = UINT64_C(319560);
+j0 = j0 + j1;
+j0 = load64(p11 + 15928);
+v6 = j0;
+i0 = (j0 == 0);
+if (!i0) {
+j0 = v6;
+j1 = UINT64_C(208);
+j0 = j0 * j1;
+v6 = j0;
 i0 = (j0 == 0);
 if (!i0) {
 j0 = v0;
-j1 = UINT64_C(303664);
-j0 = j0 + j1;
-v11 = j0;
-j0 = v5;
-j1 = UINT64_C(654);
-j0 = j0 + j1;
-v12 = j0;
-l16:;
-j0 = v5;
-i1 = UINT32_C(0);
-store16(p1 + 652, i1);
-j0 = v5;
-i1 = UINT32_C(0);
-store32(p1 + 648, i1);
-j0 = v5;
-j1 = UINT64_C(784);
+j1 = UINT64_C(316232);
 j0 = j0 + j1;
 i1 = UINT32_C(0);
-j2 = UINT64_C(512);
+j2 = v6;
 fill(m, j0, i1, j2);
-j0 = UINT64_C(0);
-v4 = j0;
-for (;;) {
-j0 = v5;
-j1 = UINT64_C(784);
-j0 = j0 + j1;
-j1 = v4;
-j0 = j0 + j1;
-j1 = UINT64_C(281479271743489);
-p13 = write_at(j0, m, 8u);
-store64(p13 + 0, j1);
-j0 = v4;
-j1 = UINT64_C(8);
-j0 = j0 + j1;
-v4 = j0;
-j1 = UINT64_C(512);
-i0 = (j0 != j1);
-if (!i0) break;
 }
-j0 = v12;
-i1 = UINT32_C(0);
-j2 = UINT64_C(128);
-fill(m, j0, i1, j2);
-j0 = v5;
-j1 = UINT64_C(2);
+j0 = v0;
+j1 = UINT64_C(319560);
 j0 = j0 + j1;
-j1 = v5;
-j2 = UINT64_C(648);
-j1 = j1 + j2;
-j2 = UINT64_C(134);
-copy(m, j0, j1, j2);
-j0 = v5;
-j1 = UINT64_C(136);
-j0 = j0 + j1;
-j1 = v5;
-j2 = UINT64_C(784);
-j1 = j1 + j2;
-j2 = UINT64_C(512);
-copy(m, j0, j1, j2);
-j0 = v11;
-j1 = v9;
-j2 = UINT64_C(784);
-j1 = j1 * j2;
-j0 = j0 + j1;
-v4 = j0;
-j1 = v5;
-j2 = UINT64_C(136);
-j1 = j1 + j2;
-j2 = UINT64_C(512);
-copy(m, j0, j1, j2);
-j0 = v4;
-i1 = UINT32_C(0);
-p14 = write_at(j0 + UINT64_C(512), m, 152u);
-store16(p14 + 8, i1);
-j0 = v4;
 j1 = UINT64_C(0);
+store64(p11 + 15928, j1);
+}
+j0 = v0;
+j1 = UINT64_C(319576);
+j0 = j0 + j1;
+i1 = UINT32_C(0);
+p12 = write_at(j0 + UINT64_C(18446744073709551608), m, 22616u);
+store8(p12 + 8, i1);
+j0 = v0;
+j1 = UINT64_C(319568);
+j0 = j0 + j1;
+j1 = UINT64_C(0);
+store64(p12 + 0, j1);
+j0 = v0;
+j1 = UINT64_C(342176);
+j0 = j0 + j1;
+j0 = load64(p12 + 22608);
+v6 = j0;
+i0 = (j0 == 0);
+if (!i0) {
+j0 = v6;
+j1 = UINT64_C(24);
+j0 = j0 * j1;
+v6 = j0;
+i0 = (j0 == 0);
+if (!i0) {
+j0 = v0;
+j1 = UINT64_C(329888);
+j0 = j0 + j1;
+i1 = UINT32_C(0);
+j2 = v6;
+fill(m, j0, i1, j2);
+}
+j0 = v0;
+j1 = UINT64_C(342176);
+j0 = j0 + j1;
+j1 = UINT64_C(0);
+store64(p12 + 22608, j1);
+}
+j0 = v0;
+j1 = UINT64_C(344232);
+j0 = j0 + j1;
+p13 = read_at(j0, m, 8u);
+j0 = load64(p13 + 0);
+v6 = j0;
+i0 = (j0 == 0);
+v7 = i0;
+if (!i0) {
+i0 = v7;
+if (!i0) {
+j0 = v0;
+j1 = UINT64_C(342184);
+j0 = j0 + j1;
+i1 = UINT32_C(0);
+j2 = v6;
+fill(m, j0, i1, j2);
+}
+j0 = v0;
+j1 = UINT64_C(344232);
+j0 = j0 + j1;
+j1 = UINT64_C(0);
+p14 = write_at(j0, m, 8u);
 store64(p14 + 0, j1);
-j0 = v4;
-j1 = UINT64_C(522);
-j0 = j0 + j1;
-j1 = v5;
-j2 = UINT64_C(2);
-j1 = j1 + j2;
-j2 = UINT64_C(134);
-copy(m, j0, j1, j2);
-j0 = v4;
-j1 = UINT64_C(1);
-store64(p14 + 144, j1);
-j0 = v4;
-j1 = UINT64_C(664);
-j0 = j0 + j1;
-i1 = UINT32_C(0);
-j2 = UINT64_C(120);
-fill(m, j0, i1, j2);
-j0 = v9;
-j1 = UINT64_C(1);
-j0 = j0 + j1;
-v9 = j0;
-j1 = v10;
-i0 = (j0 != j1);
-if (i0) { goto l16; }
-j0 = v0;
-j1 = UINT64_C(316208);
-j0 = j0 + j1;
-j1 = UINT64_C(0);
-store64(p12 + 12584, j1);
 }
 j0 = v0;
-j1 = UINT64_C(319544);
+j1 = UINT64_C(344248);
 j0 = j0 + j1;
 p15 = read_at(j0, m, 8u);
 j0 = load64(p15 + 0);
-v4 = j0;
+v6 = j0;
 i0 = (j0 == 0);
+v7 = i0;
 if (!i0) {
-j0 = v4;
-j1 = UINT64_C(208);
-j0 = j0 * j1;
-v4 = j0;
-i0 = (j0 == 0);
+i0 = v7;
 if (!i0) {
 j0 = v0;
-j1 = UINT64_C(316216);
+j1 = UINT64_C(344240);
 j0 = j0 + j1;
 i1 = UINT32_C(0);
-j2 = v4;
+j2 = v6;
 fill(m, j0, i1, j2);
 }
 j0 = v0;
-j1 = UINT64_C(319544);
+j1 = UINT64_C(344248);
 j0 = j0 + j1;
 j1 = UINT64_C(0);
 p16 = write_at(j0, m, 8u);
 store64(p16 + 0, j1);
 }
 j0 = v0;
-j1 = UINT64_C(319560);
+j1 = UINT64_C(346304);
 j0 = j0 + j1;
-i1 = UINT32_C(0);
-p17 = write_at(j0 + UINT64_C(18446744073709551608), m, 22616u);
-store8(p17 + 8, i1);
-j0 = v0;
-j1 = UINT64_C(319552);
-j0 = j0 + j1;
-j1 = UINT64_C(0);
-store64(p17 + 0, j1);
-j0 = v0;
-j1 = UINT64_C(342160);
-j0 = j0 + j1;
-j0 = load64(p17 + 22608);
-v4 = j0;
+p17 = read_at(j0, m, 8u);
+j0 = load64(p17 + 0);
+v6 = j0;
 i0 = (j0 == 0);
+v7 = i0;
 if (!i0) {
-j0 = v4;
-j1 = UINT64_C(24);
-j0 = j0 * j1;
-v4 = j0;
-i0 = (j0 == 0);
+i0 = v7;
 if (!i0) {
 j0 = v0;
-j1 = UINT64_C(329872);
+j1 = UINT64_C(344256);
 j0 = j0 + j1;
 i1 = UINT32_C(0);
-j2 = v4;
+j2 = v6;
 fill(m, j0, i1, j2);
 }
 j0 = v0;
-j1 = UINT64_C(342160);
+j1 = UINT64_C(346304);
 j0 = j0 + j1;
 j1 = UINT64_C(0);
-store64(p17 + 22608, j1);
+p18 = write_at(j0, m, 8u);
+store64(p18 + 0, j1);
 }
 j0 = v0;
-j1 = UINT64_C(344216);
+j1 = UINT64_C(379080);
 j0 = j0 + j1;
-p18 = read_at(j0, m, 8u);
-j0 = load64(p18 + 0);
-v4 = j0;
-i0 = (j0 == 0);
-v8 = i0;
-if (!i0) {
-i0 = v8;
-if (!i0) {
-j0 = v0;
-j1 = UINT64_C(342168);
-j0 = j0 + j1;
-i1 = UINT32_C(0);
-j2 = v4;
-fill(m, j0, i1, j2);
-}
-j0 = v0;
-j1 = UINT64_C(344216);
-j0 = j0 + j1;
-j1 = UINT64_C(0);
-p19 = write_at(j0, m, 8u);
-store64(p19 + 0, j1);
-}
-j0 = v0;
-j1 = UINT64_C(344232);
-j0 = j0 + j1;
-p20 = read_at(j0, m, 8u);
-j0 = load64(p20 + 0);
-v4 = j0;
-i0 = (j0 == 0);
-v8 = i0;
-if (!i0) {
-i0 = v8;
-if (!i0) {
-j0 = v0;
-j1 = UINT64_C(344224);
-j0 = j0 + j1;
-i1 = UINT32_C(0);
-j2 = v4;
-fill(m, j0, i1, j2);
-}
-j0 = v0;
-j1 = UINT64_C(344232);
-j0 = j0 + j1;
-j1 = UINT64_C(0);
-p21 = write_at(j0, m, 8u);
-store64(p21 + 0, j1);
-}
-j0 = v0;
-j1 = UINT64_C(346288);
-j0 = j0 + j1;
-p22 = read_at(j0, m, 8u);
-j0 = load64(p22 + 0);
-v4 = j0;
-i0 = (j0 == 0);
-v8 = i0;
-if (!i0) {
-i0 = v8;
-if (!i0) {
-j0 = v0;
-j1 = UINT64_C(344240);
-j0 = j0 + j1;
-i1 = UINT32_C(0);
-j2 = v4;
-fill(m, j0, i1, j2);
-}
-j0 = v0;
-j1 = UINT64_C(346288);
-j0 = j0 + j1;
-j1 = UINT64_C(0);
-p23 = write_at(j0, m, 8u);
-store64(p23 + 0, j1);
-}
-j0 = v0;
-j1 = UINT64_C(379064);
-j0 = j0 + j1;
-p24 = read_at(j0, m, 8u);
-j0 = load64(p24 + 0);
-v4 = j0;
+p19 = read_at(j0, m, 8u);
+j0 = load64(p19 + 0);
+v6 = j0;
 i0 = (j0 == 0);
 if (!i0) {
-j0 = v4;
+j0 = v6;
 j1 = UINT64_C(5);
 j0 = j0 << (j1 & 63);
-v4 = j0;
+v6 = j0;
 i0 = (j0 == 0);
 if (!i0) {
 j0 = v0;
-j1 = UINT64_C(346296);
+j1 = UINT64_C(346312);
 j0 = j0 + j1;
 i1 = UINT32_C(0);
-j2 = v4;
+j2 = v6;
 fill(m, j0, i1, j2);
 }
-j0 = v0;
-j1 = UINT64_C(379064);
-j0 = j0 + j1;
-j1 = UINT64_C(0);
-p25 = write_at(j0, m, 8u);
-store64(p25 + 0, j1);
-}
-j0 = v0;
-j1 = UINT64_C(379112);
-j0 = j0 + j1;
-i1 = UINT32_C(0);
-p26 = write_at(j0 + UINT64_C(18446744073709551576), m, 120u);
-store8(p26 + 40, i1);
-j0 = v0;
-j1 = UINT64_C(379104);
-j0 = j0 + j1;
-j1 = UINT64_C(0);
-store64(p26 + 32, j1);
-j0 = v0;
-j1 = UINT64_C(379072);
-j0 = j0 + j1;
-j1 = UINT64_C(0);
-store64(p26 + 0, j1);
 j0 = v0;
 j1 = UINT64_C(379080);
 j0 = j0 + j1;
 j1 = UINT64_C(0);
-store64(p26 + 8, j1);
+p20 = write_at(j0, m, 8u);
+store64(p20 + 0, j1);
+}
+j0 = v0;
+j1 = UINT64_C(379128);
+j0 = j0 + j1;
+i1 = UINT32_C(0);
+p21 = write_at(j0 + UINT64_C(18446744073709551576), m, 120u);
+store8(p21 + 40, i1);
+j0 = v0;
+j1 = UINT64_C(379120);
+j0 = j0 + j1;
+j1 = UINT64_C(0);
+store64(p21 + 32, j1);
 j0 = v0;
 j1 = UINT64_C(379088);
 j0 = j0 + j1;
 j1 = UINT64_C(0);
-store64(p26 + 16, j1);
+store64(p21 + 0, j1);
 j0 = v0;
 j1 = UINT64_C(379096);
 j0 = j0 + j1;
-i1 = UINT32_C(0);
-store16(p26 + 24, i1);
+j1 = UINT64_C(0);
+store64(p21 + 8, j1);
 j0 = v0;
-j1 = UINT64_C(379184);
-j0 = j0 + j1;
-j0 = load64(p26 + 112);
-v4 = j0;
-i0 = (j0 == 0);
-if (!i0) {
-j0 = v4;
-j1 = UINT64_C(3);
-j0 = j0 << (j1 & 63);
-v4 = j0;
-i0 = (j0 == 0);
-if (!i0) {
-j0 = v0;
-j1 = UINT64_C(379120);
-j0 = j0 + j1;
-i1 = UINT32_C(0);
-j2 = v4;
-fill(m, j0, i1, j2);
-}
-j0 = v0;
-j1 = UINT64_C(379184);
+j1 = UINT64_C(379104);
 j0 = j0 + j1;
 j1 = UINT64_C(0);
-store64(p26 + 112, j1);
-}
+store64(p21 + 16, j1);
 j0 = v0;
-j1 = UINT64_C(379208);
+j1 = UINT64_C(379112);
 j0 = j0 + j1;
 i1 = UINT32_C(0);
-p27 = write_at(j0 + UINT64_C(18446744073709551600), m, 2080u);
-store16(p27 + 16, i1);
+store16(p21 + 24, i1);
+j0 = v0;
+j1 = UINT64_C(379200);
+j0 = j0 + j1;
+j0 = load64(p21 + 112);
+v6 = j0;
+i0 = (j0 == 0);
+if (!i0) {
+j0 = v6;
+j1 = UINT64_C(3);
+j0 = j0 << (j1 & 63);
+v6 = j0;
+i0 = (j0 == 0);
+if (!i0) {
+j0 = v0;
+j1 = UINT64_C(379136);
+j0 = j0 + j1;
+i1 = UINT32_C(0);
+j2 = v6;
+fill(m, j0, i1, j2);
+}
 j0 = v0;
 j1 = UINT64_C(379200);
 j0 = j0 + j1;
 j1 = UINT64_C(0);
-store64(p27 + 8, j1);
+store64(p21 + 112, j1);
+}
 j0 = v0;
-j1 = UINT64_C(379192);
+j1 = UINT64_C(379224);
 j0 = j0 + j1;
-j1 = UINT64_C(0);
-store64(p27 + 0, j1);
-j0 = v0;
-j1 = UINT64_C(381264);
-j0 = j0 + j1;
-j0 = load64(p27 + 2072);
-v4 = j0;
-i0 = (j0 == 0);
-v8 = i0;
-if (!i0) {
-i0 = v8;
-if (!i0) {
+i1 = UINT32_C(0);
+p22 = write_at(j0 + UINT64_C(18446744073709551600), m, 2080u);
+store16(p22 + 16, i1);
 j0 = v0;
 j1 = UINT64_C(379216);
 j0 = j0 + j1;
+j1 = UINT64_C(0);
+store64(p22 + 8, j1);
+j0 = v0;
+j1 = UINT64_C(379208);
+j0 = j0 + j1;
+j1 = UINT64_C(0);
+store64(p22 + 0, j1);
+j0 = v0;
+j1 = UINT64_C(381280);
+j0 = j0 + j1;
+j0 = load64(p22 + 2072);
+v6 = j0;
+i0 = (j0 == 0);
+v7 = i0;
+if (!i0) {
+i0 = v7;
+if (!i0) {
+j0 = v0;
+j1 = UINT64_C(379232);
+j0 = j0 + j1;
 i1 = UINT32_C(0);
-j2 = v4;
+j2 = v6;
 fill(m, j0, i1, j2);
 }
 j0 = v0;
-j1 = UINT64_C(381264);
+j1 = UINT64_C(381280);
 j0 = j0 + j1;
 j1 = UINT64_C(0);
-store64(p27 + 2072, j1);
+store64(p22 + 2072, j1);
 }
 j0 = v0;
-j1 = UINT64_C(389480);
+j1 = UINT64_C(389496);
+j0 = j0 + j1;
+p23 = read_at(j0, m, 8u);
+j0 = load64(p23 + 0);
+v6 = j0;
+i0 = (j0 == 0);
+if (!i0) {
+j0 = v6;
+j1 = UINT64_C(4);
+j0 = j0 << (j1 & 63);
+v6 = j0;
+i0 = (j0 == 0);
+if (!i0) {
+j0 = v0;
+j1 = UINT64_C(385400);
+j0 = j0 + j1;
+i1 = UINT32_C(0);
+j2 = v6;
+fill(m, j0, i1, j2);
+}
+j0 = v0;
+j1 = UINT64_C(389496);
+j0 = j0 + j1;
+j1 = UINT64_C(0);
+p24 = write_at(j0, m, 8u);
+store64(p24 + 0, j1);
+}
+j0 = v0;
+j1 = UINT64_C(389504);
+j0 = j0 + j1;
+i1 = UINT32_C(0);
+p25 = write_at(j0, m, 29120u);
+store8(p25 + 0, i1);
+j0 = v0;
+j1 = UINT64_C(389512);
+j0 = j0 + j1;
+i1 = UINT32_C(0);
+j2 = UINT64_C(12585);
+fill(m, j0, i1, j2);
+j0 = v0;
+j1 = UINT64_C(402104);
+j0 = j0 + j1;
+i1 = UINT32_C(0);
+j2 = UINT64_C(121);
+fill(m, j0, i1, j2);
+j0 = v0;
+j1 = UINT64_C(418616);
+j0 = j0 + j1;
+j0 = load64(p25 + 29112);
+v6 = j0;
+i0 = (j0 == 0);
+v7 = i0;
+if (!i0) {
+i0 = v7;
+if (!i0) {
+j0 = v0;
+j1 = UINT64_C(402232);
+j0 = j0 + j1;
+i1 = UINT32_C(0);
+j2 = v6;
+fill(m, j0, i1, j2);
+}
+j0 = v0;
+j1 = UINT64_C(418616);
+j0 = j0 + j1;
+j1 = UINT64_C(0);
+store64(p25 + 29112, j1);
+}
+j0 = v0;
+j1 = UINT64_C(426816);
+j0 = j0 + j1;
+p26 = read_at(j0, m, 8u);
+j0 = load64(p26 + 0);
+v6 = j0;
+i0 = (j0 == 0);
+if (!i0) {
+j0 = v6;
+j1 = UINT64_C(2);
+j0 = j0 << (j1 & 63);
+v6 = j0;
+i0 = (j0 == 0);
+if (!i0) {
+j0 = v0;
+j1 = UINT64_C(418624);
+j0 = j0 + j1;
+i1 = UINT32_C(0);
+j2 = v6;
+fill(m, j0, i1, j2);
+}
+j0 = v0;
+j1 = UINT64_C(426816);
+j0 = j0 + j1;
+j1 = UINT64_C(0);
+p27 = write_at(j0, m, 8u);
+store64(p27 + 0, j1);
+}
+j0 = v0;
+j1 = UINT64_C(451400);
 j0 = j0 + j1;
 p28 = read_at(j0, m, 8u);
 j0 = load64(p28 + 0);
-v4 = j0;
+v6 = j0;
 i0 = (j0 == 0);
 if (!i0) {
-j0 = v4;
-j1 = UINT64_C(4);
-j0 = j0 << (j1 & 63);
-v4 = j0;
+j0 = v6;
+j1 = UINT64_C(24);
+j0 = j0 * j1;
+v6 = j0;
 i0 = (j0 == 0);
 if (!i0) {
 j0 = v0;
-j1 = UINT64_C(385384);
+j1 = UINT64_C(426824);
 j0 = j0 + j1;
 i1 = UINT32_C(0);
-j2 = v4;
+j2 = v6;
 fill(m, j0, i1, j2);
 }
 j0 = v0;
-j1 = UINT64_C(389480);
+j1 = UINT64_C(451400);
 j0 = j0 + j1;
 j1 = UINT64_C(0);
 p29 = write_at(j0, m, 8u);
 store64(p29 + 0, j1);
 }
 j0 = v0;
-j1 = UINT64_C(389488);
-j0 = j0 + j1;
-i1 = UINT32_C(0);
-p30 = write_at(j0, m, 29120u);
-store8(p30 + 0, i1);
-j0 = v0;
-j1 = UINT64_C(389496);
-j0 = j0 + j1;
-i1 = UINT32_C(0);
-j2 = UINT64_C(12585);
-fill(m, j0, i1, j2);
-j0 = v0;
-j1 = UINT64_C(402088);
-j0 = j0 + j1;
-i1 = UINT32_C(0);
-j2 = UINT64_C(121);
-fill(m, j0, i1, j2);
-j0 = v0;
-j1 = UINT64_C(418600);
-j0 = j0 + j1;
-j0 = load64(p30 + 29112);
-v4 = j0;
-i0 = (j0 == 0);
-v8 = i0;
-if (!i0) {
-i0 = v8;
-if (!i0) {
-j0 = v0;
-j1 = UINT64_C(402216);
-j0 = j0 + j1;
-i1 = UINT32_C(0);
-j2 = v4;
-fill(m, j0, i1, j2);
-}
-j0 = v0;
-j1 = UINT64_C(418600);
-j0 = j0 + j1;
-j1 = UINT64_C(0);
-store64(p30 + 29112, j1);
-}
-j0 = v0;
-j1 = UINT64_C(426800);
-j0 = j0 + j1;
-p31 = read_at(j0, m, 8u);
-j0 = load64(p31 + 0);
-v4 = j0;
-i0 = (j0 == 0);
-if (!i0) {
-j0 = v4;
-j1 = UINT64_C(2);
-j0 = j0 << (j1 & 63);
-v4 = j0;
-i0 = (j0 == 0);
-if (!i0) {
-j0 = v0;
-j1 = UINT64_C(418608);
-j0 = j0 + j1;
-i1 = UINT32_C(0);
-j2 = v4;
-fill(m, j0, i1, j2);
-}
-j0 = v0;
-j1 = UINT64_C(426800);
-j0 = j0 + j1;
-j1 = UINT64_C(0);
-p32 = write_at(j0, m, 8u);
-store64(p32 + 0, j1);
-}
-j0 = v0;
-j1 = UINT64_C(451384);
-j0 = j0 + j1;
-p33 = read_at(j0, m, 8u);
-j0 = load64(p33 + 0);
-v4 = j0;
-i0 = (j0 == 0);
-if (!i0) {
-j0 = v4;
-j1 = UINT64_C(24);
-j0 = j0 * j1;
-v4 = j0;
-i0 = (j0 == 0);
-if (!i0) {
-j0 = v0;
-j1 = UINT64_C(426808);
-j0 = j0 + j1;
-i1 = UINT32_C(0);
-j2 = v4;
-fill(m, j0, i1, j2);
-}
-j0 = v0;
-j1 = UINT64_C(451384);
-j0 = j0 + j1;
-j1 = UINT64_C(0);
-p34 = write_at(j0, m, 8u);
-store64(p34 + 0, j1);
-}
-j0 = v0;
-j1 = UINT64_C(451400);
+j1 = UINT64_C(451416);
 j0 = j0 + j1;
 i1 = UINT32_C(0);
 j2 = UINT64_C(74);
 fill(m, j0, i1, j2);
-j0 = v3;
-j1 = UINT64_C(0);
-p35 = write_at(j0, m, 16u);
-store64(p35 + 8, j1);
-j0 = v3;
-j1 = UINT64_C(0);
-store64(p35 + 0, j1);
-goto l3;
 }
 }
+j0 = v1;
+j1 = v4;
+j0 = j0 + j1;
+v8 = j0;
+j0 = UINT64_C(0);
+v9 = j0;
 j0 = v3;
 j1 = UINT64_C(0);
-p36 = write_at(j0, m, 16u);
-store64(p36 + 8, j1);
+p30 = write_at(j0, m, 16u);
+store64(p30 + 8, j1);
 j0 = v3;
 j1 = UINT64_C(0);
-store64(p36 + 0, j1);
-goto l3;
-}
-fio2070_trap();
-l3:;
+store64(p30 + 0, j1);
 j0 = v0;
 j1 = v3;
 fio_c_log_verdicts_fill(m, j0, j1);
-j0 = v1;
-j1 = v7;
+j0 = v0;
+j1 = UINT64_C(451416);
+j0 = j0 + j1;
+v10 = j0;
+j0 = v0;
+j1 = UINT64_C(402168);
+j0 = j0 + j1;
+v11 = j0;
+j0 = v0;
+j1 = UINT64_C(402112);
+j0 = j0 + j1;
+v12 = j0;
+j0 = v0;
+j1 = UINT64_C(402104);
 j0 = j0 + j1;
 v13 = j0;
 j0 = v0;
-j1 = UINT64_C(451400);
+j1 = UINT64_C(402232);
 j0 = j0 + j1;
 v14 = j0;
 j0 = v0;
-j1 = UINT64_C(402152);
-j0 = j0 + j1;
-v15 = j0;
-j0 = v0;
-j1 = UINT64_C(402096);
-j0 = j0 + j1;
-v16 = j0;
-j0 = v0;
-j1 = UINT64_C(402088);
-j0 = j0 + j1;
-v17 = j0;
-j0 = v0;
-j1 = UINT64_C(402216);
-j0 = j0 + j1;
-v18 = j0;
-j0 = v0;
 j1 = UINT64_C(65560);
 j0 = j0 + j1;
-v19 = j0;
-j0 = UINT64_C(0);
-v6 = j0;
-l42:;
+v15 = j0;
+l38:;
 j0 = v3;
-p37 = read_at(j0, m, 4u);
-i0 = load32(p37 + 0);
+i0 = load32(p30 + 0);
 i1 = UINT32_C(4095);
 i0 = (i0 > i1);
-if (i0) { goto l2; }
+if (i0) { goto l3; }
 j0 = v3;
 j1 = UINT64_C(4);
 j0 = j0 + j1;
-p38 = read_at(j0, m, 4u);
-i0 = load32(p38 + 0);
+i0 = load32(p30 + 4);
 i1 = UINT32_C(4096);
 i0 = (i0 > i1);
-if (i0) { goto l2; }
+if (i0) { goto l3; }
 j0 = v3;
 j1 = UINT64_C(12);
 j0 = j0 + j1;
-p39 = read_at(j0, m, 4u);
-i0 = load32(p39 + 0);
+i0 = load32(p30 + 12);
 i1 = UINT32_C(4096);
 i0 = (i0 > i1);
-if (i0) { goto l2; }
+if (i0) { goto l3; }
 j0 = v3;
 j1 = UINT64_C(8);
 j0 = j0 + j1;
-p40 = read_at(j0, m, 4u);
-i0 = load32(p40 + 0);
+i0 = load32(p30 + 8);
 i1 = UINT32_C(49152);
 i0 = (i0 > i1);
-if (i0) { goto l2; }
+if (i0) { goto l3; }
 j0 = v5;
 j1 = UINT64_C(0);
-p41 = write_at(j0 + UINT64_C(648), m, 24u);
-store64(p41 + 16, j1);
+store64(p1 + 16, j1);
 j0 = v5;
 j1 = UINT64_C(0);
-store64(p41 + 8, j1);
+store64(p1 + 8, j1);
 j0 = v5;
 j1 = UINT64_C(0);
-store64(p41 + 0, j1);
+store64(p1 + 0, j1);
+j0 = v0;
+j1 = UINT64_C(451488);
+j0 = j0 + j1;
+p31 = read_at(j0, m, 1u);
+i0 = load8(p31 + 0);
+if (i0) { goto l3; }
+j0 = v0;
+j1 = UINT64_C(451489);
+j0 = j0 + j1;
+p32 = read_at(j0, m, 1u);
+i0 = load8(p32 + 0);
+if (i0) { goto l3; }
 j0 = v0;
 j1 = UINT64_C(451472);
 j0 = j0 + j1;
-p42 = read_at(j0, m, 1u);
-i0 = load8(p42 + 0);
-if (i0) { goto l2; }
-j0 = v0;
-j1 = UINT64_C(451473);
-j0 = j0 + j1;
-p43 = read_at(j0, m, 1u);
-i0 = load8(p43 + 0);
-if (i0) { goto l2; }
-j0 = v0;
-j1 = UINT64_C(451456);
-j0 = j0 + j1;
-p44 = read_at(j0, m, 8u);
-j0 = load64(p44 + 0);
-v4 = j0;
+p33 = read_at(j0, m, 8u);
+j0 = load64(p33 + 0);
+v1 = j0;
 j1 = UINT64_C(18446744073709551615);
 i0 = (j0 == j1);
-if (i0) { goto l2; }
+if (i0) { goto l3; }
 j0 = v0;
-j1 = UINT64_C(451464);
+j1 = UINT64_C(451480);
 j0 = j0 + j1;
-p45 = read_at(j0 + UINT64_C(18446744073709502240), m, 49384u);
-j0 = load64(p45 + 49376);
-v9 = j0;
+p34 = read_at(j0 + UINT64_C(18446744073709502240), m, 49384u);
+j0 = load64(p34 + 49376);
+v4 = j0;
 j0 = UINT64_C(0);
-v10 = j0;
+v6 = j0;
 j0 = v5;
 j1 = UINT64_C(0);
-p46 = write_at(j0 + UINT64_C(784), m, 56u);
-store64(p46 + 48, j1);
+store64(p1 + 72, j1);
 j0 = v5;
 j1 = UINT64_C(0);
-store64(p46 + 40, j1);
+store64(p1 + 64, j1);
 j0 = v5;
 j1 = UINT64_C(0);
-store64(p46 + 32, j1);
+store64(p1 + 56, j1);
 j0 = v5;
 j1 = UINT64_C(0);
-store64(p46 + 24, j1);
+store64(p1 + 48, j1);
 j0 = v5;
 j1 = UINT64_C(0);
-store64(p46 + 16, j1);
+store64(p1 + 40, j1);
 j0 = v5;
 j1 = UINT64_C(0);
-store64(p46 + 8, j1);
+store64(p1 + 32, j1);
 j0 = v5;
 j1 = UINT64_C(0);
-store64(p46 + 0, j1);
+store64(p1 + 24, j1);
 j0 = v0;
-j1 = UINT64_C(402088);
+j1 = UINT64_C(402104);
 j0 = j0 + j1;
-i0 = load8(p45 + 0);
+i0 = load8(p34 + 0);
 i1 = UINT32_C(1);
 i0 = (i0 != i1);
 if (!i0) {
 j0 = v5;
-j1 = v16;
-j1 = load64(p45 + 48);
-p47 = write_at(j0 + UINT64_C(136), m, 48u);
-store64(p47 + 40, j1);
+j1 = v12;
+j1 = load64(p34 + 48);
+store64(p1 + 120, j1);
 j0 = v5;
-j1 = v16;
-j1 = load64(p45 + 40);
-store64(p47 + 32, j1);
+j1 = v12;
+j1 = load64(p34 + 40);
+store64(p1 + 112, j1);
 j0 = v5;
-j1 = v16;
-j1 = load64(p45 + 32);
-store64(p47 + 24, j1);
+j1 = v12;
+j1 = load64(p34 + 32);
+store64(p1 + 104, j1);
 j0 = v5;
-j1 = v16;
-j1 = load64(p45 + 24);
-store64(p47 + 16, j1);
+j1 = v12;
+j1 = load64(p34 + 24);
+store64(p1 + 96, j1);
 j0 = v5;
-j1 = v16;
-j1 = load64(p45 + 16);
-store64(p47 + 8, j1);
+j1 = v12;
+j1 = load64(p34 + 16);
+store64(p1 + 88, j1);
 j0 = v5;
-j1 = v16;
-j1 = load64(p45 + 8);
-store64(p47 + 0, j1);
+j1 = v12;
+j1 = load64(p34 + 8);
+store64(p1 + 80, j1);
 j0 = v5;
-j1 = UINT64_C(784);
+j1 = UINT64_C(24);
 j0 = j0 + j1;
-j1 = v19;
+j1 = v15;
 j2 = v0;
-j3 = v4;
-j4 = v9;
+j3 = v1;
+j4 = v4;
 j5 = v5;
-j6 = UINT64_C(136);
+j6 = UINT64_C(80);
 j5 = j5 + j6;
-j6 = v18;
+j6 = v14;
 fio_log_teller_Teller_tell_heard(m, j0, j1, j2, j3, j4, j5, j6);
 j0 = v0;
-j1 = UINT64_C(402144);
+j1 = UINT64_C(402160);
 j0 = j0 + j1;
 j1 = UINT64_C(1);
-p48 = write_at(j0 + UINT64_C(18446744073709551560), m, 120u);
-store64(p48 + 56, j1);
-j0 = v17;
+p35 = write_at(j0 + UINT64_C(18446744073709551560), m, 120u);
+store64(p35 + 56, j1);
+j0 = v13;
 j1 = UINT64_C(0);
-store64(p48 + 0, j1);
-j0 = v17;
+store64(p35 + 0, j1);
+j0 = v13;
 j1 = UINT64_C(0);
-store64(p48 + 8, j1);
-j0 = v17;
+store64(p35 + 8, j1);
+j0 = v13;
 j1 = UINT64_C(0);
-store64(p48 + 16, j1);
-j0 = v17;
+store64(p35 + 16, j1);
+j0 = v13;
 j1 = UINT64_C(0);
-store64(p48 + 24, j1);
-j0 = v17;
+store64(p35 + 24, j1);
+j0 = v13;
 j1 = UINT64_C(0);
-store64(p48 + 32, j1);
-j0 = v17;
+store64(p35 + 32, j1);
+j0 = v13;
 j1 = UINT64_C(0);
-store64(p48 + 40, j1);
-j0 = v17;
+store64(p35 + 40, j1);
+j0 = v13;
 j1 = UINT64_C(0);
-store64(p48 + 48, j1);
-j0 = v15;
+store64(p35 + 48, j1);
+j0 = v11;
 j1 = v5;
-j1 = load64(p46 + 0);
-store64(p48 + 64, j1);
-j0 = v15;
+j1 = load64(p1 + 24);
+store64(p35 + 64, j1);
+j0 = v11;
 j1 = v5;
-j1 = load64(p46 + 8);
-store64(p48 + 72, j1);
-j0 = v15;
+j1 = load64(p1 + 32);
+store64(p35 + 72, j1);
+j0 = v11;
 j1 = v5;
-j1 = load64(p46 + 16);
-store64(p48 + 80, j1);
-j0 = v15;
+j1 = load64(p1 + 40);
+store64(p35 + 80, j1);
+j0 = v11;
 j1 = v5;
-j1 = load64(p46 + 24);
-store64(p48 + 88, j1);
-j0 = v15;
+j1 = load64(p1 + 48);
+store64(p35 + 88, j1);
+j0 = v11;
 j1 = v5;
-j1 = load64(p46 + 32);
-store64(p48 + 96, j1);
-j0 = v15;
+j1 = load64(p1 + 56);
+store64(p35 + 96, j1);
+j0 = v11;
 j1 = v5;
-j1 = load64(p46 + 40);
-store64(p48 + 104, j1);
-j0 = v15;
+j1 = load64(p1 + 64);
+store64(p35 + 104, j1);
+j0 = v11;
 j1 = v5;
-j1 = load64(p46 + 48);
-store64(p48 + 112, j1);
+j1 = load64(p1 + 72);
+store64(p35 + 112, j1);
 }
 j0 = v2;
-j1 = v6;
+j1 = v9;
 j0 = j0 - j1;
-v20 = j0;
-j0 = v13;
-j1 = v6;
+v16 = j0;
+j0 = v8;
+j1 = v9;
 j0 = j0 + j1;
-v7 = j0;
+v17 = j0;
 j0 = v0;
 j1 = UINT64_C(65553);
 j0 = j0 + j1;
-p49 = read_at(j0 + UINT64_C(18446744073709551615), m, 2u);
-i0 = load8(p49 + 1);
-v8 = i0;
-l46:;
-j0 = v7;
-j1 = v10;
+p36 = read_at(j0 + UINT64_C(18446744073709551615), m, 2u);
+i0 = load8(p36 + 1);
+v7 = i0;
+l42:;
+j0 = v17;
+j1 = v6;
 j0 = j0 + j1;
-v11 = j0;
+v18 = j0;
 j0 = v0;
 j1 = UINT64_C(65552);
 j0 = j0 + j1;
-i0 = load8(p49 + 0);
+i0 = load8(p36 + 0);
 if (!i0) {
-j0 = v11;
-p50 = read_at(j0, m, 1u);
-i0 = load8(p50 + 0);
-v21 = i0;
-i0 = v8;
+j0 = v18;
+p37 = read_at(j0, m, 1u);
+i0 = load8(p37 + 0);
+v19 = i0;
+i0 = v7;
 i1 = UINT32_C(255);
 i0 = i0 & i1;
-if (i0) { goto l53; }
-i0 = v21;
+if (i0) { goto l49; }
+i0 = v19;
 i1 = UINT32_C(4294967264);
 i0 = i0 + i1;
 i1 = UINT32_C(255);
 i0 = i0 & i1;
 i1 = UINT32_C(95);
 i0 = (i0 >= i1);
-if (i0) { goto l49; }
+if (i0) { goto l45; }
 j0 = UINT64_C(0);
-v4 = j0;
-j0 = v20;
-j1 = v10;
-j0 = j0 - j1;
 v1 = j0;
+j0 = v16;
+j1 = v6;
+j0 = j0 - j1;
+v20 = j0;
 j1 = UINT64_C(8);
 i0 = (j0 < j1);
 if (!i0) {
-j0 = v1;
+j0 = v20;
 j1 = UINT64_C(18446744073709551608);
 j0 = j0 & j1;
-v22 = j0;
+v21 = j0;
 j0 = UINT64_C(0);
-v4 = j0;
-j0 = v1;
-v12 = j0;
-l56:;
-j0 = v11;
-j1 = v4;
+v1 = j0;
+j0 = v20;
+v22 = j0;
+l52:;
+j0 = v18;
+j1 = v1;
 j0 = j0 + j1;
-v9 = j0;
+v4 = j0;
 j1 = UINT64_C(5);
 j0 = j0 + j1;
-p51 = read_at(j0 + UINT64_C(18446744073709551611), m, 8u);
-i0 = load8(p51 + 5);
+p38 = read_at(j0 + UINT64_C(18446744073709551611), m, 8u);
+i0 = load8(p38 + 5);
 i1 = UINT32_C(4294967169);
 i0 = i0 + i1;
 i1 = UINT32_C(255);
 i0 = i0 & i1;
 i1 = UINT32_C(161);
 i0 = (i0 < i1);
-j1 = v9;
+j1 = v4;
 j2 = UINT64_C(4);
 j1 = j1 + j2;
-i1 = load8(p51 + 4);
+i1 = load8(p38 + 4);
 i2 = UINT32_C(4294967169);
 i1 = i1 + i2;
 i2 = UINT32_C(255);
@@ -148603,10 +147180,10 @@ i1 = i1 & i2;
 i2 = UINT32_C(161);
 i1 = (i1 < i2);
 i0 = i0 + i1;
-j1 = v9;
+j1 = v4;
 j2 = UINT64_C(6);
 j1 = j1 + j2;
-i1 = load8(p51 + 6);
+i1 = load8(p38 + 6);
 i2 = UINT32_C(4294967169);
 i1 = i1 + i2;
 i2 = UINT32_C(255);
@@ -148614,10 +147191,10 @@ i1 = i1 & i2;
 i2 = UINT32_C(161);
 i1 = (i1 < i2);
 i0 = i0 + i1;
-j1 = v9;
+j1 = v4;
 j2 = UINT64_C(7);
 j1 = j1 + j2;
-i1 = load8(p51 + 7);
+i1 = load8(p38 + 7);
 i2 = UINT32_C(4294967169);
 i1 = i1 + i2;
 i2 = UINT32_C(255);
@@ -148625,18 +147202,18 @@ i1 = i1 & i2;
 i2 = UINT32_C(161);
 i1 = (i1 < i2);
 i0 = i0 + i1;
-j1 = v9;
+j1 = v4;
 j2 = UINT64_C(1);
 j1 = j1 + j2;
-i1 = load8(p51 + 1);
+i1 = load8(p38 + 1);
 i2 = UINT32_C(4294967169);
 i1 = i1 + i2;
 i2 = UINT32_C(255);
 i1 = i1 & i2;
 i2 = UINT32_C(161);
 i1 = (i1 < i2);
-j2 = v9;
-i2 = load8(p51 + 0);
+j2 = v4;
+i2 = load8(p38 + 0);
 i3 = UINT32_C(4294967169);
 i2 = i2 + i3;
 i3 = UINT32_C(255);
@@ -148644,10 +147221,10 @@ i2 = i2 & i3;
 i3 = UINT32_C(161);
 i2 = (i2 < i3);
 i1 = i1 + i2;
-j2 = v9;
+j2 = v4;
 j3 = UINT64_C(2);
 j2 = j2 + j3;
-i2 = load8(p51 + 2);
+i2 = load8(p38 + 2);
 i3 = UINT32_C(4294967169);
 i2 = i2 + i3;
 i3 = UINT32_C(255);
@@ -148655,10 +147232,10 @@ i2 = i2 & i3;
 i3 = UINT32_C(161);
 i2 = (i2 < i3);
 i1 = i1 + i2;
-j2 = v9;
+j2 = v4;
 j3 = UINT64_C(3);
 j2 = j2 + j3;
-i2 = load8(p51 + 3);
+i2 = load8(p38 + 3);
 i3 = UINT32_C(4294967169);
 i2 = i2 + i3;
 i3 = UINT32_C(255);
@@ -148667,198 +147244,198 @@ i3 = UINT32_C(161);
 i2 = (i2 < i3);
 i1 = i1 + i2;
 i0 = i0 | i1;
-if (i0) { goto l55; }
-j0 = v4;
+if (i0) { goto l51; }
+j0 = v1;
 j1 = UINT64_C(8);
 j0 = j0 + j1;
-v4 = j0;
-j0 = v12;
+v1 = j0;
+j0 = v22;
 j1 = UINT64_C(18446744073709551608);
 j0 = j0 + j1;
-v12 = j0;
+v22 = j0;
 j1 = UINT64_C(7);
 i0 = (j0 > j1);
-if (i0) { goto l56; }
-j0 = v22;
-v4 = j0;
+if (i0) { goto l52; }
+j0 = v21;
+v1 = j0;
 }
-l55:;
-j0 = v4;
-j1 = v1;
+l51:;
+j0 = v1;
+j1 = v20;
 i0 = (j0 >= j1);
 if (!i0) {
-j0 = v7;
-j1 = v10;
-j2 = v4;
+j0 = v17;
+j1 = v6;
+j2 = v1;
 j1 = j1 + j2;
 j0 = j0 + j1;
-v9 = j0;
-l58:;
-j0 = v9;
-p52 = read_at(j0, m, 1u);
-i0 = load8(p52 + 0);
+v4 = j0;
+l54:;
+j0 = v4;
+p39 = read_at(j0, m, 1u);
+i0 = load8(p39 + 0);
 i1 = UINT32_C(4294967264);
 i0 = i0 + i1;
 i1 = UINT32_C(255);
 i0 = i0 & i1;
 i1 = UINT32_C(94);
 i0 = (i0 > i1);
-if (i0) { goto l57; }
-j0 = v9;
+if (i0) { goto l53; }
+j0 = v4;
 j1 = UINT64_C(1);
 j0 = j0 + j1;
-v9 = j0;
-j0 = v1;
-j1 = v4;
+v4 = j0;
+j0 = v20;
+j1 = v1;
 j2 = UINT64_C(1);
 j1 = j1 + j2;
-v4 = j1;
+v1 = j1;
 i0 = (j0 != j1);
-if (i0) { goto l58; }
-j0 = v1;
-v4 = j0;
+if (i0) { goto l54; }
+j0 = v20;
+v1 = j0;
 }
-l57:;
+l53:;
 j0 = v0;
 j1 = v0;
 j2 = UINT64_C(65536);
 j1 = j1 + j2;
-p53 = read_at(j1, m, 8u);
-j1 = load64(p53 + 0);
+p40 = read_at(j1, m, 8u);
+j1 = load64(p40 + 0);
 v23 = j1;
 j0 = j0 + j1;
 v24 = j0;
-j1 = v11;
+j1 = v18;
 j0 = j0 - j1;
-v12 = j0;
-j0 = v4;
+v22 = j0;
+j0 = v1;
 j1 = UINT64_C(65536);
 j2 = v23;
 j1 = j1 - j2;
-v9 = j1;
+v4 = j1;
 i0 = (j0 > j1);
-if (i0) { goto l50; }
-j0 = v12;
-j1 = v4;
+if (i0) { goto l46; }
+j0 = v22;
+j1 = v1;
 i0 = (j0 >= j1);
-if (i0) { goto l52; }
-j0 = v4;
+if (i0) { goto l48; }
+j0 = v1;
 j1 = UINT64_C(3);
 j0 = j0 & j1;
-v22 = j0;
+v21 = j0;
 j0 = UINT64_C(0);
-v12 = j0;
-j0 = v4;
+v22 = j0;
+j0 = v1;
 j1 = UINT64_C(4);
 i0 = (j0 < j1);
 if (!i0) {
-j0 = v4;
+j0 = v1;
 j1 = UINT64_C(18446744073709551612);
 j0 = j0 & j1;
 v25 = j0;
 j0 = UINT64_C(0);
-v12 = j0;
+v22 = j0;
 for (;;) {
 j0 = v24;
-j1 = v12;
+j1 = v22;
 j0 = j0 + j1;
-v9 = j0;
-j1 = v11;
-j2 = v12;
+v4 = j0;
+j1 = v18;
+j2 = v22;
 j1 = j1 + j2;
-v1 = j1;
-p54 = read_at(j1, m, 4u);
-i1 = load8(p54 + 0);
-p55 = write_at(j0, m, 4u);
-store8(p55 + 0, i1);
-j0 = v9;
+v20 = j1;
+p41 = read_at(j1, m, 4u);
+i1 = load8(p41 + 0);
+p42 = write_at(j0, m, 4u);
+store8(p42 + 0, i1);
+j0 = v4;
 j1 = UINT64_C(1);
 j0 = j0 + j1;
-j1 = v1;
+j1 = v20;
 j2 = UINT64_C(1);
 j1 = j1 + j2;
-i1 = load8(p54 + 1);
-store8(p55 + 1, i1);
-j0 = v9;
+i1 = load8(p41 + 1);
+store8(p42 + 1, i1);
+j0 = v4;
 j1 = UINT64_C(2);
 j0 = j0 + j1;
-j1 = v1;
+j1 = v20;
 j2 = UINT64_C(2);
 j1 = j1 + j2;
-i1 = load8(p54 + 2);
-store8(p55 + 2, i1);
-j0 = v9;
+i1 = load8(p41 + 2);
+store8(p42 + 2, i1);
+j0 = v4;
 j1 = UINT64_C(3);
 j0 = j0 + j1;
-j1 = v1;
+j1 = v20;
 j2 = UINT64_C(3);
 j1 = j1 + j2;
-i1 = load8(p54 + 3);
-store8(p55 + 3, i1);
+i1 = load8(p41 + 3);
+store8(p42 + 3, i1);
 j0 = v25;
-j1 = v12;
+j1 = v22;
 j2 = UINT64_C(4);
 j1 = j1 + j2;
-v12 = j1;
+v22 = j1;
 i0 = (j0 != j1);
 if (!i0) break;
 }
-j0 = v22;
+j0 = v21;
 i0 = (j0 == 0);
-if (i0) { goto l51; }
+if (i0) { goto l47; }
 }
 j0 = v0;
-j1 = v12;
+j1 = v22;
 j2 = v23;
 j1 = j1 + j2;
 j0 = j0 + j1;
-v9 = j0;
-j0 = v7;
-j1 = v10;
-j2 = v12;
+v4 = j0;
+j0 = v17;
+j1 = v6;
+j2 = v22;
 j1 = j1 + j2;
 j0 = j0 + j1;
-v11 = j0;
-l61:;
-j0 = v9;
-j1 = v11;
-p56 = read_at(j1, m, 1u);
-i1 = load8(p56 + 0);
-p57 = write_at(j0, m, 1u);
-store8(p57 + 0, i1);
-j0 = v9;
+v18 = j0;
+l57:;
+j0 = v4;
+j1 = v18;
+p43 = read_at(j1, m, 1u);
+i1 = load8(p43 + 0);
+p44 = write_at(j0, m, 1u);
+store8(p44 + 0, i1);
+j0 = v4;
 j1 = UINT64_C(1);
 j0 = j0 + j1;
-v9 = j0;
-j0 = v11;
+v4 = j0;
+j0 = v18;
 j1 = UINT64_C(1);
 j0 = j0 + j1;
-v11 = j0;
-j0 = v22;
+v18 = j0;
+j0 = v21;
 j1 = UINT64_C(18446744073709551615);
 j0 = j0 + j1;
-v22 = j0;
+v21 = j0;
 j1 = UINT64_C(0);
 i0 = (j0 != j1);
-if (i0) { goto l61; }
-goto l51;
+if (i0) { goto l57; }
+goto l47;
 }
-j0 = v11;
-p58 = read_at(j0, m, 1u);
-i0 = load8(p58 + 0);
-v21 = i0;
-i0 = v8;
+j0 = v18;
+p45 = read_at(j0, m, 1u);
+i0 = load8(p45 + 0);
+v19 = i0;
+i0 = v7;
 i1 = UINT32_C(255);
 i0 = i0 & i1;
 i0 = (i0 == 0);
-if (i0) { goto l49; }
-l53:;
+if (i0) { goto l45; }
+l49:;
 j0 = v0;
 j1 = UINT64_C(65536);
 j0 = j0 + j1;
-p59 = read_at(j0, m, 8u);
-j0 = load64(p59 + 0);
-v4 = j0;
+p46 = read_at(j0, m, 8u);
+j0 = load64(p46 + 0);
+v1 = j0;
 i0 = (j0 == 0);
 v26 = i0;
 if (!i0) {
@@ -148866,277 +147443,292 @@ i0 = v26;
 if (!i0) {
 j0 = v0;
 i1 = UINT32_C(0);
-j2 = v4;
+j2 = v1;
 fill(m, j0, i1, j2);
 }
 j0 = v0;
 j1 = UINT64_C(65536);
 j0 = j0 + j1;
 j1 = UINT64_C(0);
-p60 = write_at(j0, m, 8u);
-store64(p60 + 0, j1);
+p47 = write_at(j0, m, 8u);
+store64(p47 + 0, j1);
 }
 j0 = v0;
 j1 = UINT64_C(65552);
 j0 = j0 + j1;
 i1 = UINT32_C(0);
-p61 = write_at(j0 + UINT64_C(18446744073709551608), m, 10u);
-store16(p61 + 8, i1);
+p48 = write_at(j0 + UINT64_C(18446744073709551608), m, 10u);
+store16(p48 + 8, i1);
 j0 = v0;
 j1 = UINT64_C(65544);
 j0 = j0 + j1;
 i1 = UINT32_C(0);
-store8(p61 + 0, i1);
-i0 = v8;
+store8(p48 + 0, i1);
+i0 = v7;
 i1 = UINT32_C(255);
 i0 = i0 & i1;
 i1 = UINT32_C(2);
 i0 = (i0 != i1);
-if (i0) { goto l49; }
-i0 = v21;
+if (i0) { goto l45; }
+i0 = v19;
 i1 = UINT32_C(255);
 i0 = i0 & i1;
 i1 = UINT32_C(10);
 i0 = (i0 != i1);
-if (i0) { goto l49; }
-j0 = v10;
+if (i0) { goto l45; }
+j0 = v6;
 j1 = UINT64_C(1);
 j0 = j0 + j1;
-v10 = j0;
-goto l47;
-l52:;
-j0 = v4;
+v6 = j0;
+goto l43;
+l48:;
+j0 = v1;
 i0 = (j0 == 0);
 if (!i0) {
 j0 = v24;
-j1 = v11;
-j2 = v4;
+j1 = v18;
+j2 = v1;
 copy(m, j0, j1, j2);
 }
-l51:;
+l47:;
 j0 = v0;
 j1 = UINT64_C(65536);
 j0 = j0 + j1;
 j1 = v23;
-j2 = v4;
+j2 = v1;
 j1 = j1 + j2;
-p62 = write_at(j0, m, 8u);
-store64(p62 + 0, j1);
-goto l48;
-l50:;
-j0 = v12;
-j1 = v9;
+p49 = write_at(j0, m, 8u);
+store64(p49 + 0, j1);
+goto l44;
+l46:;
+j0 = v22;
+j1 = v4;
 i0 = (j0 >= j1);
 if (!i0) {
-j0 = v9;
+j0 = v4;
 j1 = UINT64_C(3);
 j0 = j0 & j1;
-v22 = j0;
+v21 = j0;
 j0 = UINT64_C(0);
-v12 = j0;
+v22 = j0;
 j0 = v23;
 j1 = UINT64_C(18446744073709486083);
 j0 = j0 + j1;
 j1 = UINT64_C(3);
 i0 = (j0 < j1);
 if (!i0) {
-j0 = v9;
+j0 = v4;
 j1 = UINT64_C(18446744073709551612);
 j0 = j0 & j1;
 v25 = j0;
 j0 = UINT64_C(0);
-v12 = j0;
+v22 = j0;
 for (;;) {
 j0 = v24;
-j1 = v12;
+j1 = v22;
 j0 = j0 + j1;
-v9 = j0;
-j1 = v11;
-j2 = v12;
+v4 = j0;
+j1 = v18;
+j2 = v22;
 j1 = j1 + j2;
-v1 = j1;
-p63 = read_at(j1, m, 4u);
-i1 = load8(p63 + 0);
-p64 = write_at(j0, m, 4u);
-store8(p64 + 0, i1);
-j0 = v9;
+v20 = j1;
+p50 = read_at(j1, m, 4u);
+i1 = load8(p50 + 0);
+p51 = write_at(j0, m, 4u);
+store8(p51 + 0, i1);
+j0 = v4;
 j1 = UINT64_C(1);
 j0 = j0 + j1;
-j1 = v1;
+j1 = v20;
 j2 = UINT64_C(1);
 j1 = j1 + j2;
-i1 = load8(p63 + 1);
-store8(p64 + 1, i1);
-j0 = v9;
+i1 = load8(p50 + 1);
+store8(p51 + 1, i1);
+j0 = v4;
 j1 = UINT64_C(2);
 j0 = j0 + j1;
-j1 = v1;
+j1 = v20;
 j2 = UINT64_C(2);
 j1 = j1 + j2;
-i1 = load8(p63 + 2);
-store8(p64 + 2, i1);
-j0 = v9;
+i1 = load8(p50 + 2);
+store8(p51 + 2, i1);
+j0 = v4;
 j1 = UINT64_C(3);
 j0 = j0 + j1;
-j1 = v1;
+j1 = v20;
 j2 = UINT64_C(3);
 j1 = j1 + j2;
-i1 = load8(p63 + 3);
-store8(p64 + 3, i1);
+i1 = load8(p50 + 3);
+store8(p51 + 3, i1);
 j0 = v25;
-j1 = v12;
+j1 = v22;
 j2 = UINT64_C(4);
 j1 = j1 + j2;
-v12 = j1;
+v22 = j1;
 i0 = (j0 != j1);
 if (!i0) break;
 }
-j0 = v22;
+j0 = v21;
 i0 = (j0 == 0);
-if (i0) { goto l64; }
+if (i0) { goto l60; }
 }
 j0 = v0;
-j1 = v12;
+j1 = v22;
 j2 = v23;
 j1 = j1 + j2;
 j0 = j0 + j1;
-v9 = j0;
-j0 = v7;
-j1 = v10;
-j2 = v12;
+v4 = j0;
+j0 = v17;
+j1 = v6;
+j2 = v22;
 j1 = j1 + j2;
 j0 = j0 + j1;
-v11 = j0;
-l68:;
-j0 = v9;
-j1 = v11;
-p65 = read_at(j1, m, 1u);
-i1 = load8(p65 + 0);
-p66 = write_at(j0, m, 1u);
-store8(p66 + 0, i1);
-j0 = v9;
+v18 = j0;
+l64:;
+j0 = v4;
+j1 = v18;
+p52 = read_at(j1, m, 1u);
+i1 = load8(p52 + 0);
+p53 = write_at(j0, m, 1u);
+store8(p53 + 0, i1);
+j0 = v4;
 j1 = UINT64_C(1);
 j0 = j0 + j1;
-v9 = j0;
-j0 = v11;
+v4 = j0;
+j0 = v18;
 j1 = UINT64_C(1);
 j0 = j0 + j1;
-v11 = j0;
-j0 = v22;
+v18 = j0;
+j0 = v21;
 j1 = UINT64_C(18446744073709551615);
 j0 = j0 + j1;
-v22 = j0;
+v21 = j0;
 j1 = UINT64_C(0);
 i0 = (j0 != j1);
-if (i0) { goto l68; }
-goto l64;
+if (i0) { goto l64; }
+goto l60;
 }
-j0 = v9;
+j0 = v4;
 i0 = (j0 == 0);
 if (!i0) {
 j0 = v24;
-j1 = v11;
-j2 = v9;
+j1 = v18;
+j2 = v4;
 copy(m, j0, j1, j2);
 }
-l64:;
+l60:;
 j0 = v0;
 j1 = UINT64_C(65544);
 j0 = j0 + j1;
 i1 = UINT32_C(1);
-p67 = write_at(j0 + UINT64_C(18446744073709551608), m, 9u);
-store8(p67 + 8, i1);
+p54 = write_at(j0 + UINT64_C(18446744073709551608), m, 9u);
+store8(p54 + 8, i1);
 j0 = v0;
 j1 = UINT64_C(65536);
 j0 = j0 + j1;
 j1 = UINT64_C(65536);
-store64(p67 + 0, j1);
-goto l48;
-l49:;
-j0 = v0;
-i1 = v21;
-fio_log_lines_LineMaker_add_to_line(m, j0, i1);
-j0 = UINT64_C(1);
-v4 = j0;
-l48:;
-j0 = v4;
-j1 = v10;
-j0 = j0 + j1;
-v10 = j0;
-j0 = v0;
-j1 = UINT64_C(65553);
-j0 = j0 + j1;
-i0 = load8(p49 + 1);
-if (i0) { goto l45; }
-l47:;
-i0 = UINT32_C(0);
-v8 = i0;
-j0 = v10;
-j1 = v20;
-i0 = (j0 < j1);
-if (i0) { goto l46; }
+store64(p54 + 0, j1);
 goto l44;
 l45:;
 j0 = v0;
-j1 = UINT64_C(451456);
-j0 = j0 + j1;
-v4 = j0;
-j1 = v4;
-j1 = load64(p44 + 0);
-j2 = UINT64_C(1);
-j1 = j1 + j2;
-v4 = j1;
-p68 = write_at(j0, m, 17u);
-store64(p68 + 0, j1);
-j0 = v5;
-i1 = UINT32_C(0);
-store8(p41 + 16, i1);
-j0 = v5;
-j1 = v0;
-j2 = UINT64_C(451464);
-j1 = j1 + j2;
-j1 = load64(p45 + 49376);
-store64(p41 + 8, j1);
-j0 = v5;
-j1 = v4;
-store64(p41 + 0, j1);
-j0 = v0;
-j1 = UINT64_C(451472);
-j0 = j0 + j1;
-j1 = v0;
-j2 = UINT64_C(451392);
-j1 = j1 + j2;
-i1 = load8(p45 + 49304);
-j2 = v0;
-j3 = v5;
-j4 = UINT64_C(648);
-j3 = j3 + j4;
-j4 = v19;
-j5 = v18;
-j6 = v14;
-i1 = fio_log_reader_read_line(m, i1, j2, j3, j4, j5, j6);
-store8(p68 + 16, i1);
+i1 = v19;
+fio_log_lines_LineMaker_add_to_line(m, j0, i1);
+j0 = UINT64_C(1);
+v1 = j0;
 l44:;
-j0 = v10;
-i0 = (j0 == 0);
-if (i0) { goto l2; }
-j0 = v0;
-j1 = v3;
-fio_c_log_verdicts_fill(m, j0, j1);
-j0 = v10;
+j0 = v1;
 j1 = v6;
 j0 = j0 + j1;
 v6 = j0;
-j1 = v2;
+j0 = v0;
+j1 = UINT64_C(65553);
+j0 = j0 + j1;
+i0 = load8(p36 + 1);
+if (i0) { goto l41; }
+l43:;
+i0 = UINT32_C(0);
+v7 = i0;
+j0 = v6;
+j1 = v16;
 i0 = (j0 < j1);
 if (i0) { goto l42; }
-l2:;
+goto l40;
+l41:;
+j0 = v0;
+j1 = UINT64_C(451472);
+j0 = j0 + j1;
+v1 = j0;
+j1 = v1;
+j1 = load64(p33 + 0);
+j2 = UINT64_C(1);
+j1 = j1 + j2;
+v1 = j1;
+p55 = write_at(j0, m, 17u);
+store64(p55 + 0, j1);
 j0 = v5;
-j1 = UINT64_C(1296);
+i1 = UINT32_C(0);
+store8(p1 + 16, i1);
+j0 = v5;
+j1 = v0;
+j2 = UINT64_C(451480);
+j1 = j1 + j2;
+j1 = load64(p34 + 49376);
+store64(p1 + 8, j1);
+j0 = v5;
+j1 = v1;
+store64(p1 + 0, j1);
+j0 = v0;
+j1 = UINT64_C(451488);
+j0 = j0 + j1;
+j1 = v0;
+j2 = UINT64_C(451408);
+j1 = j1 + j2;
+i1 = load8(p34 + 49304);
+j2 = v0;
+j3 = v5;
+j4 = v15;
+j5 = v14;
+j6 = v10;
+i1 = fio_log_reader_read_line(m, i1, j2, j3, j4, j5, j6);
+store8(p55 + 16, i1);
+l40:;
+j0 = v6;
+i0 = (j0 == 0);
+if (i0) { goto l3; }
+j0 = v0;
+j1 = v3;
+fio_c_log_verdicts_fill(m, j0, j1);
+j0 = v6;
+j1 = v9;
+j0 = j0 + j1;
+v9 = j0;
+j1 = v2;
+i0 = (j0 < j1);
+if (i0) { goto l38; }
+goto l3;
+}
+j0 = UINT64_C(0);
+v9 = j0;
+j0 = v3;
+j1 = UINT64_C(0);
+p56 = write_at(j0, m, 16u);
+store64(p56 + 8, j1);
+j0 = v3;
+j1 = UINT64_C(0);
+store64(p56 + 0, j1);
+j0 = v0;
+j1 = v3;
+fio_c_log_verdicts_fill(m, j0, j1);
+l3:;
+j0 = v5;
+j1 = UINT64_C(128);
 j0 = j0 + j1;
 m->g0 = j0;
-j0 = v6;
+j0 = v9;
 r = j0;
+return r;
+}
+fio2070_trap();
 return r;
 }
 static void enter_log_forms(struct machine *m, uint64_t v0, uint64_t v1)
@@ -149182,6 +147774,7 @@ uint8_t *p5;
 uint8_t *p6;
 uint8_t *p7;
 uint8_t *p8;
+uint8_t *p9;
 j0 = m->g0;
 j1 = UINT64_C(240);
 j0 = j0 - j1;
@@ -149198,60 +147791,68 @@ p2 = write_at(j0, m, 8u);
 store64(p2 + 0, j1);
 i0 = UINT32_C(0);
 v4 = i0;
-j0 = UINT64_C(304442);
-v5 = j0;
 j0 = UINT64_C(0);
-v6 = j0;
+v5 = j0;
 j0 = UINT64_C(18446744073709549184);
+v6 = j0;
+j0 = UINT64_C(304458);
 v7 = j0;
 j0 = UINT64_C(0);
 v8 = j0;
 l5:;
 j0 = v0;
-j1 = UINT64_C(316208);
+j1 = UINT64_C(303672);
 j0 = j0 + j1;
-p3 = read_at(j0, m, 8u);
-j0 = load64(p3 + 0);
+p3 = read_at(j0, m, 1u);
+i0 = load8(p3 + 0);
+i1 = UINT32_C(1);
+i0 = (i0 != i1);
+if (i0) { goto l3; }
+j0 = v8;
+j1 = v0;
+j2 = UINT64_C(316224);
+j1 = j1 + j2;
+p4 = read_at(j1, m, 8u);
+j1 = load64(p4 + 0);
+i0 = (j0 >= j1);
+if (i0) { goto l3; }
+j0 = v0;
+j1 = UINT64_C(319560);
+j0 = j0 + j1;
+p5 = read_at(j0, m, 8u);
+j0 = load64(p5 + 0);
 j1 = v8;
 i0 = (j0 <= j1);
 if (i0) { goto l3; }
-j0 = v0;
-j1 = UINT64_C(319544);
-j0 = j0 + j1;
-p4 = read_at(j0, m, 8u);
-j0 = load64(p4 + 0);
-j1 = v8;
-i0 = (j0 <= j1);
-if (i0) { goto l3; }
-j0 = v0;
-j1 = v6;
-j0 = j0 + j1;
-v2 = j0;
-j1 = UINT64_C(316344);
-j0 = j0 + j1;
-p5 = read_at(j0 + UINT64_C(18446744073709551608), m, 32u);
-j0 = load64(p5 + 8);
-v9 = j0;
-j0 = v2;
-j1 = UINT64_C(316352);
-j0 = j0 + j1;
-j0 = load64(p5 + 16);
-v10 = j0;
-j0 = v2;
-j1 = UINT64_C(316360);
-j0 = j0 + j1;
-j0 = load64(p5 + 24);
-v11 = j0;
 j0 = v0;
 j1 = v5;
 j0 = j0 + j1;
-p6 = read_at(j0, m, 1u);
-i0 = load8(p6 + 0);
+v2 = j0;
+j1 = UINT64_C(316360);
+j0 = j0 + j1;
+p6 = read_at(j0 + UINT64_C(18446744073709551608), m, 32u);
+j0 = load64(p6 + 8);
+v9 = j0;
+j0 = v2;
+j1 = UINT64_C(316368);
+j0 = j0 + j1;
+j0 = load64(p6 + 16);
+v10 = j0;
+j0 = v2;
+j1 = UINT64_C(316376);
+j0 = j0 + j1;
+j0 = load64(p6 + 24);
+v11 = j0;
+j0 = v0;
+j1 = v7;
+j0 = j0 + j1;
+p7 = read_at(j0, m, 1u);
+i0 = load8(p7 + 0);
 v12 = i0;
 j0 = v2;
-j1 = UINT64_C(316336);
+j1 = UINT64_C(316352);
 j0 = j0 + j1;
-j0 = load64(p5 + 0);
+j0 = load64(p6 + 0);
 v13 = j0;
 j0 = v3;
 j1 = UINT64_C(120);
@@ -149272,7 +147873,7 @@ j0 = v3;
 j1 = UINT64_C(120);
 j0 = j0 + j1;
 j1 = v2;
-j2 = UINT64_C(316216);
+j2 = UINT64_C(316232);
 j1 = j1 + j2;
 j2 = v13;
 copy(m, j0, j1, j2);
@@ -149284,56 +147885,56 @@ j1 = j1 + j2;
 j2 = UINT64_C(120);
 copy(m, j0, j1, j2);
 j0 = v1;
-j1 = v7;
+j1 = v6;
 j0 = j0 + j1;
 v2 = j0;
 j1 = UINT64_C(2466);
 j0 = j0 + j1;
 i1 = UINT32_C(0);
-p7 = write_at(j0 + UINT64_C(18446744073709551590), m, 32u);
-store32(p7 + 26, i1);
+p8 = write_at(j0 + UINT64_C(18446744073709551590), m, 32u);
+store32(p8 + 26, i1);
 j0 = v2;
 j1 = UINT64_C(2465);
 j0 = j0 + j1;
 j1 = v13;
-store8(p7 + 25, j1);
+store8(p8 + 25, j1);
 j0 = v2;
 j1 = UINT64_C(2464);
 j0 = j0 + j1;
 i1 = v12;
-store8(p7 + 24, i1);
+store8(p8 + 24, i1);
 j0 = v2;
 j1 = UINT64_C(2456);
 j0 = j0 + j1;
 j1 = v11;
-store64(p7 + 16, j1);
+store64(p8 + 16, j1);
 j0 = v2;
 j1 = UINT64_C(2448);
 j0 = j0 + j1;
 j1 = v10;
-store64(p7 + 8, j1);
+store64(p8 + 8, j1);
 j0 = v2;
 j1 = UINT64_C(2440);
 j0 = j0 + j1;
 j1 = v9;
-store64(p7 + 0, j1);
+store64(p8 + 0, j1);
 j0 = v2;
 j1 = UINT64_C(2470);
 j0 = j0 + j1;
 i1 = UINT32_C(0);
-store16(p7 + 30, i1);
+store16(p8 + 30, i1);
 j0 = v2;
 j1 = UINT64_C(2472);
 j0 = j0 + j1;
 j1 = v3;
 j2 = UINT64_C(120);
 copy(m, j0, j1, j2);
-j0 = v6;
-j1 = UINT64_C(208);
-j0 = j0 + j1;
-v6 = j0;
-j0 = v5;
+j0 = v7;
 j1 = UINT64_C(784);
+j0 = j0 + j1;
+v7 = j0;
+j0 = v5;
+j1 = UINT64_C(208);
 j0 = j0 + j1;
 v5 = j0;
 i0 = v4;
@@ -149344,10 +147945,10 @@ j0 = v8;
 j1 = UINT64_C(1);
 j0 = j0 + j1;
 v8 = j0;
-j0 = v7;
+j0 = v6;
 j1 = UINT64_C(152);
 j0 = j0 + j1;
-v7 = j0;
+v6 = j0;
 i0 = (j0 == 0);
 i0 = (i0 == 0);
 if (i0) { goto l5; }
@@ -149357,8 +147958,8 @@ fio2070_trap();
 l3:;
 j0 = v1;
 i1 = v4;
-p8 = write_at(j0, m, 4u);
-store32(p8 + 0, i1);
+p9 = write_at(j0, m, 4u);
+store32(p9 + 0, i1);
 l2:;
 j0 = v3;
 j1 = UINT64_C(240);
@@ -149371,14 +147972,14 @@ enum { STACK_fio2070_log_counts_lose = 0 };
 enum { STACK_fio2070_log_counts_start = 0 };
 #define TABLE_fio2070_log_counts_start NO_TABLE
 #define call_fio2070_log_counts_start enter_log_counts_start
-enum { STACK_fio2070_log_end = 381056 };
-#define TABLE_fio2070_log_end table_65536
+enum { STACK_fio2070_log_end = 392864 };
+#define TABLE_fio2070_log_end table_1048576
 #define call_fio2070_log_end enter_log_end
-enum { STACK_fio2070_log_like = 141904 };
-#define TABLE_fio2070_log_like table_65536
+enum { STACK_fio2070_log_like = 158640 };
+#define TABLE_fio2070_log_like table_1048576
 #define call_fio2070_log_like enter_log_like
-enum { STACK_fio2070_log_start = 2496640 };
-#define TABLE_fio2070_log_start table_65536
+enum { STACK_fio2070_log_start = 0 };
+#define TABLE_fio2070_log_start NO_TABLE
 #define call_fio2070_log_start enter_log_start
 enum { STACK_fio2070_log_signs_start = 0 };
 #define TABLE_fio2070_log_signs_start NO_TABLE
@@ -149402,22 +148003,22 @@ enum { STACK_fio2070_log_judge_start = 2080 };
 #define TABLE_fio2070_log_judge_start NO_TABLE
 #define call_fio2070_log_judge_start enter_log_judge_start
 enum { STACK_fio2070_log_signs_batch = 3184 };
-#define TABLE_fio2070_log_signs_batch table_65536
+#define TABLE_fio2070_log_signs_batch NO_TABLE
 #define call_fio2070_log_signs_batch enter_log_signs_batch
 enum { STACK_fio2070_log_counts_batch = 16 };
-#define TABLE_fio2070_log_counts_batch table_65536
+#define TABLE_fio2070_log_counts_batch NO_TABLE
 #define call_fio2070_log_counts_batch enter_log_counts_batch
 enum { STACK_fio2070_log_counts_frame = 16 };
 #define TABLE_fio2070_log_counts_frame NO_TABLE
 #define call_fio2070_log_counts_frame enter_log_counts_frame
 enum { STACK_fio2070_log_judge_batch = 4016 };
-#define TABLE_fio2070_log_judge_batch table_65536
+#define TABLE_fio2070_log_judge_batch NO_TABLE
 #define call_fio2070_log_judge_batch enter_log_judge_batch
 enum { STACK_fio2070_log_judge_frame = 3328 };
 #define TABLE_fio2070_log_judge_frame NO_TABLE
 #define call_fio2070_log_judge_frame enter_log_judge_frame
-enum { STACK_fio2070_log_read = 382224 };
-#define TABLE_fio2070_log_read table_65536
+enum { STACK_fio2070_log_read = 380496 };
+#define TABLE_fio2070_log_read table_1048576
 #define call_fio2070_log_read enter_log_read
 enum { STACK_fio2070_log_forms = 240 };
 #define TABLE_fio2070_log_forms NO_TABLE

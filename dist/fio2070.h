@@ -3,7 +3,7 @@
  *
  * The field I/O transition link of the Model 2070: the header of fio2070.c.
  *
- * Sources: ada8fde267b9e313b9a70846bc2a25408157d72ac51e989a33c14160f7b1d30b (SHA-256; packaging/release-files --sources)
+ * Sources: 9ff35275ff4ead02b0a2de3e543dfe134a5e328b49f97c592725ebaa06d09062 (SHA-256; packaging/release-files --sources)
  * Kit: rattle-kit-13f logic dac8208d650f15bf
  * Proof: logic=proved functions=226 target=wasm64-unknown-unknown sum=dac8208d650f15bf native=nat,char,string
  * Made by `make release-files`: do not edit.
