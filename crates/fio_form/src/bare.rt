@@ -1,8 +1,7 @@
 //! Lines that are nothing but octets, and what is behind octets.
 ghost use Rattle.std.specs.Prelude.{◌≡◌, ◌≢◌, ◌≤◌, ◌<◌, ◌-◌, ◌∷◌, Some, None, IfSome, IfNone, true, false, [], drop, take, length, slice_index};
 ghost use Rattle.fio_form.specs.Forms.{is_quotation};
-ghost use Rattle.fio_form.specs.Bare.{after_marks, bare_begin, bare_digits, bare_octets, bare_text, begins_quote, is_closing, is_cut_short, last_marks, octets_closed, past_blank, past_end, past_letter};
-ghost use Rattle.fio_form.specs.Octets.{rest_in, run_in};
+ghost use Rattle.fio_form.specs.Bare.{after_marks, bare_begin, bare_digits, bare_octets, bare_text, begins_quote, is_closing, is_cut_short, last_marks, octets_closed, past_blank, past_end, past_letter, tail_in};
 ghost use Rattle.fio_form.specs.Reading.{swapped};
 ghost use Rattle.fio_form.specs.declared.form.TheConstants.{CYCLE_STEPS};
 ghost use Rattle.fio_form.specs.declared.octets.TheConstants.{OCTETS};
@@ -112,8 +111,7 @@ fn closed_in(
     ensures places { IfSome result (λ end. (start ≤ end) × (end ≤ length line.now)) }
     ensures some { IfSome result (λ end. octets_closed digits cycle.now (drop start line.now) ≢ []) }
     ensures octets { IfSome result (λ end. octets.new.items ≡ take OCTETS (octets_closed digits cycle.now (drop start line.now))) }
-    ensures rest { IfSome result (λ end. length (run_in digits cycle.now (drop start line.now)) ≤ OCTETS
-        → drop end line.now ≡ rest_in digits cycle.now (drop start line.now)) }
+    ensures rest { IfSome result (λ end. drop end line.now ≡ tail_in digits cycle.now (drop start line.now)) }
     ensures none { IfNone result (octets_closed digits cycle.now (drop start line.now) ≡ []) }
 {
     let end = start + octets_in(digits, cycle, &line[start..], octets);
@@ -156,9 +154,9 @@ fn bare_in(
     ensures places { IfSome result (λ found. (found.front ≤ found.start) × (found.start ≤ found.end) × (found.end ≤ length line.now)) }
     ensures some { IfSome result (λ found. octets_closed digits form.now.cycle.items (drop start line.now) ≢ []) }
     ensures octets { IfSome result (λ found. octets.new.items ≡ swapped form.now.is_swapped (take OCTETS (octets_closed digits form.now.cycle.items (drop start line.now)))) }
+    ensures front { IfSome result (λ found. found.front ≡ 0) }
     ensures start { IfSome result (λ found. found.start ≡ start) }
-    ensures rest { IfSome result (λ found. length (run_in digits form.now.cycle.items (drop start line.now)) ≤ OCTETS
-        → drop found.end line.now ≡ rest_in digits form.now.cycle.items (drop start line.now)) }
+    ensures rest { IfSome result (λ found. drop found.end line.now ≡ tail_in digits form.now.cycle.items (drop start line.now)) }
     ensures none { IfNone result (octets_closed digits form.now.cycle.items (drop start line.now) ≡ []) }
     ensures empty { IfNone result (octets.new.items ≡ []) }
 {
@@ -184,8 +182,8 @@ pub fn find_bare(form: &LineForm, line: &[u8], octets: &mut Octets) -> Option<Fo
     ensures some { IfSome result (λ found. bare_octets form.now line.now ≢ []) }
     ensures octets { IfSome result (λ found. octets.new.items ≡ swapped form.now.is_swapped (take OCTETS (bare_octets form.now line.now))) }
     ensures start { IfSome result (λ found. drop found.start line.now ≡ bare_begin form.now line.now) }
-    ensures rest { IfSome result (λ found. length (run_in (bare_digits form.now line.now) form.now.cycle.items (drop found.start line.now)) ≤ OCTETS
-        → drop found.end line.now ≡ rest_in (bare_digits form.now line.now) form.now.cycle.items (drop found.start line.now)) }
+    ensures rest { IfSome result (λ found. drop found.end line.now ≡ tail_in (bare_digits form.now line.now) form.now.cycle.items (drop found.start line.now)) }
+    ensures front { IfSome result (λ found. found.front ≡ 0) }
     ensures none { IfNone result (bare_octets form.now line.now ≡ []) }
     ensures empty { IfNone result (octets.new.items ≡ []) }
 {

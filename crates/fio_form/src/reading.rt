@@ -1,7 +1,8 @@
 //! The octets that a form has in a line.
 ghost use Rattle.std.specs.Prelude.{◌≡◌, ◌≢◌, ◌+◌, ◌≤◌, ◌<◌, Some, None, [], true, false, IfSome, IfNone, drop, take, length};
 ghost use Rattle.fio_form.specs.Fronts.{after_front};
-ghost use Rattle.fio_form.specs.Octets.{rest_in, run_in};
+ghost use Rattle.fio_form.specs.Bare.{tail_in};
+ghost use Rattle.fio_form.specs.Octets.{run_in};
 ghost use Rattle.fio_form.specs.Reading.{digits_at, front_text, in_words, octets_found, octets_here, swapped};
 ghost use Rattle.fio_form.specs.declared.octets.TheConstants.{OCTETS};
 
@@ -70,8 +71,7 @@ pub fn swap(octets: &mut Octets)
 /// too many.
 pub(crate) fn octets_in(digits: Digits, cycle: &[Step], text: &[u8], octets: &mut Octets) -> usize
     ensures octets { octets.new.items ≡ take OCTETS (run_in digits cycle.now text.now) }
-    ensures rest { length (run_in digits cycle.now text.now) ≤ OCTETS → drop result text.now ≡ rest_in digits cycle.now text.now }
-    ensures many { OCTETS < length (run_in digits cycle.now text.now) → result ≡ 0 }
+    ensures rest { drop result text.now ≡ tail_in digits cycle.now text.now }
     ensures within { result ≤ length text.now }
 {
     match run_in(digits, cycle, text, octets) {
@@ -89,8 +89,8 @@ fn find_at(form: &LineForm, line: &[u8], front: usize, octets: &mut Octets) -> O
     ensures start { IfSome result (λ found. after_front form.now.values.items form.now.front.items (drop front line.now) ≡ Some (drop found.start line.now)) }
     ensures octets { IfSome result (λ found. octets.new.items ≡ swapped form.now.is_swapped (take OCTETS (octets_here form.now line.now (drop front line.now)))) }
     ensures some { IfSome result (λ found. octets_here form.now line.now (drop front line.now) ≢ []) }
-    ensures end { IfSome result (λ found. length (octets_here form.now line.now (drop front line.now)) ≤ OCTETS
-        → drop found.end line.now ≡ rest_in (digits_at form.now.digits line.now (drop found.start line.now)) form.now.cycle.items (drop found.start line.now)) }
+    ensures end { IfSome result (λ found. drop found.end line.now
+        ≡ tail_in (digits_at form.now.digits line.now (drop found.start line.now)) form.now.cycle.items (drop found.start line.now)) }
     ensures none { IfNone result (octets_here form.now line.now (drop front line.now) ≡ []) }
 {
     let Some(count) = front_in(form, &line[front..]) else {
@@ -120,8 +120,8 @@ fn find_here(form: &LineForm, line: &[u8], octets: &mut Octets) -> Option<Found>
     ensures start { IfSome result (λ found. after_front form.now.values.items form.now.front.items (drop found.front line.now) ≡ Some (drop found.start line.now)) }
     ensures octets { IfSome result (λ found. octets.new.items ≡ swapped form.now.is_swapped (take OCTETS (octets_here form.now line.now (drop found.front line.now)))) }
     ensures some { IfSome result (λ found. octets_here form.now line.now (drop found.front line.now) ≢ []) }
-    ensures end { IfSome result (λ found. length (octets_here form.now line.now (drop found.front line.now)) ≤ OCTETS
-        → drop found.end line.now ≡ rest_in (digits_at form.now.digits line.now (drop found.start line.now)) form.now.cycle.items (drop found.start line.now)) }
+    ensures end { IfSome result (λ found. drop found.end line.now
+        ≡ tail_in (digits_at form.now.digits line.now (drop found.start line.now)) form.now.cycle.items (drop found.start line.now)) }
     ensures none { IfNone result (octets_found form.now line.now ≡ []) }
     ensures empty { IfNone result (octets.new.items ≡ []) }
 {
@@ -150,8 +150,8 @@ pub fn find(form: &LineForm, line: &[u8], octets: &mut Octets) -> Option<Found>
     ensures start { IfSome result (λ found. after_front form.now.values.items form.now.front.items (drop found.front line.now) ≡ Some (drop found.start line.now)) }
     ensures octets { IfSome result (λ found. octets.new.items ≡ swapped form.now.is_swapped (take OCTETS (octets_found form.now line.now))) }
     ensures some { IfSome result (λ found. octets_found form.now line.now ≢ []) }
-    ensures end { IfSome result (λ found. length (octets_found form.now line.now) ≤ OCTETS
-        → drop found.end line.now ≡ rest_in (digits_at form.now.digits line.now (drop found.start line.now)) form.now.cycle.items (drop found.start line.now)) }
+    ensures end { IfSome result (λ found. drop found.end line.now
+        ≡ tail_in (digits_at form.now.digits line.now (drop found.start line.now)) form.now.cycle.items (drop found.start line.now)) }
     ensures none { IfNone result (octets_found form.now line.now ≡ []) }
     ensures empty { IfNone result (octets.new.items ≡ []) }
 {

@@ -1,4 +1,4 @@
-use Rattle.std.proofs.Common.{◌≤◌, ◌∙◌, List, ℕ, ap, arith, drop, length}
+use Rattle.std.proofs.Common.{◌∙◌, List, ℕ, ap, drop}
 use Rattle.std.specs.Prelude.{take}
 use Rattle.fio_form.specs.Reading.{octets_found, swapped}
 use Rattle.fio_form.specs.declared.octets.TheConstants.{OCTETS}
@@ -14,8 +14,3 @@ returns-in-Some-clause-octets c =
 pub returns-in-Some-clause-some : goal.returns-in-Some-clause-some
 returns-in-Some-clause-some c =
     λ none. c.in-Some.ensures.some (found_at c.args.form.now c.args.line.now (drop c.in-Some.found.front c.args.line.now) c.in-Some.ensures.front ∙ none)
-
-pub returns-in-Some-clause-end : goal.returns-in-Some-clause-end
-returns-in-Some-clause-end c =
-    let same = found_at c.args.form.now c.args.line.now (drop c.in-Some.found.front c.args.line.now) c.in-Some.ensures.front in
-    λ (few : length (octets_found c.args.form.now c.args.line.now) ≤ OCTETS). c.in-Some.ensures.end (omega (arith, few, ap length same))
