@@ -1,5 +1,6 @@
 pub mod Values
 pub mod Stepping
+pub mod Written
 pub mod Finding
 pub mod Frames
 pub mod Wholing

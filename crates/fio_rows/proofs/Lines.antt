@@ -2,6 +2,7 @@
 use Rattle.std.proofs.Common.{◌≡◌, ◌<◌, true, false, ◌≤◌, ℕ, ◌+◌, List, [], ◌∷◌, length, drop, get_or, refl, add-one, ◌∙◌, drop-cons, Option}
 use Rattle.fio_form.specs.declared.form.LineForm.{LineForm}
 use Rattle.fio_rows.specs.Lines.{begun_line, first_line_in, has, has_any}
+use Rattle.fio_rows.specs.Places.{first_places, no_places, form_places}
 use Rattle.fio_rows.specs.Rows.{Rows, say_none}
 use Rattle.fio_rows.specs.declared.said.Said.{Said}
 use Rattle.fio_rows.specs.declared.saying.Open.{Open}
@@ -75,3 +76,21 @@ any_here_index at forms form line l e h = rw (forms_from at forms form l e, h) r
 pub any_none_index : (at : ℕ) (forms : List LineForm) (line : List ℕ) → length forms ≤ at → has_any (drop at forms) line ≡ false
 unfolding has_any
 any_none_index at forms line l = let e : drop at forms ≡ [] = drop_of_length-le forms l in rw e refl
+
+-- the places of a line are not those of a form that does not have it
+pub places_past_index : (at : ℕ) (forms : List LineForm) (form : LineForm) (line : List ℕ) →
+    at < length forms → form ≡ get_or forms at form → has form line ≡ false →
+    first_places (drop at forms) line ≡ first_places (drop (at + 1) forms) line
+unfolding first_places
+places_past_index at forms form line l e h = rw (forms_from at forms form l e, h) refl
+
+-- they are those of a form that does
+pub places_here_index : (at : ℕ) (forms : List LineForm) (form : LineForm) (line : List ℕ) →
+    at < length forms → form ≡ get_or forms at form → has form line ≡ true → first_places (drop at forms) line ≡ form_places form line
+unfolding first_places
+places_here_index at forms form line l e h = rw (forms_from at forms form l e, h) refl
+
+-- none is left
+pub places_none_index : (at : ℕ) (forms : List LineForm) (line : List ℕ) → length forms ≤ at → first_places (drop at forms) line ≡ no_places line
+unfolding first_places
+places_none_index at forms line l = let e : drop at forms ≡ [] = drop_of_length-le forms l in rw e refl

@@ -1,5 +1,5 @@
 -- Lines that no form has, and what is open above a line.
-use Rattle.std.proofs.Common.{ℕ, ◌≡◌, ◌+◌, Bool, true, false, not, ◌&&◌, List, [], ◌∷◌, ◌++◌, length, Option, Some, None, refl, subst, sym, ◌∙◌, inl, inr, arith}
+use Rattle.std.proofs.Common.{ℕ, ◌≡◌, ◌+◌, Bool, true, false, not, ◌&&◌, List, [], ◌∷◌, ◌++◌, length, Option, Some, None, refl, ap, subst, sym, ◌∙◌, inl, inr, arith}
 use Rattle.std.specs.Prelude.{if◌then◌else◌, nat_le, nat_lt, unwrap_or, ◌||◌}
 use Rattle.std.specs.List.{AllByRecursion}
 use Rattle.std.proofs.lemmas.Bool.Decides.{nat_tests}
@@ -10,8 +10,9 @@ use Rattle.fio_form.specs.declared.reading.Whole.TheVariants as wholes
 use Rattle.fio_rows.specs.GoingOn.{is_full, may_go_on}
 use Rattle.fio_rows.specs.Laws.{IsAdded, IsSame, Left, is_other, row_by, spare}
 use Rattle.fio_form.specs.Messages.{size_of}
+use Rattle.fio_form.specs.Reading.{octets_between}
 use Rattle.fio_rows.specs.Lines.{has_any, is_certain, says_message, is_known, unless_known, added, begun_line, begun_with, ends_above, first, first_line_in, line_goes_on, goes_on_with, has, has_bare_rows, is_message_begun, is_message_broken, is_broken_by, is_ended, is_message_open, is_own_message, is_row, is_stray, is_stream, is_sure, is_message_whole, next_line_in, next_row, offset_after, offset_of, open_form, open_in, read_in, row_of, said_unless, unless_own}
-use Rattle.fio_rows.specs.Rows.{Rows, said_by_whole, say, say_none, whole_before}
+use Rattle.fio_rows.specs.Rows.{Rows, octets_with, open_after, said_by_whole, say, say_none, say_whole, whole_before}
 use Rattle.fio_rows.specs.declared.said.Said.{Said}
 use Rattle.fio_rows.specs.declared.said.Said.TheVariants.{Frame, Part, Idle, Stray, Damaged, Other}
 use Rattle.fio_rows.specs.declared.said.Said.TheVariants as said
@@ -246,33 +247,101 @@ open_said forms line state o e =
 
 -- ---- A line is read as if the log began there
 
-begun_with_same : (form : LineForm) (offset : ℕ) (tail octets : List ℕ) (a b : Rows) →
-    IsSame (begun_with form offset tail (record a { octets = octets })) (begun_with form offset tail (record b { octets = octets }))
+-- lines that say no message, and end none
+silent_same : (a b : Rows) → a.said ≡ b.said → a.pending ≡ b.pending → a.octets ≡ b.octets → a.form ≡ b.form → a.next ≡ b.next →
+    says_message a.said ≡ false → is_message_whole a.pending ≡ false → IsSame a b
+silent_same a b s p e f n m w = record {
+  said = s;
+  pending = p;
+  octets = e;
+  form = λ h. f;
+  next = λ h. n;
+  message = λ h. absurd (no (says_message a.said) m h);
+  open_message = λ h. absurd (no (is_message_whole a.pending) w h);
+}
+
+-- the same is said by a whole, whatever was said above
+by_whole : (form : LineForm) (row : ℕ) (tail : List ℕ) (a b : Rows) (whole : Whole) → a.octets ≡ b.octets → a.form ≡ b.form → a.next ≡ b.next →
+    IsSame (say_whole form row tail a whole) (say_whole form row tail b whole)
+by_whole form row tail a b (wholes.Message start end) e f n = record {
+  said = refl;
+  pending = refl;
+  octets = e;
+  form = λ s. f;
+  next = λ s. n;
+  message = λ s. ap (λ (octets : List ℕ). octets_between start end (octets_with form octets)) e;
+  open_message = λ s. ap (λ (octets : List ℕ). octets_between start end (octets_with form octets)) e;
+}
+by_whole form row tail a b (wholes.Any start end) e f n = record {
+  said = refl;
+  pending = refl;
+  octets = e;
+  form = λ s. f;
+  next = λ s. n;
+  message = λ s. ap (λ (octets : List ℕ). octets_between start end (octets_with form octets)) e;
+  open_message = λ s. ap (λ (octets : List ℕ). octets_between start end (octets_with form octets)) e;
+}
+by_whole form row tail a b wholes.Lacking e f n =
+    elim (may_go_on form row tail) as (λ c. IsSame
+    (record a { said = if c then Part else Damaged; pending = open_after (if c then Part else Damaged) wholes.Lacking; message = a.message })
+    (record b { said = if c then Part else Damaged; pending = open_after (if c then Part else Damaged) wholes.Lacking; message = b.message }))
+    [ true ↦ silent_same _ _ refl refl e f n refl refl | false ↦ silent_same _ _ refl refl e f n refl refl ]
+by_whole form row tail a b wholes.Idle e f n =
+    elim (not form.is_framed && may_go_on form row tail) as (λ c. IsSame
+    (record a { said = if c then Part else Idle; pending = open_after (if c then Part else Idle) wholes.Idle; message = a.message })
+    (record b { said = if c then Part else Idle; pending = open_after (if c then Part else Idle) wholes.Idle; message = b.message }))
+    [ true ↦ silent_same _ _ refl refl e f n refl refl | false ↦ silent_same _ _ refl refl e f n refl refl ]
+by_whole form row tail a b wholes.Damaged e f n = silent_same _ _ refl refl e f n refl refl
+
+say_same : (form : LineForm) (row : ℕ) (tail : List ℕ) (a b : Rows) → a.octets ≡ b.octets → a.form ≡ b.form → a.next ≡ b.next →
+    IsSame (say form row tail a) (say form row tail b)
 unfolding say
-begun_with_same form offset tail octets a b =
+say_same form row tail a b e f n =
+    let w : whole_before form a.octets tail ≡ whole_before form b.octets tail = ap (λ (octets : List ℕ). whole_before form octets tail) e in
+    subst (λ (whole : Whole). IsSame (say_whole form row tail a (whole_before form a.octets tail)) (say_whole form row tail b whole)) w
+    (by_whole form row tail a b (whole_before form a.octets tail) e f n)
+
+begun_with_same : (form : LineForm) (offset at : ℕ) (next : Option ℕ) (tail octets : List ℕ) (a b : Rows) →
+    IsSame (begun_with form offset tail (record a { form = at; next = next; octets = octets }))
+    (begun_with form offset tail (record b { form = at; next = next; octets = octets }))
+begun_with_same form offset at next tail octets a b =
     elim (is_stream form.rows) as (λ c. IsSame
-    (if c then say_none (if nat_le OCTETS (length octets) then Damaged else said.Stream) (record a { octets = octets })
-    else (if is_stray form.rows offset then say_none Stray (record a { octets = octets }) else say form (length octets) tail (record a { octets = octets })))
-    (if c then say_none (if nat_le OCTETS (length octets) then Damaged else said.Stream) (record b { octets = octets })
-    else (if is_stray form.rows offset then say_none Stray (record b { octets = octets }) else say form (length octets) tail (record b { octets = octets })))) [
-      | true ↦ record { said = refl; pending = refl; octets = refl }
+    (if c then say_none (if nat_le OCTETS (length octets) then Damaged else said.Stream) (record a { form = at; next = next; octets = octets })
+    else (if is_stray form.rows offset then say_none Stray (record a { form = at; next = next; octets = octets })
+    else say form (length octets) tail (record a { form = at; next = next; octets = octets })))
+    (if c then say_none (if nat_le OCTETS (length octets) then Damaged else said.Stream) (record b { form = at; next = next; octets = octets })
+    else (if is_stray form.rows offset then say_none Stray (record b { form = at; next = next; octets = octets })
+    else say form (length octets) tail (record b { form = at; next = next; octets = octets })))) [
+      | true ↦ elim (nat_le OCTETS (length octets)) as (λ c. IsSame
+          (say_none (if c then Damaged else said.Stream) (record a { form = at; next = next; octets = octets }))
+          (say_none (if c then Damaged else said.Stream) (record b { form = at; next = next; octets = octets })))
+          [ true ↦ silent_same _ _ refl refl refl refl refl refl refl | false ↦ silent_same _ _ refl refl refl refl refl refl refl ]
       | false ↦ elim (is_stray form.rows offset) as (λ c. IsSame
-          (if c then say_none Stray (record a { octets = octets }) else say form (length octets) tail (record a { octets = octets }))
-          (if c then say_none Stray (record b { octets = octets }) else say form (length octets) tail (record b { octets = octets })))
-          [ true ↦ record { said = refl; pending = refl; octets = refl } | false ↦ record { said = refl; pending = refl; octets = refl } ]
+          (if c then say_none Stray (record a { form = at; next = next; octets = octets })
+          else say form (length octets) tail (record a { form = at; next = next; octets = octets }))
+          (if c then say_none Stray (record b { form = at; next = next; octets = octets })
+          else say form (length octets) tail (record b { form = at; next = next; octets = octets })))
+          [ true ↦ silent_same _ _ refl refl refl refl refl refl refl | false ↦ say_same form (length octets) tail _ _ refl refl refl ]
     ]
 
 begun_same : (at : ℕ) (form : LineForm) (line tail : List ℕ) (a b : Rows) → IsSame (begun_line at form line tail a) (begun_line at form line tail b)
 unfolding begun_line
 begun_same at form line tail a b =
-    begun_with_same form (unwrap_or (offset_of form line) 0) tail (row_of form line)
-    (record a { form = at; next = offset_after (Some (unwrap_or (offset_of form line) 0)) (length (row_of form line)) })
-    (record b { form = at; next = offset_after (Some (unwrap_or (offset_of form line) 0)) (length (row_of form line)) })
+    begun_with_same form (unwrap_or (offset_of form line) 0) at (offset_after (Some (unwrap_or (offset_of form line) 0)) (length (row_of form line)))
+    tail (row_of form line) a b
 
 first_in_same : (at : ℕ) (forms : List LineForm) (line tail : List ℕ) (a b : Rows) → a.octets ≡ b.octets →
     IsSame (first_line_in at forms line tail a) (first_line_in at forms line tail b)
 unfolding first_line_in
-first_in_same at [] line tail a b e = record { said = refl; pending = refl; octets = e }
+first_in_same at [] line tail a b e = record {
+  said = refl;
+  pending = refl;
+  octets = e;
+  form = λ s. absurd (no true s refl);
+  next = λ s. absurd (no true s refl);
+  message = λ s. absurd (no false refl s);
+  open_message = λ s. absurd (no false refl s);
+}
 first_in_same at (form ∷ forms) line tail a b e =
     elim (has form line) as (λ c. IsSame
     (if c then begun_line at form line tail a else first_line_in (at + 1) forms line tail a)

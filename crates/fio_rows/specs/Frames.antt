@@ -1,5 +1,5 @@
 -- How a stream of frames is divided, between flags.
-use Rattle.std.specs.Prelude.{ℕ, ◌≡◌, ◌<◌, ◌≤◌, ◌+◌, ◌==◌, nat_le, Bool, true, if◌then◌else◌, List, length, take, drop, position, Option, Some, None, is_some, zero, suc}
+use Rattle.std.specs.Prelude.{ℕ, ◌≡◌, ◌<◌, ◌≤◌, ◌+◌, ◌==◌, nat_le, Bool, true, if◌then◌else◌, List, [], length, take, drop, position, Option, Some, None, is_some, zero, suc}
 use Rattle.fio_form.specs.Messages.{is_message}
 use Rattle.fio_form.specs.Wholes.{framed_in, kept_of}
 use Rattle.fio_rows.specs.declared.dividing.Next.{Next}
@@ -61,3 +61,10 @@ DividesFrame (Message count) before message after =
 DividesFrame (Broken count) before message after = Takes count before after
 DividesFrame (Idle count) before message after = Takes count before after
 DividesFrame Wait before message after = after ≡ before
+
+-- the command above the octets after a division: none is known, but if nothing was divided off
+abbrev pub command_after_frame : Next → List ℕ → List ℕ
+command_after_frame (Message count) command = []
+command_after_frame (Broken count) command = []
+command_after_frame (Idle count) command = []
+command_after_frame Wait command = command

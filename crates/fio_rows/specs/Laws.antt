@@ -42,8 +42,13 @@ IsAdded octets row state = (state.octets ≡ octets ++ row) ⊎ (state.said ≡ 
 abbrev pub Left : Bool → Bool → ℕ → ℕ → Type 0
 Left ended broken count most = (ended ≡ true) ⊎ ((broken ≡ true) ⊎ (count ≤ most))
 
--- two lines say the same, and leave the same open, of the same octets
+-- Two lines say the same, and leave the same open, of the same octets; by the same form, before the same offset, unless it is
+-- another line; and the same message, if there is one.
 pub record IsSame (a b : Rows) : Type 0 where
   pub said : a.said ≡ b.said
   pub pending : a.pending ≡ b.pending
   pub octets : a.octets ≡ b.octets
+  pub form : is_other a.said ≡ false → a.form ≡ b.form
+  pub next : is_other a.said ≡ false → a.next ≡ b.next
+  pub message : says_message a.said ≡ true → a.message ≡ b.message
+  pub open_message : is_message_whole a.pending ≡ true → a.message ≡ b.message

@@ -1,5 +1,5 @@
 -- What a logger writes of a message in rows, and what is read of it.
-use Rattle.std.specs.Prelude.{ℕ, ◌≡◌, ◌<◌, ◌⊎◌, ◌++◌, true, false, List, [], ◌∷◌, length, Option, Some, unwrap_or}
+use Rattle.std.specs.Prelude.{ℕ, ◌≡◌, ◌<◌, ◌⊎◌, ◌++◌, true, false, List, [], ◌∷◌, length, Option, Some, slice_get, unwrap_or}
 use Rattle.std.specs.List.{AllByRecursion}
 use Rattle.fio_form.specs.Bare.{is_cut_short}
 use Rattle.fio_form.specs.Reading.{LineSaid, octets_between, octets_by}
@@ -77,9 +77,11 @@ pub record IsReadInRows (message : List ℕ) (state : Rows) : Type 0 where
 abbrev pub AreOctetsOf : LineForm → List ℕ → List ℕ → List ℕ → Type 0
 AreOctetsOf form line above octets = (octets ≡ row_of form line) ⊎ (octets ≡ above ++ next_row form line)
 
--- the message that is known after a line is in the octets of the line, or in these and those that were open above it
-pub record IsInRows (line above : List ℕ) (state : Rows) : Type 0 where
+-- the message that is known after a line is in the octets that the form of it, one of some forms, has in the line, or in these
+-- and those that were open above it
+pub record IsInRows (forms : List LineForm) (line above : List ℕ) (state : Rows) : Type 0 where
   pub form : LineForm
+  pub of : slice_get forms state.form ≡ Some form
   pub start : ℕ
   pub end : ℕ
   pub said : state.message ≡ octets_between start end (octets_with form state.octets)

@@ -4,6 +4,7 @@ ghost use Rattle.std.specs.Bool.{OnTrue, OnFalse};
 ghost use Rattle.fio_form.specs.Wholes.{IsWithinOctets};
 ghost use Rattle.fio_form.specs.declared.octets.TheConstants.{OCTETS};
 ghost use Rattle.fio_rows.specs.Lines.{has, has_any, has_next, has_offset, has_bare_rows, is_certain, is_next, is_row, next_row, offset_in, row_of, text_from_front};
+ghost use Rattle.fio_rows.specs.Places.{AreAt, AreWithin, next_places, form_places};
 ghost use Rattle.fio_rows.specs.Rows.{message_by, octets_with, whole_before};
 
 use crate::rows::OPEN;
@@ -29,9 +30,10 @@ pub fn append(octets: &[u8], to: &mut Octets) -> bool
 }
 
 /// Reads the octets that a form has in a line that begins.
-#[tactic(auto, using(crate::proofs::Empty::is_empty_some, crate::proofs::Empty::is_empty_none), unfolding(crate::specs::Lines::has, crate::specs::Lines::row_of, crate::specs::Lines::text_from_front))]
+#[tactic(auto, using(crate::proofs::Empty::is_empty_some, crate::proofs::Empty::is_empty_none), unfolding(crate::specs::Lines::has, crate::specs::Lines::row_of, crate::specs::Lines::text_from_front, crate::specs::Places::form_places))]
 pub fn found_first(form: &LineForm, line: &[u8], octets: &mut Octets) -> Option<Found>
-    ensures places { IfSome result (λ found. (found.front ≤ found.start) × (found.start ≤ found.end) × (found.end ≤ length line.now)) }
+    ensures places { IfSome result (λ found. AreWithin found line.now) }
+    ensures at { IfSome result (λ found. AreAt found line.now (form_places form.now line.now)) }
     ensures front { IfSome result (λ found. drop found.front line.now ≡ text_from_front form.now line.now) }
     ensures octets { IfSome result (λ found. octets.new.items ≡ row_of form.now line.now) }
     ensures some { has form.now line.now ≡ is_some result }
@@ -41,9 +43,10 @@ pub fn found_first(form: &LineForm, line: &[u8], octets: &mut Octets) -> Option<
 }
 
 /// Reads the octets that a form may have in a line below its first row.
-#[tactic(auto, using(crate::proofs::Empty::is_empty_some, crate::proofs::Empty::is_empty_none), unfolding(crate::specs::Lines::has_next, crate::specs::Lines::next_row, crate::specs::Lines::text_from_front))]
+#[tactic(auto, using(crate::proofs::Empty::is_empty_some, crate::proofs::Empty::is_empty_none), unfolding(crate::specs::Lines::has_next, crate::specs::Lines::next_row, crate::specs::Lines::text_from_front, crate::specs::Places::form_places, crate::specs::Places::next_places))]
 fn found_below(form: &LineForm, line: &[u8], octets: &mut Octets) -> Option<Found>
-    ensures places { IfSome result (λ found. (found.front ≤ found.start) × (found.start ≤ found.end) × (found.end ≤ length line.now)) }
+    ensures places { IfSome result (λ found. AreWithin found line.now) }
+    ensures at { IfSome result (λ found. AreAt found line.now (next_places form.now line.now)) }
     ensures front { has_bare_rows form.now.rows ≡ false → IfSome result (λ found. drop found.front line.now ≡ text_from_front form.now line.now) }
     ensures octets { IfSome result (λ found. octets.new.items ≡ next_row form.now line.now) }
     ensures some { has_next form.now line.now ≡ is_some result }
@@ -93,7 +96,8 @@ pub fn is_at(form: &LineForm, next: Option<u64>, text: &[u8]) -> bool
 /// Reads the octets of a line that goes on with an open message, whose next row has this offset.
 #[tactic(auto, unfolding(crate::specs::Lines::is_row, crate::specs::Lines::offset_of))]
 pub fn row_in(form: &LineForm, next: Option<u64>, line: &[u8], octets: &mut Octets) -> Option<Found>
-    ensures places { IfSome result (λ found. (found.front ≤ found.start) × (found.start ≤ found.end) × (found.end ≤ length line.now)) }
+    ensures places { IfSome result (λ found. AreWithin found line.now) }
+    ensures at { IfSome result (λ found. AreAt found line.now (next_places form.now line.now)) }
     ensures octets { IfSome result (λ found. octets.new.items ≡ next_row form.now line.now) }
     ensures some { is_row form.now next line.now ≡ is_some result }
 {

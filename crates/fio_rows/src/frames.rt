@@ -1,6 +1,7 @@
 //! Streams of frames between flags.
 ghost use Rattle.std.specs.Prelude.{◌≡◌, ◌≢◌, ◌<◌, ◌+◌, take, length};
-ghost use Rattle.fio_rows.specs.Frames.{DividesFrame, flag_in, next_by_frame, given_up_all, held_by_frame, is_right, unframed, unframed_from_flag};
+ghost use Rattle.fio_rows.specs.Frames.{DividesFrame, command_after_frame, flag_in, next_by_frame, given_up_all, held_by_frame, is_right, unframed, unframed_from_flag};
+ghost use Rattle.fio_rows.specs.Streams.{command_above};
 
 use crate::dividing::{FULL, Next};
 use crate::stream::Stream;
@@ -30,6 +31,7 @@ impl Stream {
     fn give_up_all(&mut self) -> Next
         ensures exact { result ≡ given_up_all self.old.octets.items }
         ensures divided { DividesFrame result self.old.octets.items self.new.message.items self.new.octets.items }
+        ensures command { command_above self.new ≡ command_after_frame result (command_above self.old) }
     {
         let every = self.octets.len();
         if every < FULL {
@@ -44,6 +46,7 @@ impl Stream {
     pub fn unframe(&mut self) -> Next
         ensures exact { result ≡ unframed self.old.octets.items }
         ensures divided { DividesFrame result self.old.octets.items self.new.message.items self.new.octets.items }
+        ensures command { command_above self.new ≡ command_after_frame result (command_above self.old) }
         ensures less { result ≢ Next.Wait → length self.new.octets.items < length self.old.octets.items }
     {
         match flag_in(&self.octets) {
@@ -62,6 +65,7 @@ impl Stream {
         requires { 0 < length self.old.octets.items }
         ensures exact { result ≡ unframed_from_flag self.old.octets.items }
         ensures divided { DividesFrame result self.old.octets.items self.new.message.items self.new.octets.items }
+        ensures command { command_above self.new ≡ command_after_frame result (command_above self.old) }
     {
         let (_, behind) = self.octets.split_at(1);
         match flag_in(behind) {
@@ -80,6 +84,7 @@ impl Stream {
         requires within { count < length self.old.octets.items }
         ensures exact { result ≡ next_by_frame count (take (count + 1) self.old.octets.items) }
         ensures divided { DividesFrame result self.old.octets.items self.new.message.items self.new.octets.items }
+        ensures command { command_above self.new ≡ command_after_frame result (command_above self.old) }
     {
         let (frame, _) = self.octets.split_at(count + 1);
         let is_right = read_frame(frame, &mut self.message);

@@ -1,11 +1,14 @@
 //! Laws of the definitions that the contracts cite: each function states one in its contract and does nothing.
-ghost use Rattle.std.specs.Prelude.{◌≡◌, ◌∷◌, ◌++◌, ◌⊎◌, ℕ, List, Option, true, false, length, map};
+ghost use Rattle.std.specs.Prelude.{◌≡◌, ◌≤◌, ◌∷◌, ◌++◌, ◌⊎◌, ℕ, List, Option, true, false, length, map};
 ghost use Rattle.std.specs.List.{AllByRecursion};
-ghost use Rattle.fio_form.specs.Reading.{Frame, read_line};
+ghost use Rattle.fio_form.specs.Reading.{Frame, octets_found, read_line};
 ghost use Rattle.fio_form.specs.Writing.{AreLines, frame_or_other};
 ghost use Rattle.fio_form.specs.declared.form.LineForm.{LineForm};
+ghost use Rattle.fio_form.specs.declared.octets.TheConstants.{OCTETS};
+ghost use Rattle.fio_form.specs.declared.reading.Found.{Found};
 ghost use Rattle.fio_rows.specs.Laws.{IsAdded, SaysMessages, IsSame, Left, is_other, row_by, spare};
-ghost use Rattle.fio_rows.specs.Lines.{line_goes_on, has, is_message_broken, is_ended, is_message_open, open_form, read_in, says_message};
+ghost use Rattle.fio_rows.specs.Lines.{line_goes_on, has, has_next, is_message_broken, is_ended, is_message_open, next_octets, open_form, read_in, says_message};
+ghost use Rattle.fio_rows.specs.Places.{AreAt, AreWithin, AreWritten, digits_behind_front, next_digits, next_places, form_places, text_between};
 ghost use Rattle.fio_rows.specs.RowLaws.{AreAlone, IsAlone, IsInRows, IsReadInRows, IsWrittenInRows, Row, read_rows, said_in_turn};
 ghost use Rattle.fio_rows.specs.Rows.{Rows};
 
@@ -69,10 +72,21 @@ pub fn what_is_written_in_rows_is_read()
         → IsReadInRows message (read_rows (others ++ form ∷ below) (row ∷ rows) state) }
 {}
 
-/// Nothing else is read: the message that a line says is in the octets that a form has in it, or in these and those that were
-/// open above it, in their order.
+/// Nothing else is read: the message that a line says is in the octets that its form, one of the forms, has in it, or in these
+/// and those that were open above it, in their order.
 #[tactic(auto, using(crate::proofs::RowsRead::read_in_rows))]
 pub fn what_is_read_is_in_the_rows()
     ensures { (forms : List LineForm) (line tail : List ℕ) (state : Rows) → says_message (read_in forms line tail state).said ≡ true
-        → IsInRows line state.octets (read_in forms line tail state) }
+        → IsInRows forms line state.octets (read_in forms line tail state) }
+{}
+
+/// The octets that a form has in a line stand where they are found: the text from the first one up to the end of the last one,
+/// by itself, is these octets as the form writes them, and nothing else.
+pub fn octets_stand_where_they_are_found()
+    ensures first { (form : LineForm) (line : List ℕ) (found : Found) → has form line ≡ true → length (octets_found form line) ≤ OCTETS
+        → AreWithin found line → AreAt found line (form_places form line)
+        → AreWritten (digits_behind_front form line) form.cycle.items (octets_found form line) (text_between found line) }
+    ensures next { (form : LineForm) (line : List ℕ) (found : Found) → has_next form line ≡ true → length (next_octets form line) ≤ OCTETS
+        → AreWithin found line → AreAt found line (next_places form line)
+        → AreWritten (next_digits form line) form.cycle.items (next_octets form line) (text_between found line) }
 {}

@@ -1,6 +1,7 @@
 //! Reads lines by forms, with messages over several lines.
-ghost use Rattle.std.specs.Prelude.{◌≡◌, ◌≢◌, ◌≤◌, ◌<◌, ◌+◌, ◌&&◌, ◌||◌, not, true, false, drop, length, nat_lt, if◌then◌else◌};
+ghost use Rattle.std.specs.Prelude.{◌≡◌, ◌≢◌, ◌≤◌, ◌<◌, ◌+◌, ◌&&◌, ◌||◌, not, true, false, Some, length, nat_lt, if◌then◌else◌};
 ghost use Rattle.fio_rows.specs.Lines.{ends_above, first, line_goes_on, goes_on_with, has_offset, has_bare_rows, is_message_begun, is_message_broken, is_broken_by, is_ended, is_message_open, is_sure, is_message_whole, next_line_in, next_row, open_in, read_in};
+ghost use Rattle.fio_rows.specs.Places.{AreAt, AreWithin, first_places, next_places, places_by, places_in};
 ghost use Rattle.fio_rows.specs.Rows.{rows_of, state_of};
 
 use crate::finding::{found_first, is_certain, row_in};
@@ -11,11 +12,14 @@ use fio_form::{Found, LineForm};
 
 impl Reading {
     /// Reads a line as if the log began there.
-    #[tactic(auto, using(crate::proofs::Lines::first_past_index, crate::proofs::Lines::first_here_index, crate::proofs::Lines::first_none_index))]
+    #[tactic(auto, using(crate::proofs::Lines::first_past_index, crate::proofs::Lines::first_here_index, crate::proofs::Lines::first_none_index, crate::proofs::Lines::places_past_index, crate::proofs::Lines::places_here_index, crate::proofs::Lines::places_none_index))]
     fn read_first(&mut self, forms: &[LineForm], line: &[u8]) -> LineSaid
-        ensures exact { rows_of result.said self.new ≡ first forms.now line.now (drop result.found.end line.now) (state_of self.old) }
+        ensures exact { rows_of result.said self.new ≡ first forms.now line.now (first_places forms.now line.now).end (state_of self.old) }
         ensures form { result.said ≢ Said.Other → result.form < length forms.now }
-        ensures found { (result.found.front ≤ result.found.start) × (result.found.start ≤ result.found.end) × (result.found.end ≤ length line.now) }
+        ensures kept { result.said ≢ Said.Other → result.form ≡ (state_of self.new).form }
+        ensures other { result.said ≡ Said.Other → self.new.form ≡ self.old.form }
+        ensures found { AreWithin result.found line.now }
+        ensures at { AreAt result.found line.now (first_places forms.now line.now) }
         ensures flags { (result.is_broken ≡ false) × (result.is_ended ≡ false) × (result.goes_on ≡ false) }
         ensures ended { self.new.ended ≡ self.old.ended }
     {
@@ -51,14 +55,16 @@ impl Reading {
     }
 
     /// Reads a line by forms.
-    #[tactic(auto, unfolding(crate::specs::Lines::read_in, crate::specs::Lines::open_in, crate::specs::Lines::open_form, crate::specs::Lines::line_goes_on, crate::specs::Lines::is_ended, crate::specs::Lines::is_message_broken))]
+    #[tactic(auto, using(crate::proofs::ClosedLines::read_closed, crate::proofs::ClosedLines::goes_on_closed, crate::proofs::ClosedLines::ended_closed, crate::proofs::ClosedLines::broken_closed, crate::proofs::ClosedLines::places_closed), unfolding(crate::specs::Places::places_in, crate::specs::Lines::read_in, crate::specs::Lines::open_in, crate::specs::Lines::open_form, crate::specs::Lines::line_goes_on, crate::specs::Lines::is_ended, crate::specs::Lines::is_message_broken))]
     pub fn read(&mut self, forms: &[LineForm], line: &[u8]) -> LineSaid
-        ensures exact { rows_of result.said self.new ≡ read_in forms.now line.now (drop result.found.end line.now) (state_of self.old) }
+        ensures exact { rows_of result.said self.new ≡ read_in forms.now line.now (places_in forms.now line.now (state_of self.old)).end (state_of self.old) }
         ensures goes_on { result.goes_on ≡ line_goes_on forms.now line.now (state_of self.old) }
         ensures is_ended { result.is_ended ≡ is_ended forms.now line.now (state_of self.old) }
         ensures is_broken { result.is_broken ≡ is_message_broken forms.now line.now (state_of self.old) }
         ensures form { result.said ≢ Said.Other → result.form < length forms.now }
+        ensures kept { result.said ≢ Said.Other → result.form ≡ (state_of self.new).form }
         ensures found { (result.found.front ≤ result.found.start) × (result.found.start ≤ result.found.end) × (result.found.end ≤ length line.now) }
+        ensures at { AreAt result.found line.now (places_in forms.now line.now (state_of self.old)) }
         ensures ended { result.is_ended ≡ true → self.new.ended.items ≡ self.old.message.items }
     {
         if !is_open(self.pending) {
@@ -74,12 +80,14 @@ impl Reading {
     #[tactic(auto, unfolding(crate::specs::Lines::open_in))]
     fn read_open(&mut self, form: &LineForm, forms: &[LineForm], line: &[u8]) -> LineSaid
         requires { self.old.form < length forms.now }
-        ensures exact { rows_of result.said self.new ≡ open_in (Some form.now) forms.now line.now (drop result.found.end line.now) (state_of self.old) }
+        ensures exact { rows_of result.said self.new ≡ open_in (Some form.now) forms.now line.now (places_by (goes_on_with (Some form.now) line.now (state_of self.old)) (Some form.now) forms.now line.now).end (state_of self.old) }
         ensures goes_on { result.goes_on ≡ goes_on_with (Some form.now) line.now (state_of self.old) }
         ensures is_ended { result.is_ended ≡ ends_above (Some form.now) line.now (state_of self.old) }
         ensures is_broken { result.is_broken ≡ is_broken_by (Some form.now) line.now (state_of self.old) }
         ensures form { result.said ≢ Said.Other → result.form < length forms.now }
-        ensures found { (result.found.front ≤ result.found.start) × (result.found.start ≤ result.found.end) × (result.found.end ≤ length line.now) }
+        ensures kept { result.said ≢ Said.Other → result.form ≡ (state_of self.new).form }
+        ensures found { AreWithin result.found line.now }
+        ensures at { AreAt result.found line.now (places_by (goes_on_with (Some form.now) line.now (state_of self.old)) (Some form.now) forms.now line.now) }
         ensures ended { result.is_ended ≡ true → self.new.ended.items ≡ self.old.message.items }
     {
         match row_in(form, self.next, line, &mut self.part) {
@@ -101,14 +109,17 @@ impl Reading {
         found: Found,
     ) -> LineSaid
         requires form { self.old.form < length forms.now }
-        requires found { (found.front ≤ found.start) × (found.start ≤ found.end) × (found.end ≤ length line.now) }
+        requires found { AreWithin found line.now }
+        requires at { AreAt found line.now (next_places form.now line.now) }
         requires row { self.old.part.items ≡ next_row form.now line.now }
-        ensures exact { rows_of result.said self.new ≡ next_line_in form.now forms.now line.now (drop result.found.end line.now) (state_of self.old) }
+        ensures exact { rows_of result.said self.new ≡ next_line_in form.now forms.now line.now (places_by (is_sure form.now (state_of self.old).pending || has_bare_rows form.now.rows) (Some form.now) forms.now line.now).end (state_of self.old) }
         ensures goes_on { result.goes_on ≡ is_sure form.now (state_of self.old).pending || has_bare_rows form.now.rows }
         ensures is_ended { result.is_ended ≡ false }
         ensures is_broken { result.is_broken ≡ not (is_sure form.now (state_of self.old).pending || has_bare_rows form.now.rows) }
         ensures form { result.said ≢ Said.Other → result.form < length forms.now }
-        ensures found { (result.found.front ≤ result.found.start) × (result.found.start ≤ result.found.end) × (result.found.end ≤ length line.now) }
+        ensures kept { result.said ≢ Said.Other → result.form ≡ (state_of self.new).form }
+        ensures found { AreWithin result.found line.now }
+        ensures at { AreAt result.found line.now (places_by (is_sure form.now (state_of self.old).pending || has_bare_rows form.now.rows) (Some form.now) forms.now line.now) }
         ensures ended { result.is_ended ≡ true → self.new.ended.items ≡ self.old.message.items }
     {
         let at = self.form;
@@ -144,12 +155,14 @@ impl Reading {
 
     /// Reads a line that does not go on with the open message, of whose octets so many are no part of it.
     fn read_after(&mut self, spare: usize, forms: &[LineForm], line: &[u8]) -> LineSaid
-        ensures exact { rows_of result.said self.new ≡ first forms.now line.now (drop result.found.end line.now) (state_of self.old) }
+        ensures exact { rows_of result.said self.new ≡ first forms.now line.now (first_places forms.now line.now).end (state_of self.old) }
         ensures goes_on { result.goes_on ≡ false }
         ensures is_ended { result.is_ended ≡ is_message_whole (state_of self.old).pending }
         ensures is_broken { result.is_broken ≡ is_message_begun (state_of self.old).pending && nat_lt spare (length self.old.octets.items) }
         ensures form { result.said ≢ Said.Other → result.form < length forms.now }
-        ensures found { (result.found.front ≤ result.found.start) × (result.found.start ≤ result.found.end) × (result.found.end ≤ length line.now) }
+        ensures kept { result.said ≢ Said.Other → result.form ≡ (state_of self.new).form }
+        ensures found { AreWithin result.found line.now }
+        ensures at { AreAt result.found line.now (first_places forms.now line.now) }
         ensures ended { result.is_ended ≡ true → self.new.ended.items ≡ self.old.message.items }
     {
         let is_broken = is_begun(self.pending) && self.octets.len() > spare;

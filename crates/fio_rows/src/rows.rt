@@ -1,5 +1,5 @@
 //! Reads lines by forms, with messages over several lines: what is known, and what the octets of rows do to it.
-ghost use Rattle.std.specs.Prelude.{ℕ, List, ◌≡◌, ◌<◌, not, true, false, length, if◌then◌else◌};
+ghost use Rattle.std.specs.Prelude.{ℕ, List, ◌≡◌, ◌≢◌, ◌<◌, not, true, false, length, if◌then◌else◌};
 ghost use Rattle.fio_rows.specs.Lines.{added, begun_line, begun_with, line_goes_on, is_message_begun, is_message_broken, is_ended, is_message_open, is_message_whole, row_of, text_from_front, unless_known};
 ghost use Rattle.fio_rows.specs.Rows.{rows_of, say, say_none, state_of, whole_before};
 
@@ -66,7 +66,9 @@ impl Reading {
 
     /// Forgets the open message.
     pub fn close(&mut self)
-        ensures { is_message_open (state_of self.new).pending ≡ false }
+        ensures closed { is_message_open (state_of self.new).pending ≡ false }
+        ensures message { self.new.message ≡ self.old.message }
+        ensures ended { self.new.ended ≡ self.old.ended }
     {
         self.pending = Open::Nothing;
     }
@@ -87,6 +89,10 @@ impl Reading {
         ensures said { result.said ≡ Said.Damaged }
         ensures is_ended { result.is_ended ≡ is_message_whole (state_of self.old).pending }
         ensures is_broken { result.is_broken ≡ is_message_begun (state_of self.old).pending }
+        ensures goes_on { result.goes_on ≡ false }
+        ensures form { result.form ≡ 0 }
+        ensures found { (result.found.front ≡ 0) × (result.found.start ≡ 0) × (result.found.end ≡ 0) }
+        ensures message { self.new.message ≡ self.old.message }
         ensures ended { result.is_ended ≡ true → self.new.ended.items ≡ self.old.message.items }
         ensures closed { is_message_open (state_of self.new).pending ≡ false }
     {
@@ -125,6 +131,8 @@ impl Reading {
     fn say(&mut self, form: &LineForm, row: usize, tail: &[u8]) -> Said
         ensures rows { rows_of result self.new ≡ say form.now row tail.now (state_of self.old) }
         ensures ended { self.new.ended ≡ self.old.ended }
+        ensures form { self.new.form ≡ self.old.form }
+        ensures some { result ≢ Said.Other }
         ensures part { self.new.part ≡ self.old.part }
     {
         let whole = whole_before(form, &self.octets, tail, &mut self.held);
@@ -142,6 +150,7 @@ impl Reading {
     pub(crate) fn say_none(&mut self, said: Said) -> Said
         ensures rows { rows_of result self.new ≡ say_none said (state_of self.old) }
         ensures ended { self.new.ended ≡ self.old.ended }
+        ensures form { self.new.form ≡ self.old.form }
         ensures part { self.new.part ≡ self.old.part }
     {
         self.pending = Open::Nothing;
@@ -152,6 +161,7 @@ impl Reading {
     pub(crate) fn unless_known(&mut self, said: Said) -> Said
         ensures rows { rows_of result self.new ≡ unless_known (rows_of said self.old) }
         ensures ended { self.new.ended ≡ self.old.ended }
+        ensures form { self.new.form ≡ self.old.form }
     {
         if is_sure_frame(said, &self.message) {
             said
@@ -164,6 +174,8 @@ impl Reading {
     fn say_begun(&mut self, form: &LineForm, offset: u64, tail: &[u8]) -> Said
         ensures rows { rows_of result self.new ≡ begun_with form.now offset tail.now (state_of self.old) }
         ensures ended { self.new.ended ≡ self.old.ended }
+        ensures form { self.new.form ≡ self.old.form }
+        ensures some { result ≢ Said.Other }
         ensures part { self.new.part ≡ self.old.part }
     {
         if is_stream(form) {
@@ -187,6 +199,8 @@ impl Reading {
         ensures rows { (line : List ℕ) → text.now ≡ text_from_front form.now line → self.old.octets.items ≡ row_of form.now line
             → rows_of result self.new ≡ begun_line at form.now line tail.now (state_of self.old) }
         ensures ended { self.new.ended ≡ self.old.ended }
+        ensures form { self.new.form ≡ at }
+        ensures some { result ≢ Said.Other }
         ensures part { self.new.part ≡ self.old.part }
     {
         let offset = match offset_in(form, text) {
@@ -203,6 +217,7 @@ impl Reading {
     pub(crate) fn add(&mut self, form: &LineForm, tail: &[u8]) -> Said
         ensures rows { rows_of result self.new ≡ added form.now self.old.part.items tail.now (state_of self.old) }
         ensures ended { self.new.ended ≡ self.old.ended }
+        ensures form { self.new.form ≡ self.old.form }
     {
         let row = self.part.len();
         self.next = offset_after(self.next, row);

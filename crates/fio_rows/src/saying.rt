@@ -1,5 +1,5 @@
 //! What the octets of some rows say.
-ghost use Rattle.std.specs.Prelude.{◌≡◌, ◌&&◌};
+ghost use Rattle.std.specs.Prelude.{◌≡◌, ◌≢◌, ◌&&◌};
 ghost use Rattle.fio_form.specs.Messages.{size_of};
 ghost use Rattle.fio_rows.specs.Lines.{says_message, is_known, has_offset, has_bare_rows, is_message_begun, is_next, is_message_open, is_message_whole, is_own_message, is_stray, is_stream, offset_after, offset_in, said_unless};
 ghost use Rattle.fio_rows.specs.Rows.{open_after, said_by_whole};
@@ -42,7 +42,8 @@ pub fn is_whole(pending: Open) -> bool
 
 /// Returns what a line says with which octets are a whole, of which `row` are in it, before a tail.
 pub fn said_by(form: &LineForm, row: usize, tail: &[u8], whole: Whole) -> Said
-    ensures { result ≡ said_by_whole form.now row tail.now whole }
+    ensures exact { result ≡ said_by_whole form.now row tail.now whole }
+    ensures some { result ≢ Said.Other }
 {
     match whole {
         Whole::Message { .. } => Said::Frame,

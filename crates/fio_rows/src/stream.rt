@@ -48,6 +48,7 @@ impl Stream {
         ensures taken { OnTrue result (self.new.octets.items ≡ self.old.octets.items ++ octet ∷ []) }
         ensures refused { OnFalse result (self.new.octets.items ≡ self.old.octets.items) }
         ensures command { command_above self.new ≡ command_above self.old }
+        ensures message { self.new.message ≡ self.old.message }
     {
         self.octets.try_push(octet).is_ok()
     }
