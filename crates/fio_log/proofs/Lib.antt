@@ -5,3 +5,4 @@ pub mod OwnVerdictLemmas
 pub mod FrameLemmas
 pub mod WaitingLemmas
 pub mod KnowingLemmas
+pub mod HeardLemmas

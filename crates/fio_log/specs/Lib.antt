@@ -10,3 +10,5 @@ pub mod OwnVerdicts
 pub mod Telling
 pub mod Waiting
 pub mod Knowing
+pub mod Spoilt
+pub mod Heard

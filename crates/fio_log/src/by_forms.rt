@@ -1,7 +1,12 @@
 //! Lines read by the forms that are known.
-ghost use Rattle.std.specs.Prelude.{◌≡◌, ℕ, List, [], length, true, false};
+ghost use Rattle.std.specs.Prelude.{◌≡◌, ◌<◌, ℕ, List, [], ◌∷◌, drop, length, true, false};
+ghost use Rattle.fio_rows.specs.Laws.{SaysMessages};
+ghost use Rattle.fio_rows.specs.Lines.{read_in};
+ghost use Rattle.fio_rows.specs.Rows.{rows_of, state_of};
+ghost use Rattle.fio_log.specs.Heard.{HasHeard};
 ghost use Rattle.fio_log.specs.Knowing.{SaysOf};
 ghost use Rattle.fio_log.specs.Lines.{Text};
+ghost use Rattle.fio_log.specs.OwnTexts.{spells};
 ghost use Rattle.fio_log.specs.Verdicts.{Agrees, has_reason};
 ghost use Rattle.fio_log.specs.Wordings.{SaysWords};
 ghost use Rattle.fio_log.specs.declared.verdict.Kind.TheVariants.{Frames};
@@ -204,14 +209,13 @@ impl FormReader {
     }
 
     /// Hears what a line says, after the line above it.
-    pub(crate) fn hear(&mut self, line: NumberedLine) -> LineHeard {
+    pub(crate) fn hear(&mut self, line: NumberedLine) -> LineHeard
+        ensures heard { HasHeard self.old.forms.items (record { octets = line.entry.text.now; is_long = line.entry.is_long }) self.old.reading result self.new.reading }
+        ensures kept { self.new ≡ record self.old { reading = self.new.reading } }
+    {
         let was_open = self.reading.is_open();
         let has_gap = line.has_gap();
-        let said = if line.is_long || has_gap {
-            self.reading.skip()
-        } else {
-            self.reading.read(&self.forms, line.text)
-        };
+        let said = self.hear_text(line.text, !line.is_long && !has_gap);
         let goes_on = was_open
             && !said.is_broken
             && !said.is_ended
@@ -223,6 +227,20 @@ impl FormReader {
             goes_on,
             is_long: line.is_long,
             has_gap,
+        }
+    }
+
+    /// Hears what the text of a line says, if that is to be read.
+    fn hear_text(&mut self, text: &[u8], is_read: bool) -> LineSaid
+        ensures exact { is_read ≡ true → rows_of result.said self.new.reading ≡ read_in self.old.forms.items text.now (drop result.found.end text.now) (state_of self.old.reading) }
+        ensures messages { SaysMessages (rows_of result.said self.new.reading) }
+        ensures form { result.said ≡ Said.Frame → result.form < length self.old.forms.items }
+        ensures kept { self.new ≡ record self.old { reading = self.new.reading } }
+    {
+        if is_read {
+            self.reading.read(&self.forms, text)
+        } else {
+            self.reading.skip()
         }
     }
 
@@ -316,7 +334,8 @@ fn reason_of_frames(verdict: LineVerdict) -> Reason
 
 /// Takes a message, with the places of its rows, as the only frame; returns whether there was room.
 fn take_message(message: &[u8], rows: &MessageRows, last: &mut Octets, told: &mut Told) -> bool
-    ensures taken { result ≡ true → length told.new.frames ≡ 1 }
+    ensures taken { result ≡ true → told.new.frames ≡ message.now ∷ [] }
+    ensures room { spells message.now ≡ true → result ≡ true }
     ensures none { result ≡ false → told.new.frames ≡ [] }
 {
     told.clear();

@@ -28,7 +28,8 @@
 //! no line below it (`teller`). The definitions are in `specs/`: characters (`Digits`), times (`Clock`), lines (`Lines`), which
 //! are blank (`Blanks`), what words say (`Wordings`), the program's own texts (`OwnTexts`), frames and their places (`Frames`),
 //! what a verdict says (`Verdicts`, `OwnVerdicts`), what a reader has read and returned (`Telling`), how many lines wait
-//! (`Waiting`), and what is known of them (`Knowing`).
+//! (`Waiting`), what is known of them (`Knowing`), what is heard of a line by the forms and told of that (`Heard`), and digits that
+//! go on behind octets (`Spoilt`).
 //!
 //! # What is proved
 //!
@@ -44,9 +45,14 @@
 //! were read (`knows`), a line that is said to be blank is (`blank`), and one that is said to speak of loss, or to be a heading, does
 //! or is, by its own words (`words`). `time_in` returns the first time by the table of `specs/Clock.antt` (`time`).
 //!
-//! Not proved: what else is said of a line of such a log. A reader for which each line is damaged meets the clauses. Lines are read
-//! by the calls of `fio_form` and `fio_rows`, which are proved; that a verdict has the frames that these read is tested by
-//! `tests/fiolog-reader.py` and `tests/real-logs.py`.
+//! Inside a reader what is heard of a line is exactly what its forms say of it, below the lines above; of a line that is too long,
+//! or of which a part is gone, nothing counts (`heard` of `FormReader::hear`). The verdict tells what was heard, by its kind, and has
+//! the message of a line as its first frame (`told` of `FormReader::tell`, by `Tells`).
+//!
+//! Not proved: that a reader keeps what it has heard until that is told, and so what else is said of a line of such a log: a reader
+//! for which each line is damaged meets the clauses of its public calls. Nor what is told beside that: which messages a stream has,
+//! the further messages of a line, and what a line is that no form has. All this is tested by `tests/fiolog-reader.py` and
+//! `tests/real-logs.py`.
 #![tactic(auto)]
 
 mod blanks;

@@ -1,6 +1,7 @@
 //! Lines of a log, from octets as they come.
 ghost use Rattle.std.specs.Prelude.{◌≡◌, ℕ, ◌+◌, ◌≤◌, ◌<◌, [], true, length, slice_index, take};
 ghost use Rattle.fio_log.specs.Blanks.{is_blank_line};
+ghost use Rattle.fio_log.specs.Heard.{has_nul};
 ghost use Rattle.fio_log.specs.Lines.{ended, finished, goes_on_held, held_first, held_next, held_octets, held_text, is_plain, is_whole, lines_after, no_line, no_text, only, open_line, pushed, with_all, with_character, with_line_octet, with_making, with_octet_made};
 
 use crate::blanks::are_blanks;
@@ -387,7 +388,9 @@ pub(crate) struct NumberedLine<'a> {
 
 impl NumberedLine<'_> {
     /// Returns whether a part of the line is gone: there are NULs in its place.
-    pub(crate) fn has_gap(self) -> bool {
+    pub(crate) fn has_gap(self) -> bool
+        ensures { result ≡ has_nul self.entry.text.now }
+    {
         self.text.contains(&0)
     }
 

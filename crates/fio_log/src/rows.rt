@@ -1,5 +1,6 @@
 //! The rows in which octets stand that are no message yet.
-ghost use Rattle.std.specs.Prelude.{◌≡◌};
+ghost use Rattle.std.specs.Prelude.{◌≡◌, ◌<◌, ◌↔◌, [], IsTrue, length};
+ghost use Rattle.fio_log.specs.declared.rows.TheConstants.{ROWS};
 
 use crate::directions::Direction;
 use crate::heading::Heading;
@@ -28,18 +29,23 @@ impl MessageRows {
     }
 
     /// Takes all rows out.
-    pub(crate) fn clear(&mut self) {
+    pub(crate) fn clear(&mut self)
+        ensures { self.new.places.items ≡ [] }
+    {
         self.places.clear();
     }
 
     /// Appends a row; returns whether there was room for it.
-    pub(crate) fn push(&mut self, place: Place) -> bool {
+    pub(crate) fn push(&mut self, place: Place) -> bool
+        ensures { IsTrue result ↔ (length self.old.places.items < ROWS) }
+    {
         self.places.try_push(place).is_ok()
     }
 
     /// Tells the places of all rows; returns whether there was room for them.
     pub(crate) fn add_to(&self, told: &mut Told) -> bool
-        ensures { told.new.frames ≡ told.old.frames }
+        ensures frames { told.new.frames ≡ told.old.frames }
+        ensures room { told.old.places ≡ [] → IsTrue result }
     {
         for place in self.places.as_slice() {
             if !told.add_place(*place) {

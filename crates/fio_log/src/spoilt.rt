@@ -1,11 +1,16 @@
 //! Octets of which a digit is gone, is too many or is another character.
+ghost use Rattle.std.specs.Prelude.{◌≡◌};
+ghost use Rattle.fio_log.specs.Spoilt.{digits_after, has_odd_digits, is_one, width_of};
+
 use crate::cut::{LEFT, is_number, is_of_digits, marks_in};
 use crate::digits::{digit, is_letter};
 use crate::quiet::is_run;
 use fio_form::{Digits, LineForm, LineRows, Octets, front_in, run_in};
 
 /// Returns how many digits an octet has in a notation, if that is always the same.
-fn width_of(digits: Digits) -> Option<usize> {
+fn width_of(digits: Digits) -> Option<usize>
+    ensures { result ≡ width_of digits }
+{
     match digits {
         Digits::Pairs => Some(2),
         Digits::Octal => Some(3),
@@ -83,19 +88,36 @@ pub(crate) fn has_spoilt_octet(form: &LineForm, line: &[u8], octets: &mut Octets
 
 /// Returns whether digits go on behind octets with nothing between them: too few for one more octet, or, in a row of a dump,
 /// those of another one.
-pub(crate) fn has_odd_digits(form: &LineForm, tail: &[u8]) -> bool {
-    let Some(width) = width_of(form.digits()) else {
-        return false;
-    };
+pub(crate) fn has_odd_digits(form: &LineForm, tail: &[u8]) -> bool
+    ensures { result ≡ has_odd_digits form.now tail.now }
+{
+    match (width_of(form.digits()), digits_first(tail)) {
+        (Some(width), Some(count)) => count > 0 && (count < width || !is_one(form.rows)),
+        _ => false,
+    }
+}
+
+/// Returns how many digits a text begins with, before a character that belongs to no word; `None` if its first word has another
+/// character.
+fn digits_first(text: &[u8]) -> Option<usize>
+    ensures { result ≡ digits_after 0 text.now }
+{
     let mut count: usize = 0;
-    for character in tail {
+    for character in text {
         if !is_letter(*character) {
-            break;
+            return Some(count);
         }
         if digit(*character).is_none() {
-            return false;
+            return None;
         }
-        count = count.saturating_add(1);
+        count += 1;
     }
-    count > 0 && (count < width || form.rows != LineRows::One)
+    Some(count)
+}
+
+/// Returns whether a message is one row.
+fn is_one(rows: LineRows) -> bool
+    ensures { result ≡ is_one rows }
+{
+    matches!(rows, LineRows::One)
 }

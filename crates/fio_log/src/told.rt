@@ -4,7 +4,7 @@ ghost use Rattle.std.specs.List.{All};
 ghost use Rattle.fio_guess.specs.Lines.{GoUp, parts_of};
 ghost use Rattle.fio_log.specs.Frames.{AreFew};
 ghost use Rattle.fio_log.specs.OwnTexts.{spells};
-ghost use Rattle.fio_log.specs.declared.told.TheConstants.{TOLD_FRAMES, TOLD_OCTETS};
+ghost use Rattle.fio_log.specs.declared.told.TheConstants.{TOLD_FRAMES, TOLD_OCTETS, TOLD_PLACES};
 
 use crate::own_texts::spells;
 use crate::places::Place;
@@ -106,7 +106,9 @@ impl Told {
 
     /// Appends a place, if there is room for it; returns whether there was.
     pub(crate) fn add_place(&mut self, place: Place) -> bool
-        ensures { self.new.frames ≡ self.old.frames }
+        ensures frames { self.new.frames ≡ self.old.frames }
+        ensures places { IsTrue result → self.new.places ≡ self.old.places ++ place ∷ [] }
+        ensures room { length self.old.places < TOLD_PLACES → IsTrue result }
     {
         self.places.try_push(place).is_ok()
     }

@@ -1,5 +1,6 @@
 //! Lines of a stream of octets, which is divided into messages.
 ghost use Rattle.std.specs.Prelude.{◌≡◌, ◌≤◌, ℕ, List, length, true};
+ghost use Rattle.fio_log.specs.Heard.{is_of_stream};
 ghost use Rattle.fio_log.specs.Verdicts.{has_frames, has_reason};
 ghost use Rattle.fio_log.specs.Wordings.{SaysWords};
 
@@ -29,6 +30,7 @@ impl FormReader {
         said: Heading,
         told: &mut Told,
     ) -> (Kind, Reason)
+        ensures told { is_of_stream result.0 ≡ true }
         ensures reason { has_reason result.0 result.1 ≡ true }
         ensures frames { has_frames result.0 (length told.new.frames) ≡ true }
         ensures words { (text : List ℕ) → SaysWords text result.1 }
@@ -90,6 +92,7 @@ impl FormReader {
 
 /// Returns what a line of a stream is that gives so many frames; `is_whole`: its other octets may be of a message that is open.
 fn kind_of_stream(is_whole: bool, frames: usize) -> (Kind, Reason)
+    ensures told { is_of_stream result.0 ≡ true }
     ensures reason { has_reason result.0 result.1 ≡ true }
     ensures frames { has_frames result.0 frames ≡ true }
     ensures words { (text : List ℕ) → SaysWords text result.1 }

@@ -1,6 +1,7 @@
 //! Verdicts on lines that were heard.
-ghost use Rattle.std.specs.Prelude.{◌≡◌, ◌≤◌, ℕ, List, [], length, true};
+ghost use Rattle.std.specs.Prelude.{◌≡◌, ◌<◌, ◌≤◌, ◌↔◌, ℕ, List, [], IsTrue, length, true, false, slice_get};
 ghost use Rattle.fio_log.specs.Blanks.{is_blank_line};
+ghost use Rattle.fio_log.specs.Heard.{HasRoom, KeepsFirst, Tells, TellsEcho, TellsFrame, TellsMessage, TellsSaid, is_of_echoes, is_of_others, lacks_octets};
 ghost use Rattle.fio_log.specs.Verdicts.{Agrees, has_frames, has_reason};
 ghost use Rattle.fio_log.specs.Wordings.{SaysWords};
 
@@ -28,6 +29,7 @@ impl FormReader {
         told: &mut Told,
     ) -> LineVerdict
         ensures agrees { Agrees result (length told.new.frames) }
+        ensures told { Tells self.old line.entry.text.now heard result.kind told.new.frames }
         ensures words { SaysWords line.entry.text.now result.reason }
         ensures blank { result.kind ≡ Kind.Blank → is_blank_line (record { octets = line.entry.text.now; is_long = line.entry.is_long }) ≡ true }
     {
@@ -67,7 +69,9 @@ impl FormReader {
     }
 
     /// Returns what a line says of its octets by itself, or else what the line above it says.
-    fn heading_of(&mut self, own: Heading, heard: LineHeard) -> Heading {
+    fn heading_of(&mut self, own: Heading, heard: LineHeard) -> Heading
+        ensures { self.new ≡ record self.old { above = self.new.above } }
+    {
         match self.forms.get(heard.said.form) {
             Some(form) if heard.said.found.end > 0 && !heard.goes_on => {
                 own.or(self.above.of(form))
@@ -85,6 +89,7 @@ impl FormReader {
         told: &mut Told,
     ) -> (Kind, Reason)
         requires { told.old.frames ≡ [] }
+        ensures told { Tells self.old line.entry.text.now heard result.0 told.new.frames }
         ensures reason { has_reason result.0 result.1 ≡ true }
         ensures frames { has_frames result.0 (length told.new.frames) ≡ true }
         ensures words { SaysWords line.entry.text.now result.1 }
@@ -94,10 +99,28 @@ impl FormReader {
             self.break_off();
             return (Kind::Damaged, Reason::TooLong);
         }
-        if heard.has_gap || self.is_spoilt(line.text, heard) {
+        if self.lacks_octets(line.text, heard) {
             self.break_off();
             return (Kind::Damaged, Reason::NoMessage);
         }
+        self.tell_said(line, heard, said, told)
+    }
+
+    /// Returns what a line is by what it says, and takes its frames.
+    fn tell_said(
+        &mut self,
+        line: NumberedLine,
+        heard: LineHeard,
+        said: Heading,
+        told: &mut Told,
+    ) -> (Kind, Reason)
+        requires { told.old.frames ≡ [] }
+        ensures told { TellsSaid heard.said.said self.old heard result.0 told.new.frames }
+        ensures reason { has_reason result.0 result.1 ≡ true }
+        ensures frames { has_frames result.0 (length told.new.frames) ≡ true }
+        ensures words { SaysWords line.entry.text.now result.1 }
+        ensures blank { result.0 ≡ Kind.Blank → is_blank_line (record { octets = line.entry.text.now; is_long = line.entry.is_long }) ≡ true }
+    {
         match heard.said.said {
             Said::Frame => self.tell_frame(line, heard, said, told),
             Said::Part => {
@@ -115,8 +138,14 @@ impl FormReader {
         }
     }
 
-    /// Returns whether the octets of a line end within a word of digits, so that it is not known which of them are octets.
-    fn is_spoilt(&self, line: &[u8], heard: LineHeard) -> bool {
+    /// Returns whether a part of a line is gone, or its octets end within a word of digits, so that it is not known which of them are
+    /// octets.
+    fn lacks_octets(&self, line: &[u8], heard: LineHeard) -> bool
+        ensures { result ≡ lacks_octets self.now.forms.items line.now heard }
+    {
+        if heard.has_gap {
+            return true;
+        }
         let is_read = matches!(heard.said.said, Said::Frame | Said::Part | Said::Stream);
         let end = heard.said.found.end;
         match self.forms.get(heard.said.form) {
@@ -139,7 +168,10 @@ impl FormReader {
     }
 
     /// Takes the row of a message that a line has; returns whether there was room.
-    fn take_row(&mut self, number: u64, heard: LineHeard, said: Heading) -> bool {
+    fn take_row(&mut self, number: u64, heard: LineHeard, said: Heading) -> bool
+        ensures room { IsTrue result ↔ HasRoom self.old heard }
+        ensures kept { self.new ≡ record self.old { rows = self.new.rows; begun = self.new.begun } }
+    {
         if !heard.goes_on {
             self.rows.clear();
             self.begun = said;
@@ -152,7 +184,7 @@ impl FormReader {
         })
     }
 
-    /// Takes the message that ends with a line, and those behind it.
+    /// Takes the message that ends with a line, and those behind it; an echo is a copy of the frame above it, or damaged.
     fn tell_frame(
         &mut self,
         line: NumberedLine,
@@ -161,22 +193,64 @@ impl FormReader {
         told: &mut Told,
     ) -> (Kind, Reason)
         requires { told.old.frames ≡ [] }
+        ensures told { TellsFrame self.old heard result.0 told.new.frames }
         ensures reason { has_reason result.0 result.1 ≡ true }
         ensures frames { has_frames result.0 (length told.new.frames) ≡ true }
         ensures words { SaysWords line.entry.text.now result.1 }
         ensures blank { result.0 ≡ Kind.Blank → is_blank_line (record { octets = line.entry.text.now; is_long = line.entry.is_long }) ≡ true }
     {
-        let is_echo = heard.said.form < self.forms.len() && self.forms[heard.said.form].is_echo;
-        if is_echo {
-            return if self.reading.message.as_slice() == self.last.as_slice() {
-                (Kind::PassedOver, Reason::Copy)
-            } else {
-                (Kind::Damaged, Reason::NoMessage)
-            };
+        if self.is_of_echoes(heard.said.form) {
+            return self.tell_echo();
         }
+        self.tell_message(line, heard, said, told)
+    }
+
+    /// Returns whether a form, by its index, is of echoes.
+    fn is_of_echoes(&self, form: usize) -> bool
+        ensures { result ≡ is_of_echoes (slice_get self.now.forms.items form) }
+    {
+        match self.forms.get(form) {
+            Some(form) => form.is_echo,
+            None => false,
+        }
+    }
+
+    /// Returns what an echo is.
+    fn tell_echo(&self) -> (Kind, Reason)
+        ensures told { TellsEcho self.now.reading.message.items self.now.last.items result.0 }
+        ensures reason { has_reason result.0 result.1 ≡ true }
+        ensures frames { has_frames result.0 0 ≡ true }
+        ensures words { (text : List ℕ) → SaysWords text result.1 }
+        ensures blank { result.0 ≡ Kind.Blank → ⊥ }
+    {
+        if self.reading.message.as_slice() == self.last.as_slice() {
+            (Kind::PassedOver, Reason::Copy)
+        } else {
+            (Kind::Damaged, Reason::NoMessage)
+        }
+    }
+
+    /// Takes the message that ends with a line that is no echo, and those behind it.
+    fn tell_message(
+        &mut self,
+        line: NumberedLine,
+        heard: LineHeard,
+        said: Heading,
+        told: &mut Told,
+    ) -> (Kind, Reason)
+        requires { told.old.frames ≡ [] }
+        ensures told { TellsMessage self.old heard result.0 told.new.frames }
+        ensures reason { has_reason result.0 result.1 ≡ true }
+        ensures frames { has_frames result.0 (length told.new.frames) ≡ true }
+        ensures words { SaysWords line.entry.text.now result.1 }
+        ensures blank { result.0 ≡ Kind.Blank → is_blank_line (record { octets = line.entry.text.now; is_long = line.entry.is_long }) ≡ true }
+    {
         let is_kept = self.take_row(line.number, heard, said);
-        if !is_kept || !take_message(&self.reading.message, &self.rows, &mut self.last, told) {
-            told.clear();
+        if !is_kept {
+            return (Kind::Damaged, Reason::TooLong);
+        }
+        let is_taken = take_message(&self.reading.message, &self.rows, &mut self.last, told);
+        if !is_taken {
             return (Kind::Damaged, Reason::TooLong);
         }
         let form = heard.said.form;
@@ -185,7 +259,8 @@ impl FormReader {
             && end <= line.text.len()
             && ends_in_gap(&self.forms[form], &line.text[end..]);
         let is_first = self.is_first(line.text, heard);
-        let is_all = self.tell_seconds(line, end, told) && !is_cut && is_first;
+        let is_quiet = self.tell_seconds(line, end, told);
+        let is_all = is_quiet && !is_cut && is_first;
         (
             Kind::Frames,
             if is_all { Reason::None } else { Reason::More },
@@ -210,7 +285,8 @@ impl FormReader {
 
     /// Takes the messages behind the first one of a line; returns whether nothing else of it may be one.
     fn tell_seconds(&mut self, line: NumberedLine, end: usize, told: &mut Told) -> bool
-        ensures { length told.old.frames ≤ length told.new.frames }
+        ensures more { length told.old.frames ≤ length told.new.frames }
+        ensures first { KeepsFirst told.old.frames told.new.frames }
     {
         let mut from = end;
         let mut is_all = true;
@@ -258,6 +334,7 @@ impl FormReader {
 
     /// Returns what a line is that no form has.
     fn tell_other(&mut self, line: NumberedLine) -> (Kind, Reason)
+        ensures told { is_of_others result.0 ≡ true }
         ensures reason { has_reason result.0 result.1 ≡ true }
         ensures frames { has_frames result.0 0 ≡ true }
         ensures words { SaysWords line.entry.text.now result.1 }
@@ -310,7 +387,8 @@ fn with_break(kind: Kind, reason: Reason, heard: LineHeard) -> Reason
 
 /// Adds a further message of a line, with its place; returns whether there was room.
 fn add_second(message: &[u8], place: Place, told: &mut Told) -> bool
-    ensures { length told.old.frames ≤ length told.new.frames }
+    ensures more { length told.old.frames ≤ length told.new.frames }
+    ensures first { KeepsFirst told.old.frames told.new.frames }
 {
     told.add_frame(message) && told.add_place(place)
 }
