@@ -1,5 +1,5 @@
 -- What is heard of a line, and what its verdict tells of that.
-use Rattle.std.proofs.Common.{◌≡◌, ℕ, ◌<◌, ◌≤◌, ◌∙◌, Bool, true, false, List, [], ◌∷◌, ◌++◌, Some, slice_get, sym, refl, arith}
+use Rattle.std.proofs.Common.{◌≡◌, ℕ, ◌<◌, ◌≤◌, ◌∙◌, Bool, true, false, List, [], ◌∷◌, ◌++◌, Some, slice_get, sym, ap, subst, refl, arith, MatchBool, ◌||◌}
 use Rattle.fio_form.specs.declared.form.LineForm.{LineForm}
 use Rattle.fio_rows.proofs.LineLaws.{read_right}
 use Rattle.fio_rows.specs.Laws.{SaysMessages}
@@ -9,7 +9,7 @@ use Rattle.fio_rows.specs.declared.said.Said.{Said}
 use Rattle.fio_rows.specs.declared.said.Said.TheVariants as said
 use Rattle.fio_rows.specs.declared.saying.Open.{Open}
 use Rattle.fio_rows.specs.declared.saying.Open.TheVariants as opens
-use Rattle.fio_log.specs.Heard.{HasRoom, KeepsFirst, Tells, TellsEcho, TellsFrame, TellsMessage, TellsPart, TellsSaid, is_of_echoes, lacks_octets}
+use Rattle.fio_log.specs.Heard.{HasRoom, KeepsFirst, Known, Tells, TellsEcho, TellsFrame, TellsMessage, TellsPart, TellsSaid, is_lost, is_of_echoes, known_of, lacks_octets}
 use Rattle.fio_log.specs.OwnTexts.{spells}
 use Rattle.fio_log.specs.declared.heading.LineAbove.{LineAbove}
 use Rattle.fio_log.specs.declared.by_forms.FormReader.{FormReader}
@@ -33,87 +33,110 @@ messages_skipped after is closed = record {
   open_message = λ whole. let no : false ≡ true = sym (closed_open after.pending closed) ∙ whole in absurd (cc);
 }
 
+both_false : (a b : Bool) → a ≡ false → b ≡ false → (a || b) ≡ false
+both_false true b first second = absurd (cc)
+both_false false b first second = second
+
+by_false : (P Q : Type 0) (b : Bool) → b ≡ false → Q → MatchBool b P Q
+by_false P Q true is q = absurd (cc)
+by_false P Q false is q = q
+
+by_true : (P Q : Type 0) (b : Bool) → b ≡ true → P → MatchBool b P Q
+by_true P Q true is p = p
+by_true P Q false is p = absurd (cc)
+
+either : (a b : Bool) → b ≡ true → (a || b) ≡ true
+either true b is = refl
+either false b is = is
+
 -- a line that is too long
-pub tells_long : (reader : FormReader) (line : List ℕ) (heard : LineHeard) (frames : List (List ℕ)) → heard.is_long ≡ true
-    → Tells reader line heard kinds.Damaged frames
-tells_long reader line heard frames long = rw long refl
+pub tells_long : (known : Known) (line : List ℕ) (heard : LineHeard) (frames : List (List ℕ)) → heard.is_long ≡ true
+    → Tells known line heard kinds.Damaged frames
+tells_long known line heard frames long =
+    let lost : is_lost known.forms line heard ≡ true = rw long refl in
+    by_true _ _ (is_lost known.forms line heard) lost refl
 
 -- a line that lacks octets
-pub tells_gone : (reader : FormReader) (line : List ℕ) (heard : LineHeard) (frames : List (List ℕ)) → heard.is_long ≡ false
-    → lacks_octets reader.forms.items line heard ≡ true → Tells reader line heard kinds.Damaged frames
-tells_gone reader line heard frames short gone = rw (short, gone) refl
+pub tells_gone : (known : Known) (line : List ℕ) (heard : LineHeard) (frames : List (List ℕ))
+    → lacks_octets known.forms line heard ≡ true → Tells known line heard kinds.Damaged frames
+tells_gone known line heard frames gone =
+    by_true _ _ (is_lost known.forms line heard) (either heard.is_long (lacks_octets known.forms line heard) gone) refl
 
 -- a line whose octets count
-pub tells_kept : (reader : FormReader) (line : List ℕ) (heard : LineHeard) (kind : Kind) (frames : List (List ℕ)) → heard.is_long ≡ false
-    → lacks_octets reader.forms.items line heard ≡ false → TellsSaid heard.said.said reader heard kind frames
-    → Tells reader line heard kind frames
-tells_kept reader line heard kind frames short kept tells = rw (short, kept) tells
+pub tells_kept : (known : Known) (line : List ℕ) (heard : LineHeard) (kind : Kind) (frames : List (List ℕ)) → heard.is_long ≡ false
+    → lacks_octets known.forms line heard ≡ false → TellsSaid heard.said.said known heard kind frames
+    → Tells known line heard kind frames
+tells_kept known line heard kind frames short kept tells =
+    by_false _ _ (is_lost known.forms line heard) (both_false heard.is_long (lacks_octets known.forms line heard) short kept) tells
 
 -- what a line says
-pub tells_as : (reader : FormReader) (heard : LineHeard) (kind : Kind) (frames : List (List ℕ)) (what : Said) → heard.said.said ≡ what
-    → TellsSaid what reader heard kind frames → TellsSaid heard.said.said reader heard kind frames
-tells_as reader heard kind frames what is tells = rw is tells
+pub tells_as : (known : Known) (heard : LineHeard) (kind : Kind) (frames : List (List ℕ)) (says what : Said) → says ≡ what
+    → TellsSaid what known heard kind frames → TellsSaid says known heard kind frames
+tells_as known heard kind frames says what is tells = rw is tells
 
 -- a reader that knows another line above
 pub tells_below : (before after : FormReader) (above : LineAbove) (line : List ℕ) (heard : LineHeard) (kind : Kind)
-    (frames : List (List ℕ)) → after ≡ record before { above = above } → Tells after line heard kind frames
-    → Tells before line heard kind frames
-tells_below before after above line heard kind frames same tells = rw same at tells
+    (frames : List (List ℕ)) → after ≡ record before { above = above } → Tells (known_of after) line heard kind frames
+    → Tells (known_of before) line heard kind frames
+tells_below before after above line heard kind frames same tells =
+    let known : known_of after ≡ known_of before = ap known_of same in
+    subst (λ (k : Known). Tells k line heard kind frames) known tells
 
 -- an echo
-pub tells_echo : (reader : FormReader) (heard : LineHeard) (kind : Kind) (frames : List (List ℕ))
-    → is_of_echoes (slice_get reader.forms.items heard.said.form) ≡ true → TellsEcho reader.reading.message.items reader.last.items kind
-    → TellsFrame reader heard kind frames
-tells_echo reader heard kind frames echo tells = rw echo tells
+pub tells_echo : (known : Known) (heard : LineHeard) (kind : Kind) (frames : List (List ℕ))
+    → is_of_echoes (slice_get known.forms heard.said.form) ≡ true → TellsEcho known.message known.last kind
+    → TellsFrame known heard kind frames
+tells_echo known heard kind frames echo tells = by_true _ _ _ echo tells
 
 -- no echo
-pub tells_own : (reader : FormReader) (heard : LineHeard) (kind : Kind) (frames : List (List ℕ))
-    → is_of_echoes (slice_get reader.forms.items heard.said.form) ≡ false → TellsMessage reader heard kind frames
-    → TellsFrame reader heard kind frames
-tells_own reader heard kind frames own tells = rw own tells
+pub tells_own : (known : Known) (heard : LineHeard) (kind : Kind) (frames : List (List ℕ))
+    → is_of_echoes (slice_get known.forms heard.said.form) ≡ false → TellsMessage known.message known.rows heard kind frames
+    → TellsFrame known heard kind frames
+tells_own known heard kind frames own tells = by_false _ _ _ own tells
 
 -- a message without room for its row
-pub tells_no_room : (reader : FormReader) (heard : LineHeard) (frames : List (List ℕ)) (is_kept : Bool) → is_kept ≡ false
-    → (HasRoom reader heard → is_kept ≡ true) → TellsMessage reader heard kinds.Damaged frames
-tells_no_room reader heard frames is_kept no room = record {
-  given = λ is has. let wrong : false ≡ true = sym no ∙ room has in absurd (cc);
+pub tells_no_room : (message : List ℕ) (rows : ℕ) (heard : LineHeard) (frames : List (List ℕ)) (is_kept : Bool) → is_kept ≡ false
+    → (HasRoom rows heard → is_kept ≡ true) → TellsMessage message rows heard kinds.Damaged frames
+tells_no_room message rows heard frames is_kept failed room = record {
+  given = λ is has. let wrong : false ≡ true = sym failed ∙ room has in absurd (cc);
   first = λ is. absurd (cc);
-  full = λ full. refl;
+  full = λ many. refl;
 }
 
 -- a message that is none
-pub tells_none : (reader : FormReader) (heard : LineHeard) (frames : List (List ℕ)) (message : List ℕ) (is_taken : Bool)
-    → message ≡ reader.reading.message.items → is_taken ≡ false → (spells message ≡ true → is_taken ≡ true)
-    → TellsMessage reader heard kinds.Damaged frames
-tells_none reader heard frames message is_taken same no room = record {
+pub tells_none : (message : List ℕ) (rows : ℕ) (heard : LineHeard) (frames : List (List ℕ)) (octets : List ℕ) (is_taken : Bool)
+    → octets ≡ message → is_taken ≡ false → (spells octets ≡ true → is_taken ≡ true) → TellsMessage message rows heard kinds.Damaged frames
+tells_none message rows heard frames octets is_taken same failed room = record {
   given = λ is has.
-      let spelled : spells message ≡ true = rw same is in
-      let wrong : false ≡ true = sym no ∙ room spelled in
+      let spelled : spells octets ≡ true = ap spells same ∙ is in
+      let wrong : false ≡ true = sym failed ∙ room spelled in
       absurd (cc);
   first = λ is. absurd (cc);
-  full = λ full. refl;
+  full = λ many. refl;
 }
 
 -- a message that is told
-pub tells_message : (reader : FormReader) (heard : LineHeard) (before frames : List (List ℕ)) (message : List ℕ)
-    → message ≡ reader.reading.message.items → HasRoom reader heard → before ≡ message ∷ [] → KeepsFirst before frames
-    → TellsMessage reader heard kinds.Frames frames
-tells_message reader heard before frames message same room taken keeps = record {
+pub tells_message : (message : List ℕ) (rows : ℕ) (heard : LineHeard) (before frames : List (List ℕ)) (octets : List ℕ)
+    → octets ≡ message → HasRoom rows heard → before ≡ octets ∷ [] → KeepsFirst before frames
+    → TellsMessage message rows heard kinds.Frames frames
+tells_message message rows heard before frames octets same room taken keeps = record {
   given = λ is has. refl;
-  first = λ is. rw same at (keeps message (rw taken refl));
-  full = λ full. absurd (omega (arith, room full.0, full.1));
+  first = λ is.
+      let there : slice_get before 0 ≡ Some octets = ap (λ told. slice_get told 0) taken in
+      keeps octets there ∙ ap Some same;
+  full = λ many. absurd (omega (arith, room many.0, many.1));
 }
 
 -- a part
-pub tells_part : (reader : FormReader) (heard : LineHeard) → HasRoom reader heard → TellsPart reader heard kinds.Part
-tells_part reader heard room = record { part = λ has. refl; full = λ full. absurd (omega (arith, room full.0, full.1)) }
+pub tells_part : (rows : ℕ) (heard : LineHeard) → HasRoom rows heard → TellsPart rows heard kinds.Part
+tells_part rows heard room = record { part = λ has. refl; full = λ many. absurd (omega (arith, room many.0, many.1)) }
 
 -- a part without room for its row
-pub tells_no_part : (reader : FormReader) (heard : LineHeard) (is_kept : Bool) → is_kept ≡ false → (HasRoom reader heard → is_kept ≡ true)
-    → TellsPart reader heard kinds.Damaged
-tells_no_part reader heard is_kept no room = record {
-  part = λ has. let wrong : false ≡ true = sym no ∙ room has in absurd (cc);
-  full = λ full. refl;
+pub tells_no_part : (rows : ℕ) (heard : LineHeard) (is_kept : Bool) → is_kept ≡ false → (HasRoom rows heard → is_kept ≡ true)
+    → TellsPart rows heard kinds.Damaged
+tells_no_part rows heard is_kept failed room = record {
+  part = λ has. let wrong : false ≡ true = sym failed ∙ room has in absurd (cc);
+  full = λ many. refl;
 }
 
 -- a frame behind others

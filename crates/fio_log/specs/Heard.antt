@@ -65,13 +65,30 @@ abbrev pub is_of_echoes : Option LineForm → Bool
 is_of_echoes None = false
 is_of_echoes (Some form) = form.is_echo
 
+-- What a reader knows when it tells a line: its forms, the message that the line says, the frame that was told last, and how many
+-- rows the message has that the line may go on with.
+pub record Known : Type 0 where
+  pub forms : List LineForm
+  pub message : List ℕ
+  pub last : List ℕ
+  pub rows : ℕ
+
+-- what a reader knows
+abbrev pub known_of : FormReader → Known
+known_of reader = record {
+  forms = reader.forms.items;
+  message = reader.reading.message.items;
+  last = reader.last.items;
+  rows = length reader.rows.places.items;
+}
+
 -- There is room for the place of a line, below those of the rows that it goes on with.
-abbrev pub HasRoom : FormReader → LineHeard → Type 0
-HasRoom reader heard = heard.goes_on ≡ true → length reader.rows.places.items < ROWS
+abbrev pub HasRoom : ℕ → LineHeard → Type 0
+HasRoom rows heard = heard.goes_on ≡ true → rows < ROWS
 
 -- There is none.
-abbrev pub HasNoRoom : FormReader → LineHeard → Type 0
-HasNoRoom reader heard = (heard.goes_on ≡ true) × (ROWS ≤ length reader.rows.places.items)
+abbrev pub HasNoRoom : ℕ → LineHeard → Type 0
+HasNoRoom rows heard = (heard.goes_on ≡ true) × (ROWS ≤ rows)
 
 -- An echo is passed over if it is the last frame, and damaged if it is not.
 pub record TellsEcho (message last : List ℕ) (kind : Kind) : Type 0 where
@@ -79,15 +96,15 @@ pub record TellsEcho (message last : List ℕ) (kind : Kind) : Type 0 where
   pub other : ¬ (message ≡ last) → kind ≡ kinds.Damaged
 
 -- A message is the first frame of its line, if there is room for the places of its rows.
-pub record TellsMessage (reader : FormReader) (heard : LineHeard) (kind : Kind) (frames : List (List ℕ)) : Type 0 where
-  pub given : is_message reader.reading.message.items ≡ true → HasRoom reader heard → kind ≡ kinds.Frames
-  pub first : kind ≡ kinds.Frames → slice_get frames 0 ≡ Some reader.reading.message.items
-  pub full : HasNoRoom reader heard → kind ≡ kinds.Damaged
+pub record TellsMessage (message : List ℕ) (rows : ℕ) (heard : LineHeard) (kind : Kind) (frames : List (List ℕ)) : Type 0 where
+  pub given : is_message message ≡ true → HasRoom rows heard → kind ≡ kinds.Frames
+  pub first : kind ≡ kinds.Frames → slice_get frames 0 ≡ Some message
+  pub full : HasNoRoom rows heard → kind ≡ kinds.Damaged
 
 -- Octets that may go on are a part, if there is room for the place of the line.
-pub record TellsPart (reader : FormReader) (heard : LineHeard) (kind : Kind) : Type 0 where
-  pub part : HasRoom reader heard → kind ≡ kinds.Part
-  pub full : HasNoRoom reader heard → kind ≡ kinds.Damaged
+pub record TellsPart (rows : ℕ) (heard : LineHeard) (kind : Kind) : Type 0 where
+  pub part : HasRoom rows heard → kind ≡ kinds.Part
+  pub full : HasNoRoom rows heard → kind ≡ kinds.Damaged
 
 -- whether a line of a stream may be of a kind
 abbrev pub is_of_stream : Kind → Bool
@@ -108,26 +125,26 @@ is_of_others kinds.Damaged = true
 is_of_others kinds.PassedOver = true
 
 -- what a kind, with these frames, tells of a line that says a message
-abbrev pub TellsFrame : FormReader → LineHeard → Kind → List (List ℕ) → Type 0
-TellsFrame reader heard kind frames = MatchBool (is_of_echoes (slice_get reader.forms.items heard.said.form))
-    (TellsEcho reader.reading.message.items reader.last.items kind)
-    (TellsMessage reader heard kind frames)
+abbrev pub TellsFrame : Known → LineHeard → Kind → List (List ℕ) → Type 0
+TellsFrame known heard kind frames = MatchBool (is_of_echoes (slice_get known.forms heard.said.form))
+    (TellsEcho known.message known.last kind)
+    (TellsMessage known.message known.rows heard kind frames)
 
 -- what a kind, with these frames, tells of a line that says this by the forms
-abbrev pub TellsSaid : Said → FormReader → LineHeard → Kind → List (List ℕ) → Type 0
-TellsSaid said.Frame reader heard kind frames = TellsFrame reader heard kind frames
-TellsSaid said.Part reader heard kind frames = TellsPart reader heard kind
-TellsSaid said.Stream reader heard kind frames = is_of_stream kind ≡ true
-TellsSaid said.Idle reader heard kind frames = kind ≡ kinds.PassedOver
-TellsSaid said.Stray reader heard kind frames = kind ≡ kinds.Damaged
-TellsSaid said.Damaged reader heard kind frames = kind ≡ kinds.Damaged
-TellsSaid said.Other reader heard kind frames = is_of_others kind ≡ true
+abbrev pub TellsSaid : Said → Known → LineHeard → Kind → List (List ℕ) → Type 0
+TellsSaid said.Frame known heard kind frames = TellsFrame known heard kind frames
+TellsSaid said.Part known heard kind frames = TellsPart known.rows heard kind
+TellsSaid said.Stream known heard kind frames = is_of_stream kind ≡ true
+TellsSaid said.Idle known heard kind frames = kind ≡ kinds.PassedOver
+TellsSaid said.Stray known heard kind frames = kind ≡ kinds.Damaged
+TellsSaid said.Damaged known heard kind frames = kind ≡ kinds.Damaged
+TellsSaid said.Other known heard kind frames = is_of_others kind ≡ true
 
 -- The verdict on a line tells what was heard of it: it is damaged if that does not count.
-abbrev pub Tells : FormReader → List ℕ → LineHeard → Kind → List (List ℕ) → Type 0
-Tells reader line heard kind frames = MatchBool (is_lost reader.forms.items line heard)
+abbrev pub Tells : Known → List ℕ → LineHeard → Kind → List (List ℕ) → Type 0
+Tells known line heard kind frames = MatchBool (is_lost known.forms line heard)
     (kind ≡ kinds.Damaged)
-    (TellsSaid heard.said.said reader heard kind frames)
+    (TellsSaid heard.said.said known heard kind frames)
 
 -- The first frame stays.
 abbrev pub KeepsFirst : List (List ℕ) → List (List ℕ) → Type 0

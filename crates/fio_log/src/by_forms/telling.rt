@@ -1,7 +1,7 @@
 //! Verdicts on lines that were heard.
 ghost use Rattle.std.specs.Prelude.{◌≡◌, ◌<◌, ◌≤◌, ◌↔◌, ℕ, List, [], IsTrue, length, true, false, slice_get};
 ghost use Rattle.fio_log.specs.Blanks.{is_blank_line};
-ghost use Rattle.fio_log.specs.Heard.{HasRoom, KeepsFirst, Tells, TellsEcho, TellsFrame, TellsMessage, TellsSaid, is_of_echoes, is_of_others, lacks_octets};
+ghost use Rattle.fio_log.specs.Heard.{HasRoom, KeepsFirst, Tells, TellsEcho, TellsFrame, TellsMessage, TellsSaid, is_of_echoes, is_of_others, known_of, lacks_octets};
 ghost use Rattle.fio_log.specs.Verdicts.{Agrees, has_frames, has_reason};
 ghost use Rattle.fio_log.specs.Wordings.{SaysWords};
 
@@ -29,7 +29,7 @@ impl FormReader {
         told: &mut Told,
     ) -> LineVerdict
         ensures agrees { Agrees result (length told.new.frames) }
-        ensures told { Tells self.old line.entry.text.now heard result.kind told.new.frames }
+        ensures told { Tells (known_of self.old) line.entry.text.now heard result.kind told.new.frames }
         ensures words { SaysWords line.entry.text.now result.reason }
         ensures blank { result.kind ≡ Kind.Blank → is_blank_line (record { octets = line.entry.text.now; is_long = line.entry.is_long }) ≡ true }
     {
@@ -89,7 +89,7 @@ impl FormReader {
         told: &mut Told,
     ) -> (Kind, Reason)
         requires { told.old.frames ≡ [] }
-        ensures told { Tells self.old line.entry.text.now heard result.0 told.new.frames }
+        ensures told { Tells (known_of self.old) line.entry.text.now heard result.0 told.new.frames }
         ensures reason { has_reason result.0 result.1 ≡ true }
         ensures frames { has_frames result.0 (length told.new.frames) ≡ true }
         ensures words { SaysWords line.entry.text.now result.1 }
@@ -115,7 +115,7 @@ impl FormReader {
         told: &mut Told,
     ) -> (Kind, Reason)
         requires { told.old.frames ≡ [] }
-        ensures told { TellsSaid heard.said.said self.old heard result.0 told.new.frames }
+        ensures told { TellsSaid heard.said.said (known_of self.old) heard result.0 told.new.frames }
         ensures reason { has_reason result.0 result.1 ≡ true }
         ensures frames { has_frames result.0 (length told.new.frames) ≡ true }
         ensures words { SaysWords line.entry.text.now result.1 }
@@ -169,7 +169,7 @@ impl FormReader {
 
     /// Takes the row of a message that a line has; returns whether there was room.
     fn take_row(&mut self, number: u64, heard: LineHeard, said: Heading) -> bool
-        ensures room { IsTrue result ↔ HasRoom self.old heard }
+        ensures room { IsTrue result ↔ HasRoom (length self.old.rows.places.items) heard }
         ensures kept { self.new ≡ record self.old { rows = self.new.rows; begun = self.new.begun } }
     {
         if !heard.goes_on {
@@ -193,7 +193,7 @@ impl FormReader {
         told: &mut Told,
     ) -> (Kind, Reason)
         requires { told.old.frames ≡ [] }
-        ensures told { TellsFrame self.old heard result.0 told.new.frames }
+        ensures told { TellsFrame (known_of self.old) heard result.0 told.new.frames }
         ensures reason { has_reason result.0 result.1 ≡ true }
         ensures frames { has_frames result.0 (length told.new.frames) ≡ true }
         ensures words { SaysWords line.entry.text.now result.1 }
@@ -239,7 +239,7 @@ impl FormReader {
         told: &mut Told,
     ) -> (Kind, Reason)
         requires { told.old.frames ≡ [] }
-        ensures told { TellsMessage self.old heard result.0 told.new.frames }
+        ensures told { TellsMessage self.old.reading.message.items (length self.old.rows.places.items) heard result.0 told.new.frames }
         ensures reason { has_reason result.0 result.1 ≡ true }
         ensures frames { has_frames result.0 (length told.new.frames) ≡ true }
         ensures words { SaysWords line.entry.text.now result.1 }
