@@ -1,5 +1,6 @@
 -- What is heard of a line, and what its verdict tells of that.
 use Rattle.std.proofs.Common.{◌≡◌, ℕ, ◌<◌, ◌≤◌, ◌∙◌, Bool, true, false, List, [], ◌∷◌, ◌++◌, Some, slice_get, sym, ap, subst, refl, arith, MatchBool, ◌||◌}
+use Rattle.fio_form.specs.Messages.{is_message}
 use Rattle.fio_form.specs.declared.form.LineForm.{LineForm}
 use Rattle.fio_rows.proofs.LineLaws.{read_right}
 use Rattle.fio_rows.specs.Laws.{SaysMessages}
@@ -9,7 +10,7 @@ use Rattle.fio_rows.specs.declared.said.Said.{Said}
 use Rattle.fio_rows.specs.declared.said.Said.TheVariants as said
 use Rattle.fio_rows.specs.declared.saying.Open.{Open}
 use Rattle.fio_rows.specs.declared.saying.Open.TheVariants as opens
-use Rattle.fio_log.specs.Heard.{HasRoom, KeepsFirst, Known, Tells, TellsEcho, TellsFrame, TellsMessage, TellsPart, TellsSaid, is_lost, is_of_echoes, known_of, lacks_octets}
+use Rattle.fio_log.specs.Heard.{HasRoom, KeepsFirst, Known, Tells, TellsEcho, TellsFrame, TellsMessage, TellsOnly, TellsPart, TellsSaid, is_lost, is_of_echoes, known_of, lacks_octets, says_octets}
 use Rattle.fio_log.specs.OwnTexts.{spells}
 use Rattle.fio_log.specs.declared.heading.LineAbove.{LineAbove}
 use Rattle.fio_log.specs.declared.by_forms.FormReader.{FormReader}
@@ -138,6 +139,34 @@ tells_no_part rows heard is_kept failed room = record {
   part = λ has. let wrong : false ≡ true = sym failed ∙ room has in absurd (cc);
   full = λ many. refl;
 }
+
+-- a message that ended and is told
+pub tells_only : (message : List ℕ) (frames : List (List ℕ)) (octets : List ℕ) (is_told : Bool) → octets ≡ message → is_told ≡ true
+    → (is_told ≡ true → frames ≡ octets ∷ []) → TellsOnly message kinds.Frames frames
+tells_only message frames octets is_told same is taken = record {
+  given = refl;
+  only = taken is ∙ ap (λ (one : List ℕ). one ∷ []) same;
+}
+
+-- a message that ended and is none
+pub tells_no_other : (message : List ℕ) (kind : Kind) (frames : List (List ℕ)) (octets : List ℕ) (is_told : Bool) → octets ≡ message
+    → is_told ≡ false → (spells octets ≡ true → is_told ≡ true) → is_message message ≡ true → TellsOnly message kind frames
+tells_no_other message kind frames octets is_told same failed room is =
+    let spelled : spells octets ≡ true = ap spells same ∙ is in
+    let wrong : false ≡ true = sym failed ∙ room spelled in
+    absurd (cc)
+
+-- a message that ended, by an equal one
+pub same_only : (one other : List ℕ) (kind : Kind) (frames : List (List ℕ)) → one ≡ other
+    → (is_message one ≡ true → TellsOnly one kind frames) → is_message other ≡ true → TellsOnly other kind frames
+same_only one other kind frames same tells is = rw same at (tells (ap is_message same ∙ is))
+
+-- a line that says octets is one of a form
+pub octets_not_other : (says : Said) → says_octets says ≡ true → says ≡ said.Other → ⊥
+octets_not_other says octets is = let wrong : false ≡ true = rw is at octets in absurd (cc)
+
+pub octets_not_damaged : (says : Said) → says_octets says ≡ true → says ≡ said.Damaged → ⊥
+octets_not_damaged says octets is = let wrong : false ≡ true = rw is at octets in absurd (cc)
 
 -- a frame behind others
 pub first_stays : (frames : List (List ℕ)) (more : List ℕ) → KeepsFirst frames (frames ++ more ∷ [])

@@ -1,5 +1,5 @@
 -- What is heard of a line by the forms, and what its verdict tells of that.
-use Rattle.std.specs.Prelude.{◌≡◌, ℕ, ◌<◌, ◌≤◌, ◌==◌, ◌&&◌, ◌||◌, nat_le, Bool, true, false, MatchBool, List, length, drop, Option, Some, None, slice_get}
+use Rattle.std.specs.Prelude.{◌≡◌, ℕ, ◌<◌, ◌≤◌, ◌==◌, ◌&&◌, ◌||◌, nat_le, Bool, true, false, MatchBool, List, [], ◌∷◌, length, drop, Option, Some, None, slice_get}
 use Rattle.std.specs.List.{list_any}
 use Rattle.fio_form.specs.Messages.{is_message}
 use Rattle.fio_form.specs.declared.form.LineForm.{LineForm}
@@ -22,16 +22,6 @@ use Rattle.fio_log.specs.declared.verdict.Kind.TheVariants as kinds
 abbrev pub has_nul : List ℕ → Bool
 has_nul octets = list_any (λ octet. octet == 0) octets
 
--- What was heard of a line, below what was known: what the forms say of it, if it is not too long and no part of it is gone. A
--- message that it says is one, and so is what may end with it.
-pub record HasHeard (forms : List LineForm) (text : Text) (before : Reading) (heard : LineHeard) (after : Reading) : Type 0 where
-  pub long : heard.is_long ≡ text.is_long
-  pub gap : heard.has_gap ≡ has_nul text.octets
-  pub exact : heard.is_long ≡ false → heard.has_gap ≡ false → rows_of heard.said.said after
-      ≡ read_in forms text.octets (drop heard.said.found.end text.octets) (state_of before)
-  pub messages : SaysMessages (rows_of heard.said.said after)
-  pub form : heard.said.said ≡ said.Frame → heard.said.form < length forms
-
 -- whether a line says octets that are, or may become, messages
 abbrev pub says_octets : Said → Bool
 says_octets said.Frame = true
@@ -41,6 +31,16 @@ says_octets said.Idle = false
 says_octets said.Stray = false
 says_octets said.Damaged = false
 says_octets said.Other = false
+
+-- What was heard of a line, below what was known: what the forms say of it, if it is not too long and no part of it is gone. A
+-- message that it says is one, and so is what may end with it.
+pub record HasHeard (forms : List LineForm) (text : Text) (before : Reading) (heard : LineHeard) (after : Reading) : Type 0 where
+  pub long : heard.is_long ≡ text.is_long
+  pub gap : heard.has_gap ≡ has_nul text.octets
+  pub exact : heard.is_long ≡ false → heard.has_gap ≡ false → rows_of heard.said.said after
+      ≡ read_in forms text.octets (drop heard.said.found.end text.octets) (state_of before)
+  pub messages : SaysMessages (rows_of heard.said.said after)
+  pub form : says_octets heard.said.said ≡ true → heard.said.form < length forms
 
 -- whether a form, if there is one, has digits that go on behind its octets
 abbrev pub is_odd_by : Option LineForm → List ℕ → Bool
@@ -145,6 +145,16 @@ abbrev pub Tells : Known → List ℕ → LineHeard → Kind → List (List ℕ)
 Tells known line heard kind frames = MatchBool (is_lost known.forms line heard)
     (kind ≡ kinds.Damaged)
     (TellsSaid heard.said.said known heard kind frames)
+
+-- the message of any length that ended, with the log or above the line that was heard last
+abbrev pub ended_by : Bool → Reading → List ℕ
+ended_by true reading = reading.message.items
+ended_by false reading = reading.ended.items
+
+-- A message is the only frame.
+pub record TellsOnly (message : List ℕ) (kind : Kind) (frames : List (List ℕ)) : Type 0 where
+  pub given : kind ≡ kinds.Frames
+  pub only : frames ≡ message ∷ []
 
 -- The first frame stays.
 abbrev pub KeepsFirst : List (List ℕ) → List (List ℕ) → Type 0

@@ -1,9 +1,10 @@
 //! Lines read by the forms that are known.
 ghost use Rattle.std.specs.Prelude.{◌≡◌, ◌<◌, ℕ, List, [], ◌∷◌, drop, length, true, false};
 ghost use Rattle.fio_rows.specs.Laws.{SaysMessages};
-ghost use Rattle.fio_rows.specs.Lines.{read_in};
+ghost use Rattle.fio_form.specs.Messages.{is_message};
+ghost use Rattle.fio_rows.specs.Lines.{is_message_whole, read_in};
 ghost use Rattle.fio_rows.specs.Rows.{rows_of, state_of};
-ghost use Rattle.fio_log.specs.Heard.{HasHeard};
+ghost use Rattle.fio_log.specs.Heard.{HasHeard, TellsOnly, ended_by, says_octets};
 ghost use Rattle.fio_log.specs.Knowing.{SaysOf};
 ghost use Rattle.fio_log.specs.Lines.{Text};
 ghost use Rattle.fio_log.specs.OwnTexts.{spells};
@@ -234,7 +235,7 @@ impl FormReader {
     fn hear_text(&mut self, text: &[u8], is_read: bool) -> LineSaid
         ensures exact { is_read ≡ true → rows_of result.said self.new.reading ≡ read_in self.old.forms.items text.now (drop result.found.end text.now) (state_of self.old.reading) }
         ensures messages { SaysMessages (rows_of result.said self.new.reading) }
-        ensures form { result.said ≡ Said.Frame → result.form < length self.old.forms.items }
+        ensures form { says_octets result.said ≡ true → result.form < length self.old.forms.items }
         ensures kept { self.new ≡ record self.old { reading = self.new.reading } }
     {
         if is_read {
@@ -264,14 +265,13 @@ impl FormReader {
         is_end: bool,
         told: &mut Told,
     ) -> LineVerdict
+        ensures told { is_message (ended_by is_end self.old.reading) ≡ true
+            → TellsOnly (ended_by is_end self.old.reading) result.kind told.new.frames }
         ensures agrees { Agrees result (length told.new.frames) }
         ensures said { (text : Text) → SaysOf text result }
     {
-        let is_told = if is_end {
-            take_message(&self.reading.message, &self.rows, &mut self.last, told)
-        } else {
-            take_message(&self.reading.ended, &self.rows, &mut self.last, told)
-        };
+        let message = ended_message(&self.reading, is_end);
+        let is_told = take_message(message, &self.rows, &mut self.last, told);
         if !is_told {
             return LineVerdict {
                 kind: Kind::Damaged,
@@ -291,6 +291,8 @@ impl FormReader {
     /// Tells the messages that end with the log, if there are any, in the verdict on its last line, whose frames are told.
     pub(crate) fn tell_end(&mut self, last: LineVerdict, told: &mut Told) -> LineVerdict
         requires { Agrees last (length told.old.frames) }
+        ensures told { is_message_whole self.old.reading.pending ≡ true → is_message self.old.reading.message.items ≡ true
+            → TellsOnly self.old.reading.message.items result.kind told.new.frames }
         ensures agrees { Agrees result (length told.new.frames) }
         ensures said { (text : Text) → SaysOf text last → SaysOf text result }
     {
@@ -329,6 +331,17 @@ fn reason_of_frames(verdict: LineVerdict) -> Reason
         Reason::More => Reason::More,
         Reason::Broken => Reason::Broken,
         _ => Reason::None,
+    }
+}
+
+/// Returns the message of any length that ended, with the log or above the line that was heard last.
+fn ended_message(reading: &Reading, is_end: bool) -> &[u8]
+    ensures { result.now ≡ ended_by is_end reading.now }
+{
+    if is_end {
+        reading.message.as_slice()
+    } else {
+        reading.ended.as_slice()
     }
 }
 
