@@ -1,5 +1,5 @@
 -- What is heard of a line, and what its verdict tells of that.
-use Rattle.std.proofs.Common.{◌≡◌, ℕ, ◌<◌, ◌≤◌, ◌∙◌, Bool, true, false, List, [], ◌∷◌, ◌++◌, Some, slice_get, sym, ap, subst, refl, arith, MatchBool, ◌||◌}
+use Rattle.std.proofs.Common.{◌≡◌, ℕ, ◌∙◌, Bool, true, false, List, [], ◌∷◌, ◌++◌, Some, slice_get, sym, ap, subst, refl, arith, MatchBool, ◌||◌}
 use Rattle.fio_form.specs.Messages.{is_message}
 use Rattle.fio_form.specs.declared.form.LineForm.{LineForm}
 use Rattle.fio_rows.proofs.LineLaws.{read_right}
@@ -10,7 +10,7 @@ use Rattle.fio_rows.specs.declared.said.Said.{Said}
 use Rattle.fio_rows.specs.declared.said.Said.TheVariants as said
 use Rattle.fio_rows.specs.declared.saying.Open.{Open}
 use Rattle.fio_rows.specs.declared.saying.Open.TheVariants as opens
-use Rattle.fio_log.specs.Heard.{HasRoom, KeepsFirst, Known, Tells, TellsEcho, TellsFrame, TellsMessage, TellsOnly, TellsPart, TellsSaid, is_lost, is_of_echoes, known_of, lacks_octets, says_octets}
+use Rattle.fio_log.specs.Heard.{HasRowRoom, KeepsFirst, Known, Tells, TellsEcho, TellsFrame, TellsMessage, TellsOnly, TellsPart, TellsSaid, is_lost, is_of_echoes, known_of, lacks_octets, says_octets}
 use Rattle.fio_log.specs.OwnTexts.{spells}
 use Rattle.fio_log.specs.declared.heading.LineAbove.{LineAbove}
 use Rattle.fio_log.specs.declared.by_forms.FormReader.{FormReader}
@@ -97,7 +97,7 @@ tells_own known heard kind frames own tells = by_false _ _ _ own tells
 
 -- a message without room for its row
 pub tells_no_room : (message : List ℕ) (rows : ℕ) (heard : LineHeard) (frames : List (List ℕ)) (is_kept : Bool) → is_kept ≡ false
-    → (HasRoom rows heard → is_kept ≡ true) → TellsMessage message rows heard kinds.Damaged frames
+    → (HasRowRoom rows heard → is_kept ≡ true) → TellsMessage message rows heard kinds.Damaged frames
 tells_no_room message rows heard frames is_kept failed room = record {
   given = λ is has. let wrong : false ≡ true = sym failed ∙ room has in absurd (cc);
   first = λ is. absurd (cc);
@@ -118,7 +118,7 @@ tells_none message rows heard frames octets is_taken same failed room = record {
 
 -- a message that is told
 pub tells_message : (message : List ℕ) (rows : ℕ) (heard : LineHeard) (before frames : List (List ℕ)) (octets : List ℕ)
-    → octets ≡ message → HasRoom rows heard → before ≡ octets ∷ [] → KeepsFirst before frames
+    → octets ≡ message → HasRowRoom rows heard → before ≡ octets ∷ [] → KeepsFirst before frames
     → TellsMessage message rows heard kinds.Frames frames
 tells_message message rows heard before frames octets same room taken keeps = record {
   given = λ is has. refl;
@@ -129,11 +129,11 @@ tells_message message rows heard before frames octets same room taken keeps = re
 }
 
 -- a part
-pub tells_part : (rows : ℕ) (heard : LineHeard) → HasRoom rows heard → TellsPart rows heard kinds.Part
+pub tells_part : (rows : ℕ) (heard : LineHeard) → HasRowRoom rows heard → TellsPart rows heard kinds.Part
 tells_part rows heard room = record { part = λ has. refl; full = λ many. absurd (omega (arith, room many.0, many.1)) }
 
 -- a part without room for its row
-pub tells_no_part : (rows : ℕ) (heard : LineHeard) (is_kept : Bool) → is_kept ≡ false → (HasRoom rows heard → is_kept ≡ true)
+pub tells_no_part : (rows : ℕ) (heard : LineHeard) (is_kept : Bool) → is_kept ≡ false → (HasRowRoom rows heard → is_kept ≡ true)
     → TellsPart rows heard kinds.Damaged
 tells_no_part rows heard is_kept failed room = record {
   part = λ has. let wrong : false ≡ true = sym failed ∙ room has in absurd (cc);

@@ -5,7 +5,7 @@ use Rattle.fio_form.specs.Messages.{is_message}
 use Rattle.fio_form.specs.declared.form.LineForm.{LineForm}
 use Rattle.fio_rows.specs.Laws.{SaysMessages}
 use Rattle.fio_rows.specs.Lines.{read_in}
-use Rattle.fio_rows.specs.Rows.{Rows, rows_of, state_of}
+use Rattle.fio_rows.specs.Rows.{rows_of, state_of}
 use Rattle.fio_rows.specs.declared.rows.Reading.{Reading}
 use Rattle.fio_rows.specs.declared.said.LineSaid.{LineSaid}
 use Rattle.fio_rows.specs.declared.said.Said.{Said}
@@ -34,7 +34,7 @@ says_octets said.Other = false
 
 -- What was heard of a line, below what was known: what the forms say of it, if it is not too long and no part of it is gone. A
 -- message that it says is one, and so is what may end with it.
-pub record HasHeard (forms : List LineForm) (text : Text) (before : Reading) (heard : LineHeard) (after : Reading) : Type 0 where
+pub record IsHeardOf (forms : List LineForm) (text : Text) (before : Reading) (heard : LineHeard) (after : Reading) : Type 0 where
   pub long : heard.is_long ≡ text.is_long
   pub gap : heard.has_gap ≡ has_nul text.octets
   pub exact : heard.is_long ≡ false → heard.has_gap ≡ false → rows_of heard.said.said after
@@ -83,12 +83,12 @@ known_of reader = record {
 }
 
 -- There is room for the place of a line, below those of the rows that it goes on with.
-abbrev pub HasRoom : ℕ → LineHeard → Type 0
-HasRoom rows heard = heard.goes_on ≡ true → rows < ROWS
+abbrev pub HasRowRoom : ℕ → LineHeard → Type 0
+HasRowRoom rows heard = heard.goes_on ≡ true → rows < ROWS
 
 -- There is none.
-abbrev pub HasNoRoom : ℕ → LineHeard → Type 0
-HasNoRoom rows heard = (heard.goes_on ≡ true) × (ROWS ≤ rows)
+abbrev pub HasNoRowRoom : ℕ → LineHeard → Type 0
+HasNoRowRoom rows heard = (heard.goes_on ≡ true) × (ROWS ≤ rows)
 
 -- An echo is passed over if it is the last frame, and damaged if it is not.
 pub record TellsEcho (message last : List ℕ) (kind : Kind) : Type 0 where
@@ -97,14 +97,14 @@ pub record TellsEcho (message last : List ℕ) (kind : Kind) : Type 0 where
 
 -- A message is the first frame of its line, if there is room for the places of its rows.
 pub record TellsMessage (message : List ℕ) (rows : ℕ) (heard : LineHeard) (kind : Kind) (frames : List (List ℕ)) : Type 0 where
-  pub given : is_message message ≡ true → HasRoom rows heard → kind ≡ kinds.Frames
+  pub given : is_message message ≡ true → HasRowRoom rows heard → kind ≡ kinds.Frames
   pub first : kind ≡ kinds.Frames → slice_get frames 0 ≡ Some message
-  pub full : HasNoRoom rows heard → kind ≡ kinds.Damaged
+  pub full : HasNoRowRoom rows heard → kind ≡ kinds.Damaged
 
 -- Octets that may go on are a part, if there is room for the place of the line.
 pub record TellsPart (rows : ℕ) (heard : LineHeard) (kind : Kind) : Type 0 where
-  pub part : HasRoom rows heard → kind ≡ kinds.Part
-  pub full : HasNoRoom rows heard → kind ≡ kinds.Damaged
+  pub part : HasRowRoom rows heard → kind ≡ kinds.Part
+  pub full : HasNoRowRoom rows heard → kind ≡ kinds.Damaged
 
 -- whether a line of a stream may be of a kind
 abbrev pub is_of_stream : Kind → Bool
@@ -147,9 +147,9 @@ Tells known line heard kind frames = MatchBool (is_lost known.forms line heard)
     (TellsSaid heard.said.said known heard kind frames)
 
 -- the message of any length that ended, with the log or above the line that was heard last
-abbrev pub ended_by : Bool → Reading → List ℕ
-ended_by true reading = reading.message.items
-ended_by false reading = reading.ended.items
+abbrev pub ended_message : Bool → Reading → List ℕ
+ended_message true reading = reading.message.items
+ended_message false reading = reading.ended.items
 
 -- A message is the only frame.
 pub record TellsOnly (message : List ℕ) (kind : Kind) (frames : List (List ℕ)) : Type 0 where

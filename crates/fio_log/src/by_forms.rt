@@ -4,7 +4,7 @@ ghost use Rattle.fio_rows.specs.Laws.{SaysMessages};
 ghost use Rattle.fio_form.specs.Messages.{is_message};
 ghost use Rattle.fio_rows.specs.Lines.{is_message_whole, read_in};
 ghost use Rattle.fio_rows.specs.Rows.{rows_of, state_of};
-ghost use Rattle.fio_log.specs.Heard.{HasHeard, TellsOnly, ended_by, says_octets};
+ghost use Rattle.fio_log.specs.Heard.{IsHeardOf, TellsOnly, ended_message, says_octets};
 ghost use Rattle.fio_log.specs.Knowing.{SaysOf};
 ghost use Rattle.fio_log.specs.Lines.{Text};
 ghost use Rattle.fio_log.specs.OwnTexts.{spells};
@@ -211,7 +211,7 @@ impl FormReader {
 
     /// Hears what a line says, after the line above it.
     pub(crate) fn hear(&mut self, line: NumberedLine) -> LineHeard
-        ensures heard { HasHeard self.old.forms.items (record { octets = line.entry.text.now; is_long = line.entry.is_long }) self.old.reading result self.new.reading }
+        ensures heard { IsHeardOf self.old.forms.items (record { octets = line.entry.text.now; is_long = line.entry.is_long }) self.old.reading result self.new.reading }
         ensures kept { self.new ≡ record self.old { reading = self.new.reading } }
     {
         let was_open = self.reading.is_open();
@@ -265,8 +265,8 @@ impl FormReader {
         is_end: bool,
         told: &mut Told,
     ) -> LineVerdict
-        ensures told { is_message (ended_by is_end self.old.reading) ≡ true
-            → TellsOnly (ended_by is_end self.old.reading) result.kind told.new.frames }
+        ensures told { is_message (ended_message is_end self.old.reading) ≡ true
+            → TellsOnly (ended_message is_end self.old.reading) result.kind told.new.frames }
         ensures agrees { Agrees result (length told.new.frames) }
         ensures said { (text : Text) → SaysOf text result }
     {
@@ -336,7 +336,7 @@ fn reason_of_frames(verdict: LineVerdict) -> Reason
 
 /// Returns the message of any length that ended, with the log or above the line that was heard last.
 fn ended_message(reading: &Reading, is_end: bool) -> &[u8]
-    ensures { result.now ≡ ended_by is_end reading.now }
+    ensures { result.now ≡ ended_message is_end reading.now }
 {
     if is_end {
         reading.message.as_slice()

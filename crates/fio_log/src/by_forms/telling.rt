@@ -1,7 +1,7 @@
 //! Verdicts on lines that were heard.
-ghost use Rattle.std.specs.Prelude.{◌≡◌, ◌<◌, ◌≤◌, ◌↔◌, ℕ, List, [], IsTrue, length, true, false, slice_get};
+ghost use Rattle.std.specs.Prelude.{◌≡◌, ◌≤◌, ◌↔◌, ℕ, List, [], IsTrue, length, true, slice_get};
 ghost use Rattle.fio_log.specs.Blanks.{is_blank_line};
-ghost use Rattle.fio_log.specs.Heard.{HasRoom, KeepsFirst, Tells, TellsEcho, TellsFrame, TellsMessage, TellsSaid, is_of_echoes, is_of_others, known_of, lacks_octets};
+ghost use Rattle.fio_log.specs.Heard.{HasRowRoom, KeepsFirst, Tells, TellsEcho, TellsFrame, TellsMessage, TellsSaid, is_of_echoes, is_of_others, known_of, lacks_octets};
 ghost use Rattle.fio_log.specs.Verdicts.{Agrees, has_frames, has_reason};
 ghost use Rattle.fio_log.specs.Wordings.{SaysWords};
 
@@ -169,7 +169,7 @@ impl FormReader {
 
     /// Takes the row of a message that a line has; returns whether there was room.
     fn take_row(&mut self, number: u64, heard: LineHeard, said: Heading) -> bool
-        ensures room { IsTrue result ↔ HasRoom (length self.old.rows.places.items) heard }
+        ensures room { IsTrue result ↔ HasRowRoom (length self.old.rows.places.items) heard }
         ensures kept { self.new ≡ record self.old { rows = self.new.rows; begun = self.new.begun } }
     {
         if !heard.goes_on {
