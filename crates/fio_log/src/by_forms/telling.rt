@@ -1,5 +1,5 @@
 //! Verdicts on lines that were heard.
-ghost use Rattle.std.specs.Prelude.{◌≡◌, ◌≤◌, ◌↔◌, ℕ, List, [], IsTrue, length, true, slice_get};
+ghost use Rattle.std.specs.Prelude.{◌≡◌, ◌<◌, ◌≤◌, ◌↔◌, ℕ, List, [], IsTrue, length, true, false, slice_get};
 ghost use Rattle.fio_log.specs.Blanks.{is_blank_line};
 ghost use Rattle.fio_log.specs.Heard.{HasRowRoom, KeepsFirst, Tells, TellsEcho, TellsFrame, TellsMessage, TellsSaid, is_of_echoes, is_of_others, known_of, lacks_octets};
 ghost use Rattle.fio_log.specs.Verdicts.{Agrees, has_frames, has_reason};
