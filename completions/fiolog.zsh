@@ -35,7 +35,8 @@ _fiolog() {
             {-q,--quiet}'[write only errors to standard error]') ;|
     decode|check|stats|convert|record|live)
         specs+=(
-            '--address[the address of the frames of a line that are judged (14), with or without the control octet (1483), or any]:hex:'
+            '--address[the address of the frames of a line that are judged (14), with or without the control octet (1483), several (14,15), or any]:hex:'
+            '--like[a line with a message as this log writes it, such as "TX 36 05", or @FILE for such lines; may be given again]:line:'
             {-v,--verbose}'[name each line that is skipped, and why]') ;|
     decode)
         specs+=(

@@ -3,9 +3,9 @@
  *
  * The field I/O transition link of the Model 2070: the header of fio2070.c.
  *
- * Sources: dece6ac3a6dcb9b826b5160d819defc0a70b14a07d74b7df07b88a773cf38672 (SHA-256; packaging/release-files --sources)
+ * Sources: e7722a7f7ab80a6a2bf1a794f57d054c7cbca36f62cbdb13cc00b7aa4fb61b16 (SHA-256; packaging/release-files --sources)
  * Kit: rattle-kit-13f logic dac8208d650f15bf
- * Proof: logic=proved functions=219 target=wasm64-unknown-unknown sum=dac8208d650f15bf native=nat,char,string
+ * Proof: logic=proved functions=225 target=wasm64-unknown-unknown sum=dac8208d650f15bf native=nat,char,string
  * Made by `make release-files`: do not edit.
  *
  * Proved is the module of which fio2070.c was made, for wasm64: each call does what fio2070.h says for all octets,
@@ -1037,7 +1037,8 @@ uint8_t fio2070_judge_heard(struct fio2070_judge *judge, const uint8_t *octets, 
 
 /** @defgroup log Logs
  * A struct fio2070_log_reader finds the messages in a log of a serial monitor, an analyser or a driver (docs/CAPTURES.md). It
- * says of each line what it is, and returns the frames in it and where they are written. Give it all octets, in pieces of any
+ * learns from a window of lines in which forms the log writes octets, and then reads each line by these forms. It says of each
+ * line what it is, and returns the frames that end in it and where they are written. Give it all octets, in pieces of any
  * length; then end the log, and call it with none until a batch has no verdict. If FIO2070_NO_LOG is defined, there are no
  * such calls.
  * @code
@@ -1062,7 +1063,7 @@ uint8_t fio2070_judge_heard(struct fio2070_judge *judge, const uint8_t *octets, 
 #ifndef FIO2070_NO_LOG
 /** How the lines of a log are read. By order a line is read without what is no character of it, and also ends at CR. */
 enum fio2070_log_form {
-    FIO2070_LOG_AUTO = 0,      /**< by the definition of docs/CAPTURES.md */
+    FIO2070_LOG_AUTO = 0,      /**< by the forms that the log shows (docs/CAPTURES.md) */
     FIO2070_LOG_FRAMES = 1,    /**< as `fio2070 show` reads its lines */
     FIO2070_LOG_TRANSCRIPT = 2 /**< as `fio2070 check` reads its lines */
 };
@@ -1070,28 +1071,26 @@ enum fio2070_log_form {
 /** What a line of a log is. */
 enum fio2070_log_kind {
     FIO2070_LOG_BLANK = 0,      /**< it has nothing but blanks; by order: it is empty or begins with `#` */
-    FIO2070_LOG_SAYS = 1,       /**< it says frames, with the lines below that go on with it */
-    FIO2070_LOG_PART = 2,       /**< it has octets of the frames of a line above */
-    FIO2070_LOG_POSSIBLE = 3,   /**< it says a message, and nothing in the log confirms it */
-    FIO2070_LOG_DAMAGED = 4,    /**< it may have held a frame, and gives none; by order: each other that gives none */
+    FIO2070_LOG_SAYS = 1,       /**< frames end in it, or it shows that one has ended above */
+    FIO2070_LOG_PART = 2,       /**< it has octets of a frame that ends in a line below */
+    FIO2070_LOG_POSSIBLE = 3,   /**< no form has it, and it has octets that may be a message; it gives no frame */
+    FIO2070_LOG_DAMAGED = 4,    /**< a form has it, and it gives no frame; by order: each other that gives none */
     FIO2070_LOG_PASSED_OVER = 5 /**< it is none of these */
 };
 
-/** Why a line gives no frame. */
+/** Why a line gives no frame, or what else is in a line that does. */
 enum fio2070_log_reason {
-    FIO2070_LOG_NO_REASON = 0,        /**< it does, or it is blank */
-    FIO2070_LOG_NO_OCTETS = 1,        /**< it has no octets */
-    FIO2070_LOG_NO_MESSAGE = 2,       /**< its octets are no message */
-    FIO2070_LOG_SHORT_MESSAGE = 3,    /**< a short message in a line unlike those of other messages */
-    FIO2070_LOG_SEVERAL_MESSAGES = 4, /**< it says more than one message */
-    FIO2070_LOG_MAY_BE_LONGER = 5,    /**< it may be one message with the line below or above, or one by itself */
-    FIO2070_LOG_TOO_LONG = 6,         /**< it is longer than a line, or than the octets of several lines, that are kept */
-    FIO2070_LOG_BAD_LINE = 7,         /**< it is no line of the text that it is read as by order */
-    FIO2070_LOG_EXCHANGED = 8,        /**< its octets are a message with a count if those of each pair are exchanged */
-    FIO2070_LOG_TWO_MORE = 9,         /**< its octets are a message with a count but for two at one end */
-    FIO2070_LOG_LOSS = 10,            /**< it has no octets, and its words speak of loss: an answer may be missing here */
-    FIO2070_LOG_HEADING = 11,         /**< it says no message, and is the heading of a log or of a part of one */
-    FIO2070_LOG_ONE_LESS = 12         /**< its octets are a message with a count but for one missing at their end */
+    FIO2070_LOG_NO_REASON = 0,  /**< it gives frames and nothing else, or is blank, or a part */
+    FIO2070_LOG_NO_OCTETS = 1,  /**< it has no octets in the notation of a form */
+    FIO2070_LOG_NO_MESSAGE = 2, /**< its octets are no message */
+    FIO2070_LOG_NO_FORM = 3,    /**< no form has it, and it has octets that may be a message */
+    FIO2070_LOG_MORE = 4,       /**< beside its frames it has octets that may be a message */
+    FIO2070_LOG_TOO_LONG = 6,   /**< it is longer than a line, or than the octets of several lines, that are kept */
+    FIO2070_LOG_BAD_LINE = 7,   /**< it is no line of the text that it is read as by order */
+    FIO2070_LOG_LOSS = 10,      /**< it has no octets, and its words speak of loss: an answer may be missing here */
+    FIO2070_LOG_HEADING = 11,   /**< it says no message, and is the heading of a log or of a part of one */
+    FIO2070_LOG_COPY = 13,      /**< it repeats the frame above it */
+    FIO2070_LOG_BROKEN = 14     /**< the message of the lines above is not whole, and does not go on in it */
 };
 
 /** Who sent the octets of a line, as the line says: by its last word or arrow before them that says it. */
@@ -1121,12 +1120,22 @@ struct fio2070_log_verdict {
     /** Who sent the octets of the frames, as the line says: one of `FIO2070_LOG_NO_SIDE` and those after
      *  it. */
     uint8_t said;
-    /** 0 in each octet that the library writes. */
-    uint8_t reserved[4];
+    /** The address of its frames, which stands before their messages, if all have one and the same; else
+     *  0. */
+    uint8_t address;
+    /** The control octet, which stands behind the address; of a line with `foreign` 55, 180 or 181 how
+     *  many octets of inputs or of outputs it has; else 0. */
+    uint8_t control;
+    /** How many of these there are: 0, 1 for the address alone, or 2. */
+    uint8_t header;
+    /** The type of the message that the line has in place of frames, if this protocol has none of that
+     *  type; or 55, 180 or 181, if it is of a module of another size, with 1 to 32 octets of inputs or of
+     *  outputs other than 8; else 0. */
+    uint8_t foreign;
 };
 
-/** Where octets are written in a log. A line is counted in octets, those of UTF-8; colour sequences, NUL and byte order marks
- * are none of them. */
+/** Where octets are written in a log. A line is counted in octets, those of UTF-8; colour sequences, NULs by themselves and
+ * byte order marks are none of them. */
 struct fio2070_log_place {
     /** The number of the line, from 1. */
     uint64_t line;
@@ -1165,23 +1174,62 @@ struct fio2070_log_reader {
 /** Begins a log, in a form of `enum fio2070_log_form`; any other number is FIO2070_LOG_AUTO. */
 void fio2070_log_start(struct fio2070_log_reader *reader, uint8_t form);
 /** Takes octets of the log until all are taken or `batch` has no room for another verdict, and returns how many it took. The
- * log is cut into pieces anywhere. The batch then has the verdicts that were due, each line's once and in order: a line gets
- * its verdict as soon as it is decided, which can be lines later. Each of its frames is a message. Call it again with the
- * octets that were not taken. What the batch held before is overwritten.
+ * log is cut into pieces anywhere. The batch then has the verdicts that were due, each line's once and in order. The first
+ * verdicts wait until the log shows its forms, at most for 1,024 lines or 64 KiB; later ones for the line below, if that shows
+ * whether a message has ended. A frame over several lines is in the verdict of its last line, or of the line that shows its
+ * end, with places in the lines above. Each frame is a message. Call it again with the octets that were not taken. What the
+ * batch held before is overwritten.
  *
  * After fio2070_log_end it takes no octets until it has given each verdict. Octets then begin a new log of the same form,
  * whose lines are counted from 1.
  *
  * Proved are: which lines the octets make that it takes; that the verdicts in a batch are those of the next lines, each once
- * and in order, with all their frames and places; that the octets of each frame are a message and are written at its
- * places; that a line with the reason FIO2070_LOG_LOSS or FIO2070_LOG_HEADING has such words; and that a new log begins as
- * said. How many octets it takes, when a verdict is due and what else it says are tested. */
+ * and in order, with all their frames and places; that the octets of each frame are a message; that a line with the reason
+ * FIO2070_LOG_LOSS or FIO2070_LOG_HEADING has such words; and that a new log begins as said. How many octets it takes, when a
+ * verdict is due and what else it says are tested. */
 FIO2070_MUST_USE
 size_t fio2070_log_read(struct fio2070_log_reader *reader, const uint8_t *octets, size_t length,
                         struct fio2070_log_batch *batch);
 /** Ends the log: octets after the last line end are its last line. `fio2070_log_read` with no octets then gives the verdicts
  * that are left; call it until it gives none. A verdict that was due before stays as it was. */
 void fio2070_log_end(struct fio2070_log_reader *reader);
+
+/** Lines of one form: what is before their octets, and how many there are. */
+struct fio2070_log_read_as {
+    /** The number of the first line that was read by it, from 1; 0 if there was none. */
+    uint64_t from;
+    /** How many lines it had. */
+    uint64_t lines;
+    /** How many of these were damaged. */
+    uint64_t damaged;
+    /** Whether its frames repeat those above them, and are not judged. */
+    uint8_t is_echo;
+    /** How many characters `front` has. */
+    uint8_t front_length;
+    /** 0 in each octet. */
+    uint8_t reserved[6];
+    /** The text before the octets of the first line that was read by it, or its end. */
+    uint8_t front[120];
+};
+
+/** The forms by which a log is read, in their order: a line is read by the first one that has it. */
+struct fio2070_log_form_list {
+    /** How many forms there are. */
+    uint32_t count;
+    /** 0 in each octet. */
+    uint8_t reserved[4];
+    /** The forms, at the front. */
+    struct fio2070_log_read_as forms[16];
+};
+
+/** Writes by which forms the lines are read that have a verdict, and how many each has. */
+void fio2070_log_forms(const struct fio2070_log_reader *reader, struct fio2070_log_form_list *forms);
+/** Learns forms from sample lines, such as `TX 36 05`, each with a message or as the log writes one over several lines. The log
+ * is then read by them from its first line on; forms that it shows itself are added. Returns how many forms the samples show,
+ * which are in a log of these lines alone: 0 if they show none, the log has begun, or it is read by order. Call it after
+ * fio2070_log_start. */
+FIO2070_MUST_USE
+uint32_t fio2070_log_like(struct fio2070_log_reader *reader, const uint8_t *octets, size_t length);
 #endif
 
 /** @} */
@@ -1253,10 +1301,11 @@ struct fio2070_log_judge {
  * FIO2070_LOG_BEGINS_WITH_ENDS can accuse a right link in a log that begins elsewhere. FIO2070_LOG_LEAVES_OUT_LATE is for a log that was taken at the CPU's end. */
 FIO2070_MUST_USE
 uint8_t fio2070_log_judge_start(struct fio2070_log_judge *judge, struct fio2070_limits limits, uint8_t place, uint8_t start);
-/** Takes a line that may have held a frame, such as a damaged one: up to the next poll nothing is judged. */
+/** Takes a line that may have held a frame, such as a damaged one: up to the next poll nothing is judged. Call it also for the heading
+ * of a part of the log (FIO2070_LOG_HEADING) below a frame; above the first frame a heading says nothing. */
 void fio2070_log_judge_lose(struct fio2070_log_judge *judge);
-/** Takes a line that says a message which nothing confirms (FIO2070_LOG_POSSIBLE), or the heading of a part of the log
- * (FIO2070_LOG_HEADING): below a frame it does what `fio2070_log_judge_lose` does; above the first frame nothing. */
+/** Takes a line that no form has and that may be a message (FIO2070_LOG_POSSIBLE): below a frame, and in a log that begins with both
+ * ends, it does what `fio2070_log_judge_lose` does; above the first frame of another log nothing. */
 void fio2070_log_judge_possible(struct fio2070_log_judge *judge);
 /** Takes a line without octets that speaks of loss. If a frame down to and with the next poll or block answer breaks `pair`,
  * `number` or `advance`, or the next block answer breaks `same`, sync is lost above it instead. No other breach is excused, on
@@ -1823,7 +1872,10 @@ FIO2070_SAME(log_verdict, sizeof(struct fio2070_log_verdict) == 32 &&
              offsetof(struct fio2070_log_verdict, reason) == 25 &&
              offsetof(struct fio2070_log_verdict, has_time) == 26 &&
              offsetof(struct fio2070_log_verdict, said) == 27 &&
-             offsetof(struct fio2070_log_verdict, reserved) == 28);
+             offsetof(struct fio2070_log_verdict, address) == 28 &&
+             offsetof(struct fio2070_log_verdict, control) == 29 &&
+             offsetof(struct fio2070_log_verdict, header) == 30 &&
+             offsetof(struct fio2070_log_verdict, foreign) == 31);
 
 FIO2070_SAME(log_place, sizeof(struct fio2070_log_place) == 16 &&
              offsetof(struct fio2070_log_place, start) == 8 &&
@@ -1837,6 +1889,18 @@ FIO2070_SAME(log_batch, sizeof(struct fio2070_log_batch) == 565264 &&
              offsetof(struct fio2070_log_batch, places) == 131088 &&
              offsetof(struct fio2070_log_batch, lengths) == 458768 &&
              offsetof(struct fio2070_log_batch, octets) == 499728);
+
+FIO2070_SAME(log_read_as, sizeof(struct fio2070_log_read_as) == 152 &&
+             offsetof(struct fio2070_log_read_as, lines) == 8 &&
+             offsetof(struct fio2070_log_read_as, damaged) == 16 &&
+             offsetof(struct fio2070_log_read_as, is_echo) == 24 &&
+             offsetof(struct fio2070_log_read_as, front_length) == 25 &&
+             offsetof(struct fio2070_log_read_as, reserved) == 26 &&
+             offsetof(struct fio2070_log_read_as, front) == 32);
+
+FIO2070_SAME(log_form_list, sizeof(struct fio2070_log_form_list) == 2440 &&
+             offsetof(struct fio2070_log_form_list, reserved) == 4 &&
+             offsetof(struct fio2070_log_form_list, forms) == 8);
 
 FIO2070_SAME(log_judge, sizeof(struct fio2070_log_judge) == 752);
 

@@ -3,9 +3,9 @@
  *
  * The field I/O transition link of the Model 2070: the header for C++17, above fio2070.h.
  *
- * Sources: dece6ac3a6dcb9b826b5160d819defc0a70b14a07d74b7df07b88a773cf38672 (SHA-256; packaging/release-files --sources)
+ * Sources: e7722a7f7ab80a6a2bf1a794f57d054c7cbca36f62cbdb13cc00b7aa4fb61b16 (SHA-256; packaging/release-files --sources)
  * Kit: rattle-kit-13f logic dac8208d650f15bf
- * Proof: logic=proved functions=219 target=wasm64-unknown-unknown sum=dac8208d650f15bf native=nat,char,string
+ * Proof: logic=proved functions=225 target=wasm64-unknown-unknown sum=dac8208d650f15bf native=nat,char,string
  * Made by `make release-files`: do not edit.
  *
  * Proved is the module of which fio2070.c was made, for wasm64: each call does what fio2070.h says for all octets,
@@ -458,6 +458,8 @@ public:
     explicit LogReader(::fio2070_log_form form = FIO2070_LOG_AUTO) {
         ::fio2070_log_start(&reader_, static_cast<std::uint8_t>(form));
     }
+    /// Learns forms from sample lines, before octets of the log are read, and returns how many: 0 if they show none.
+    std::uint32_t like(Octets samples) { return ::fio2070_log_like(&reader_, samples.data(), samples.size()); }
     /// Takes octets until all are taken or the batch has no room for another verdict, and returns how many it took. The batch
     /// then has the verdicts that were due. After the end, once each verdict was given, octets begin a new log of the same
     /// form, whose lines are counted from 1.
@@ -466,6 +468,12 @@ public:
     }
     /// Ends the log. Read no octets then, until the batch has no verdicts.
     void end() { ::fio2070_log_end(&reader_); }
+    /// By which forms the lines are read that have a verdict, in the order of the forms.
+    std::vector<::fio2070_log_read_as> forms() const {
+        ::fio2070_log_form_list found;
+        ::fio2070_log_forms(&reader_, &found);
+        return {found.forms, found.forms + found.count};
+    }
 
 private:
     ::fio2070_log_reader reader_;
@@ -484,9 +492,9 @@ public:
                                       static_cast<std::uint8_t>(begins)) != FIO2070_STARTED) judge.reset();
         return judge;
     }
-    /// A line may have held a frame, such as a damaged one.
+    /// A line may have held a frame, such as a damaged one; or below a frame another part of the log begins.
     void lose() { ::fio2070_log_judge_lose(&judge_); }
-    /// A line says a message which nothing confirms: below a frame it is as for `lose`.
+    /// A line says a message which nothing confirms: below a frame, or if the log begins with both ends, it is as for `lose`.
     void possible() { ::fio2070_log_judge_possible(&judge_); }
     /// A line without octets speaks of loss: nobody is accused of what a frame explains that is missing here.
     void miss() { ::fio2070_log_judge_miss(&judge_); }

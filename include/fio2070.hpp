@@ -443,6 +443,8 @@ public:
     explicit LogReader(::fio2070_log_form form = FIO2070_LOG_AUTO) {
         ::fio2070_log_start(&reader_, static_cast<std::uint8_t>(form));
     }
+    /// Learns forms from sample lines, before octets of the log are read, and returns how many: 0 if they show none.
+    std::uint32_t like(Octets samples) { return ::fio2070_log_like(&reader_, samples.data(), samples.size()); }
     /// Takes octets until all are taken or the batch has no room for another verdict, and returns how many it took. The batch
     /// then has the verdicts that were due. After the end, once each verdict was given, octets begin a new log of the same
     /// form, whose lines are counted from 1.
@@ -451,6 +453,12 @@ public:
     }
     /// Ends the log. Read no octets then, until the batch has no verdicts.
     void end() { ::fio2070_log_end(&reader_); }
+    /// By which forms the lines are read that have a verdict, in the order of the forms.
+    std::vector<::fio2070_log_read_as> forms() const {
+        ::fio2070_log_form_list found;
+        ::fio2070_log_forms(&reader_, &found);
+        return {found.forms, found.forms + found.count};
+    }
 
 private:
     ::fio2070_log_reader reader_;
@@ -469,9 +477,9 @@ public:
                                       static_cast<std::uint8_t>(begins)) != FIO2070_STARTED) judge.reset();
         return judge;
     }
-    /// A line may have held a frame, such as a damaged one.
+    /// A line may have held a frame, such as a damaged one; or below a frame another part of the log begins.
     void lose() { ::fio2070_log_judge_lose(&judge_); }
-    /// A line says a message which nothing confirms: below a frame it is as for `lose`.
+    /// A line says a message which nothing confirms: below a frame, or if the log begins with both ends, it is as for `lose`.
     void possible() { ::fio2070_log_judge_possible(&judge_); }
     /// A line without octets speaks of loss: nobody is accused of what a frame explains that is missing here.
     void miss() { ::fio2070_log_judge_miss(&judge_); }

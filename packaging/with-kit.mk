@@ -34,9 +34,9 @@ $(OUT)/aarch64/libfio2070.a: crates/fio_c/out/aarch64-unknown-linux-gnu/libfio_c
 	mkdir -p $(@D)
 	cp $< $@
 
-# Its stack has 64 KB, of which no call takes more than a sixth.
+# Its stack has 1 MB, of which no call takes more than half.
 $(module): crates/fio_c/out/$(wasm)/libfio_c.a
-	'$(kit_folder)/bin/rattle-link' --target $(wasm) --toolchain '$(kit_folder)/toolchain' --stack 65536 -o $@ $<
+	'$(kit_folder)/bin/rattle-link' --target $(wasm) --toolchain '$(kit_folder)/toolchain' --stack 1048576 -o $@ $<
 
 # The portable library: fio2070.c and fio2070.h, two files of C99 for any processor, with the C++ header
 # (tools/portable/README.md).

@@ -378,7 +378,7 @@ INSTALLED = [
     ('apt-get install -y --no-install-recommends ./packages/*.deb', ''),
     ('echo 3605 | fio2070 show', 'poll block 5'),
     ('fio2070 simulate </usr/share/doc/fio2070/examples/overflow.script', '22 block entries 255 status 0c'),
-    ("echo 'TX 36 05' | fiolog decode -q", '> poll block 5'),
+    ("echo 'TX 36 05' | fiolog decode -q --like 'TX 36 05'", '> poll block 5'),
     ('fio2070-test --self module 2000', ''),
     ('cc program.c -lfio2070 -o program && ./program && echo linked and run', 'linked and run'),
     ('ls /usr/share/man/man1/', 'fio2070-test.1.gz\nfio2070-tools.1.gz'),

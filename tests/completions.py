@@ -37,7 +37,7 @@ LINES = [
     ('fio2070 check --h\t', 'Usage: fio2070 check'),
     ('fio2070 --ver\t', 'fio2070 1.'),
     ('fiolog --vers\t', 'libfio2070 1.'),
-    ('fiolog capt\t-q', 'frames 1'),
+    ('fiolog capt\t-q', 'frames 2'),
     ('fiolog deco\t-q capt\t', '> poll block 5'),
     ('fiolog convert --to fra\tcapt\t', '3605'),
     ('fiolog stats --form\tfra\tcapt\t', 'answers lost'),
@@ -121,7 +121,7 @@ def main():
         install(prefix)
         os.mkdir(folder)
         with open(os.path.join(folder, 'captured.frames'), 'w', encoding='ascii') as frames:
-            frames.write('3605\n')
+            frames.write('3605\nB6050000000003E8\n')
         with open(os.path.join(folder, 'healthy.script'), 'w', encoding='ascii') as script:
             script.write('fio2070 script 1 2 0\n')
         for name in SHELLS:

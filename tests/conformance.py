@@ -311,8 +311,8 @@ def served(*words):
     return listener.getsockname()[1]
 
 
-# The milliseconds in which a line has to come that does come, also on a busy machine.
-PATIENT = '3000'
+# The milliseconds in which a line has to come that does come, also on a busy machine: after a hang, and where none hangs.
+PATIENT, LONG = '3000', '60000'
 
 
 def failing(tester, faulty, fault, asked, said):
@@ -395,11 +395,11 @@ def wires(check, room):
         done = subprocess.run([tester, *words, '--self', 'module', '10'], capture_output=True, text=True, check=False, timeout=60)
         check.equal('refused: ' + ' '.join(words), (2, 'a number is out of its range\n'), (done.returncode, done.stdout))
     over(check, 'wire: another identification', [tester, '--id', '3', '--command', adapter, '5000', '--first'], differs)
-    for name, command, fault in [('ends', 'read line', 'it ended'), ('is late', 'sleep 9', 'it wrote no line in time'),
-                                 ('says something else', "sed -u 's/.*/what/'", 'not `done`: what'),
-                                 ('says what is no text', r"LC_ALL=C sed -u 's/.*/\x1b[2J\xff/'", 'not `done`: ?[2J?')]:
-        over(check, 'wire: a module that ' + name, [tester, '--deadline', '300', '--command', command, '1000'], (3, fault))
-    over(check, 'wire: a module that writes for ever', [tester, '--deadline', '300', '--command', 'yes done', '1000'], differs)
+    for name, ms, command, fault in [('ends', LONG, 'read line', 'it ended'), ('is late', '300', 'sleep 9', 'it wrote no line in time'),
+                                     ('says something else', LONG, "sed -u 's/.*/what/'", 'not `done`: what'),
+                                     ('says what is no text', LONG, r"LC_ALL=C sed -u 's/.*/\x1b[2J\xff/'", 'not `done`: ?[2J?')]:
+        over(check, 'wire: a module that ' + name, [tester, '--deadline', ms, '--command', command, '1000'], (3, fault))
+    over(check, 'wire: a module that writes for ever', [tester, '--deadline', LONG, '--command', 'yes done 2>/dev/null', '1000'], differs)
     over(check, 'wire: a socket', [tester, '--socket', '127.0.0.1:%d' % served(adapter), '5000'], same)
     cpus_end(check, tester, python, faulty)
     if check.has_terminal('wire: a pseudo-terminal'):

@@ -12,6 +12,7 @@ from support.check import Check
 from support.fiolog import fiolog, use_library, written
 from support.frames import random_message
 from support.hostile_lines import hostile_bits, hostile_line
+from support.kinds import LITTLE
 from support.loggers import LOGGERS, hexdump, pairs, rows_of, xxd
 from support.sessions import random_session, timed
 
@@ -60,7 +61,7 @@ def fault_of_octets(count):
         line, size = hostile_octets(dice, 40), dice.choice((1, 3, 100, 1 << 20))
         address, control = dice.choice(((0x14, 0x83), (0x15, 0x83), (None, None)))
         due = due_of(model.said(line, *(model.ANY if number is None else number for number in (address, control))))
-        got = said_of(events_of(line, size, line='octets', address=(address, control)))
+        got = said_of(events_of(line, size, line='octets', address=[(address, control)]))
         if got != due:
             return line, got, due
     return None
@@ -229,30 +230,36 @@ def check_others(check, folder):
         check.equal('--address %s' % address, (6, 6 - count), (sum('octets' in row for row in rows), sum('other' in row for row in rows)))
     for word in ('5', '12345', 'x4', '', '0x14'):
         check.equal('--address %r' % word, 2, fiolog('decode', '--address', word, path).status)
-    check_refused(check, folder)
+    check_addresses(check, folder)
     text = ' '.join(pairs(model.line_of(message, address)) for message, address in ((POLL, 0x14), (POLL, 0x15))) + '\n'
     check.equal('frames of others in a log', ['frames', 'other'], [event.kind for event in events_of(text.encode(), framing='checked')])
 
 
-def check_refused(check, folder):
-    """Where frames have no address that is read, `--address` is refused with the command that works; two stations of one log."""
-    says = 'fiolog: --address is of frames of SDLC: `fiolog check --sdlc --address %s LOG` judges those of this address in the lines of a log\n'
+def check_addresses(check, folder):
+    """`--address` takes frames of one or several addresses in every way of reading that has them, and is refused in any other; two stations
+    of one log, each with its verdict."""
     stations = (0x14, 0), (0x15, 40)
     lines = [(side, model.line_of(octets, address)) for number in range(8) for address, first in stations
              for side, octets in (('TX', bytes((0x36, first + number))), ('RX', bytes((0xb6, first + number, 0, 0, 0, 0, 4, number))))]
     path = written(folder, 'stations', ''.join('%s %s\n' % (side, pairs(octets)) for side, octets in lines))
-    for words in ([], ['--format', 'transcript'], ['--format', 'frames'], ['--pattern', '(?P<octets>.*)'], ['--sdlc', '--no-check']):
-        for address, shown in (('14', '14'), ('1593', '1593'), ('1583', '15'), ('any', 'any')):
-            done = fiolog('check', *words, '--address', address, path)
-            check.equal('--address %s is refused, with %s' % (address, words), (2, '', says % shown), (done.status, done.out, done.err))
-    for command in (['decode'], ['record'], ['stats'], ['convert', '--to', 'frames'], ['live', '--fifo']):
-        check.equal('--address is refused by %s' % command[0], (2, says % '14'), fiolog(*command, path, '--address', '14')[:0:-1])
+    for words in (['--format', 'transcript'], ['--format', 'frames'], ['--pattern', '(?P<octets>.*)']):
+        done = fiolog('check', *words, '--address', '14', path)
+        check.equal('--address is refused, with %s' % words, (2, '', True), (done.status, done.out, 'have no address' in done.err))
     check.equal('--address is refused by live --udp', 2, fiolog('live', '--udp', '1', '--address', '14').status)
-    done = fiolog('check', '--address', '14', path, path)
-    check.equal('--address is refused in each of two logs', (3, 2), (done.status, done.err.count(says[8:] % '14')))
-    for address, count in (('14', 16), ('15', 16), ('any', 32)):
-        done = fiolog('check', '--sdlc', '--address', address, path)
-        check.equal('the frames of --sdlc --address %s' % address, (count, count < 32), (int(done.found(r'frames (\d+)')[0]), done.status == 0))
+    for words, count in ((['14'], 16), (['15'], 16), (['14,1583'], 32), (['14', '--address', '15'], 32), (['any'], 32), (['1593'], 0)):
+        for way in ([], ['--sdlc'], ['--sdlc', '--no-check']):
+            rows = fiolog('decode', '--json', *way, '--address', *words, path).objects()
+            check.equal('decode %s --address %s' % (' '.join(way), ' '.join(words)), (count, 32 - count),
+                        (sum('other' not in row for row in rows), sum('other' in row for row in rows)))
+        for way in ([], ['--sdlc']) if count else ():
+            done = fiolog('check', '-q', *way, '--address', *words, path)
+            check.equal('check %s --address %s' % (' '.join(way), ' '.join(words)), (0, count), (done.status, int(done.found(r'frames (\d+)')[0])))
+    said = 'frames 16, polls 8, repeats 0, answers lost 0, gap marks 0, breaches 0'
+    done = fiolog('check', '-q', path)
+    check.equal('two stations of one log', (0, ['address 14: ' + said, 'address 15: ' + said], ''), (done.status, done.out.splitlines()[1:], done.err))
+    check.equal('and in JSON', ['14', '15'], list(fiolog('check', '--json', path).summary()['stations']))
+    rows = fiolog('decode', '--json', path).objects()
+    check.equal('addresses in JSON', [('14', '83'), ('15', '83')] * 8, [(row['address'], row['control']) for row in rows[::2]])
 
 
 def check_sampled(check, folder):
@@ -260,24 +267,24 @@ def check_sampled(check, folder):
     _, _, bits = stream(random.Random(5), 20)
     for samples in (2, 3, 4, 6, 8, 10):
         done = fiolog('check', written(folder, 'fast', ''.join(bit * samples for bit in bits).encode()))
-        check.equal('%d samples a bit' % samples, (1, True),
+        check.equal('%d samples a bit' % samples, (LITTLE, True),
                     (done.status, 'nearly all bits last %d samples or more: the sample clock is faster' % samples in done.err))
     # A first run and a last one may be cut: 16 others show how long a bit is, and one that is above all is the idle line.
     for runs, is_shown in ((19, True), (18, False)):
         done = fiolog('check', '--line', 'bits', written(folder, 'short', ''.join('01'[place % 2] * 3 for place in range(runs)).encode()))
-        check.equal('%d runs of a fast clock' % runs, (1, is_shown), (done.status, 'nearly all bits last 3 samples' in done.err))
+        check.equal('%d runs of a fast clock' % runs, (LITTLE, is_shown), (done.status, 'nearly all bits last 3 samples' in done.err))
     dice = random.Random(6)
     noisy = ''.join(bit * dice.choice((4, 5)) + ('1' if dice.random() < 0.005 else '') for bit in bits)
     done = fiolog('check', written(folder, 'uneven', b'1' * 40_000 + noisy.encode()))
     check.holds('four or five samples a bit, with noise, below a pause', 'nearly all bits last 4 samples' in done.err, done.err)
     path = written(folder, 'high', packed(bits, True))
-    for form, status in (('bits', 1), ('bits-high-first', 0)):
+    for form, status in (('bits', LITTLE), ('bits-high-first', 0)):
         done = fiolog('decode', '--line', form, path)
         check.equal('highest bit first, read as %s' % form, (status, bool(status)), (done.status, 'try the other order' in done.err))
     done = fiolog('decode', path)
-    check.equal('bits in octets are not seen without an order', (1, True), (done.status, 'if it is what a line carried, see --line' in done.err))
+    check.equal('bits in octets are not seen without an order', (LITTLE, True), (done.status, 'if it is what a line carried, see --line' in done.err))
     done = fiolog('decode', '--line', 'octets', written(folder, 'noise', bytes(range(200))))
-    check.equal('octets without a frame', (1, True), (done.status, 'no frame with a right check in the octets of this line' in done.err))
+    check.equal('octets without a frame', (LITTLE, True), (done.status, 'no frame with a right check in the octets of this line' in done.err))
     for words in (['--sdlc'], ['--pattern', '(?P<octets>.*)'], ['--format', 'frames']):
         check.equal('--line and %s' % words[0], 2, fiolog('decode', '--line', 'bits', *words, path).status)
 

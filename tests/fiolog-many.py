@@ -14,6 +14,7 @@ from collections import Counter
 
 from support.check import Check
 from support.fiolog import ENVIRONMENT, fiolog, on_terminal, reading, use_library, written
+from support.line_model import with_check
 from support.pages import text_of
 
 # One round each: a poll, and a block with one entry of input 12, 10 ms apart; and the round with an answer that is lost.
@@ -59,11 +60,10 @@ def write_logs(folder):
 
 
 def check_lost(check):
-    """At a damaged line, and at a message among frames that nothing makes sure, the place is lost: nobody is accused. One above all
-    frames is not judged and not counted."""
+    """At a damaged line, and among frames at a line of no form that may be a message, the place is lost: nobody is accused."""
     from fiolog.summary import summary_of
     sure = [('frames', '', (bytes.fromhex(digits),)) for digits in ('3605', 'b60500000000000a', '3607')]
-    possible = 'possible', *sure[1][1:]
+    possible = 'possible', 'no form', ()
 
     def judged(*lines):
         with reading(lines):
@@ -147,7 +147,7 @@ def check_terminal(check, folder):
         return
     name = 'a-name-that-is-longer-than-a-terminal-is-wide-' * 2
     paths = [written(folder, name + str(number), text) for number, text in enumerate(('> 3605\n', '> 3605\n> 3607\n', '> 3605\n> 3607\n'))]
-    text = on_terminal(sys.executable, ['check', *paths], COLUMNS='80')
+    text = on_terminal(sys.executable, ['check', '--format', 'transcript', *paths], COLUMNS='80')
     counts = [(int(read), int(breaches)) for read, breaches in re.findall(r'\x1b\[K(\d) of 3, (\d) breach(?:es)?\r', text)]
     check.equal('how many are read', ([1, 2, 3], 2, True), ([read for read, _ in counts], counts[-1][1], counts == sorted(counts)))
     check.equal('names are whole', [True] * 3, [path in text for path in paths])
@@ -159,9 +159,9 @@ def check_options(check, folder):
     logs = ['> 3605\n< b60500000000000a\n> 3606\n> 3607\n< b60600000000000b\n< b60700000000000c\n', '< b700000000\n> 3605\n< b605010c03f20000000a\n< b300\n']
     paths = [written(folder, 'option%d' % number, text) for number, text in enumerate(logs)]
     for words in ([], ['--late-answers'], ['--start-at-poll'], ['--rules', 'transcript'], ['--except', 'pair'], ['--whole'], ['--tees'], ['--at', 'bus']):
-        rows = {row['file']: row for row in fiolog('check', '--json', *words, *paths).objects()[:-1]}
+        rows = {row['file']: row for row in fiolog('check', '--json', '--format', 'transcript', *words, *paths).objects()[:-1]}
         for path in paths:
-            alone = fiolog('check', '--json', *words, path).summary()
+            alone = fiolog('check', '--json', '--format', 'transcript', *words, path).summary()
             check.equal('of several: %s %s' % (' '.join(words), os.path.basename(path)), (alone['breaches'], alone['not_judged']),
                         (rows[path]['breaches'], rows[path]['not_judged']))
 
@@ -209,7 +209,7 @@ UNJUDGED = {
     'a gap': (['> 3605', '< b605ff%s0c00000100' % FULL], {'gap_marks': 1}),
     'a restart': (['> 3180', '< b1000000' + '00000001', '> 3180', '< b1800000' + '00000002', '> 3180', '< b1800000' + '00000003'],
                   {'restarts': 1}),
-    'a wrong check': (['14 83 36 05 C4 1B', '14 83 36 06 C4 1B', '14 83 36 05 C4 1B'],
+    'a wrong check': ([with_check(bytes.fromhex('1483' + digits)).hex() for digits in ('3605', 'b60500000000000a', '3606')] + ['14833606c41b'],
                       {'damaged_lines': 1, 'losses_of_sync': 1}),
 }
 WORDS = {'damaged_lines': '1 damaged line', 'skipped_lines': '1 skipped line (no octets)', 'losses_of_sync': '1 loss of sync',
@@ -244,7 +244,7 @@ def check_unjudged(check):
                         [by_file[paths[place]][name] for place, name in ((0, 'skipped_lines'), (2, 'gap_marks'), (3, 'restarts'))])
             words = fiolog(command, *paths).out.splitlines()[-1]
             check.holds('%s of many logs says it' % command, words.startswith(key.replace('_', ' ') + ': 1 damaged line, 1 skipped line'), words)
-    above = fiolog('check', '--json', '--start-at-poll', text='< b3 00\n< b3 00\n> 36 05\n').summary()
+    above = fiolog('check', '--json', '--start-at-poll', '--format', 'transcript', text='< b300\n< b300\n> 3605\n').summary()
     check.equal('what is above the first poll', 2, above['not_judged']['frames_above_a_poll'])
     check.holds('a log that is judged whole', 'not judged' not in fiolog('check', text='> 3605\n< b60500000000000a\n').out)
 

@@ -1,15 +1,14 @@
 #!/usr/bin/env -S python3 -B
-"""Logs that have more than one link in them: lines of other ports, other ids and other programs between those of the link. The
-expected frames are those that were written for the link; no right link is accused. And a message that confirms itself, by a count of
-its entries or items or by its frame check, is found: if the lines directly above and below a line are blank, and the line says no
-other message, that message is the one frame of its line, however it is written, and whatever the rest of the log is. Last line:
-`N passed, M failed`."""
+"""Logs that have more than one link in them: lines of other ports, other ids and other programs between those of the link; and messages
+of other types, and of modules of other sizes. The expected frames are those that were written for the link; no right link is accused.
+Last line: `N passed, M failed`."""
 
 import random
+import re
 
 from support.check import Check
-from support.fiolog import frames_in, use_library, verdicts_on
-from support.line_model import with_check
+from support.fiolog import fiolog, frames_in, use_library, verdicts_on
+from support.line_model import line_of, with_check
 from support.loggers import column
 
 # How each link writes a frame: its time, its direction, its octets. The second form is that of a neighbour.
@@ -20,6 +19,10 @@ LINKS = {
     'two ids of a bus': ('{0} bus0 {1}#{3}', '{0} bus0 40C#{3}', '31A 31B'),
     'ids and counts': ('{0}  can0  {1}   [{4}]  {2}', '{0}  can0  6F2   [{4}]  {2}', '1A0 1A1'),
 }
+
+# Identifiers that are hexadecimal numbers tell lines apart only if the forms are learnt from lines of both: below the first looks the
+# frames of a neighbour are read as those of the link.
+NOT_TOLD = 'two ids of a bus', 'ids and counts'
 
 # What other programs write between the frames. A 34 above the answer to it would be its command.
 OTHERS = {
@@ -65,15 +68,28 @@ def read(lines):
     return frames_in(verdicts), verdicts, dict(summary_of([octets]).broken)
 
 
-def fault_of(own, neighbour, allowed):
-    """A log of a link and its neighbour gives the frames of the link, but for as many as are allowed, and accuses nobody. Both
-    are functions that write a line; the neighbour's may be None."""
+def log_of(own, neighbour, allowed):
+    """The lines of a link and its neighbour, and the frames of the link. Both are functions that write a line."""
     draw, lines, frames = random.Random(repr(allowed)), [], []
     for place, (direction, octets) in enumerate(session(draw, 80)):
         lines.append(own(place, direction, octets))
         frames.append(octets)
         if place > 6 and draw.random() < .3:
             lines.append(neighbour(draw, place))
+    return lines, frames
+
+
+def fault_of_not_told(own, neighbour):
+    """All frames of the link are read, and those of the neighbour too."""
+    lines, frames = log_of(own, neighbour, 2)
+    found, _, _ = read(lines)
+    missing = [octets.hex() for octets in frames if octets not in found]
+    return missing or None if len(found) > len(frames) else 'only %d frames: are they told apart?' % len(found)
+
+
+def fault_of(own, neighbour, allowed):
+    """A log of a link and its neighbour gives the frames of the link, but for as many as are allowed, and accuses nobody."""
+    lines, frames = log_of(own, neighbour, allowed)
     found, _, broken = read(lines)
     strange = [octets.hex() for octets in found if octets not in frames]
     if broken or strange or not 0 <= len(frames) - len(found) <= allowed:
@@ -90,7 +106,10 @@ def check_sources(check):
         def neighbour(draw, place, form=other, sides=sides):
             octets = bytes([draw.choice((0x36, 0x31, 0x3a)), draw.randrange(256)]) + draw.randbytes(draw.choice((0, 0, 1, 6)))
             return written(form, sides, place, draw.choice('<>'), octets)
-        check.fault('another source: %s' % name, fault_of, own, neighbour, 2)
+        if name in NOT_TOLD:
+            check.fault('another source, not told apart: %s' % name, fault_of_not_told, own, neighbour)
+        else:
+            check.fault('another source: %s' % name, fault_of, own, neighbour, 2)
 
 
 def check_others(check):
@@ -105,6 +124,121 @@ def check_others(check):
     check.equal('a damaged answer above good ones with their size', (39, [8]), (len(found), [one.line for one in verdicts if one.kind == 'damaged']))
 
 
+def check_types(check):
+    """Messages of types that this protocol has not accuse nobody. Those with a right check, and answered ones of which there are more
+    than three, lose no place; fewer may be damage."""
+    from fiolog.summary import summary_of
+    for code in (61, 63, 70, 112, 127):
+        for name, write in (('bare', lambda octets: octets.hex()), ('with checks', lambda octets: with_check(b'\x14\x83' + octets).hex())):
+            for count, lost in ((3, 6 * (name == 'bare')), (4, 0), (20, 0)):
+                lines, frames, draw = [], [], random.Random(code + count)
+                for place, (direction, octets) in enumerate(session(draw, 80)):
+                    lines.append('%s %s' % ('TX' if direction == '>' else 'RX', write(octets)))
+                    frames.append(octets)
+                    if direction == '<' and place % 8 == 7 and place // 8 < count:
+                        lines += ['TX ' + write(bytes([code]) + draw.randbytes(3)), 'RX ' + write(bytes([code + 128]) + draw.randbytes(5))]
+                found, verdicts, _ = read(lines)
+                summary = summary_of([('\n'.join(lines) + '\n').encode()])
+                said = [one.foreign for one in verdicts if one.foreign]
+                check.equal('%d of type %d, %s' % (count, code, name), (frames, [code, code + 128] * count, {}, lost, 2 * count - lost),
+                            (found, said, dict(summary.broken), summary.left_out['damaged_lines'], summary.left_out['skipped_lines']))
+
+
+def sized(draw, count, size):
+    """What a link says whose module has so many octets of inputs, and of outputs: each message, and whether it is read. Those of eight are
+    of the proved ends."""
+    from fio2070 import Module, Poller
+    module, poller = Module(), Poller(draw.randrange(256))
+    for _ in range(count):
+        module.scan(draw.choice((0, 15)))
+        command = poller.poll()
+        answer = module.receive(command)
+        poller.hear(answer)
+        yield from (('>', command, True), ('<', answer, True))
+        code, octets = draw.choice((0, 0, 52, 53, 55)), bytes(draw.choice((0, 15, 240, 255)) for _ in range(size))
+        command = bytes([code]) + (octets + bytes([255]) * size) * (code == 55)
+        if code and size == 8:
+            yield from (('>', command, True), ('<', module.receive(command), True))
+        elif code:
+            answer = b'\xb7\0' + answer[-4:] if code == 55 else bytes([code + 128]) + octets + answer[-4:]
+            yield from (('>', command, code != 55), ('<', answer, False))
+
+
+# How a message is written.
+WRITTEN = {
+    'bare': lambda octets: octets.hex(),
+    'with headers': lambda octets: '14 83 ' + octets.hex(' '),
+    'with checks': lambda octets: with_check(b'\x14\x83' + octets).hex(),
+    'with flags': lambda octets: line_of(octets).hex(' '),
+}
+
+
+def logged(said, write):
+    """The lines of a link."""
+    return ['%s %s' % ('TX' if direction == '>' else 'RX', write(octets)) for direction, octets, _ in said]
+
+
+def check_sizes(check):
+    """A module of another size accuses nobody and loses no place: its 180, 181 and 55, and the answers to these, are not read, which is
+    said once. In lines without checks a few of them are damage."""
+    for inputs, size in ((120, 15), (15, 2), (8, 1), (256, 32)):
+        for name, write in WRITTEN.items():
+            said = list(sized(random.Random(inputs), 100, size))
+            done = fiolog('check', '--json', text='\n'.join(logged(said, write)) + '\n')
+            numbers, lost = done.summary(), done.summary()['not_judged']
+            words = re.findall(r'(18[01]) has %d octets? of inputs in each of (\d+) lines: a module with %d inputs\? its 180, 181 and 55 are not read, all else is judged' % (size, 8 * size), done.err)
+            most = max(sum(octets[0] == code for _, octets, _ in said) for code in (180, 181))
+            unread = sum(not is_read for *_, is_read in said)
+            check.equal('%d inputs, %s' % (inputs, name), ([most], len(said) - unread, 0, unread, 0, 0),
+                        ([int(lines) for _, lines in words], numbers['frames'], numbers['breaches'], lost['skipped_lines'], lost['damaged_lines'], lost['losses_of_sync']))
+    few = list(sized(random.Random(2), 8, 15))
+    done = fiolog('check', '--json', text='\n'.join(logged(few, WRITTEN['bare'])) + '\n')
+    odd = sum(not is_read and octets[0] != 183 for _, octets, is_read in few)
+    check.equal('few of another size', (0, 0, odd), (done.summary()['breaches'], done.summary()['not_judged']['skipped_lines'], done.summary()['not_judged']['damaged_lines']))
+    check.holds('of these nothing is said', 0 < odd < 4 and 'inputs?' not in done.err, (odd, done.err))
+
+
+def check_bus_of_sizes(check):
+    """Beside a module of another size on its line, a module of 64 inputs is judged as alone, and is accused of its fault."""
+    for name, write in (('with checks', lambda header, octets: with_check(header + octets).hex()), ('with headers', lambda header, octets: (header + octets).hex(' '))):
+        own, others = list(sized(random.Random(5), 60, 8)), list(sized(random.Random(6), 60, 15))
+        place = max(place for place, (_, octets, _) in enumerate(own) if octets[0] == 54)
+        own[place] = '>', bytes([54, own[place][1][1] + 9 & 255]), True
+        lines = []
+        for pair in zip(zip(own[::2], own[1::2]), zip(others[::2], others[1::2])):
+            for address, said in zip((b'\x14\x83', b'\x15\x83'), pair):
+                lines += logged(said, lambda octets, address=address: write(address, octets))
+        done = fiolog('check', '--json', text='\n'.join(lines) + '\n')
+        alone = fiolog('check', '--json', text='\n'.join(line for line in lines if re.match(r'.X 14', line)) + '\n')
+        stations, expected = done.summary()['stations'], alone.summary()
+        check.equal('a bus of two sizes, %s' % name, ({name: expected[name] for name in stations['14']}, 0, 1), (stations['14'], stations['15']['breaches'], done.err.count('a module with 120 inputs?')))
+
+
+def check_damage_of_sizes(check):
+    """Damage to the answers of a right module of 64 inputs is damage: a digit or an octet that is gone in one of many, lines that are
+    cut and say so, and answers with the next command in their line."""
+    said = [one for one in sized(random.Random(9), 300, 8)]
+    lines = logged(said, lambda octets: octets.hex(' '))
+    levels = [place for place, (_, octets, _) in enumerate(said) if octets[0] in (180, 181)]
+    damages = {
+        'an octet is gone': (levels[::9], lambda line: line[:-3]),
+        'two octets are gone': (levels[::9], lambda line: line[:12] + line[18:]),
+        'an octet too many': (levels[::9], lambda line: line + ' 00'),
+        'half of an octet is gone': (levels, lambda line: line[:-4]),
+        'cut with dots': (levels, lambda line: line[:30] + '...'),
+    }
+    for name, (places, damage) in damages.items():
+        spoilt = [damage(line) if place in places else line for place, line in enumerate(lines)]
+        done = fiolog('check', '--json', text='\n'.join(spoilt) + '\n')
+        found = done.summary()
+        check.equal('right answers, %s' % name, (0, len(places), 0, 0),
+                    (found['breaches'], found['not_judged']['damaged_lines'], found['not_judged']['skipped_lines'], done.err.count('inputs?')))
+    joined = [line + ' ' + below[3:] if place in levels else line for place, (line, below) in enumerate(zip(lines, lines[1:] + ['']))
+              if place - 1 not in levels]
+    done = fiolog('check', '--json', text='\n'.join(joined) + '\n')
+    check.equal('right answers, joined with the next command', (0, 0), (done.summary()['breaches'], done.summary()['not_judged']['skipped_lines']))
+
+
 def check_counters(check):
     """Numbers that change from line to line do not tell lines apart."""
     for name, form in (('a count', '#{5:06d} {1} {2}'), ('an address', '0x{6:08x} {1} {2}'), ('a time without a form', 'T+{5} {1} {2}'),
@@ -116,15 +250,6 @@ def check_counters(check):
             frames.append(octets)
         found, _, broken = read(lines)
         check.equal('numbers that change: %s' % name, (frames, {}), (found, broken))
-
-
-def check_directions(check):
-    """Once eight frames had the direction of their lines, a message that has the other one is none."""
-    pairs = [line for number in range(8) for line in ('TX 36 %02x' % number, 'RX b6 %02x 00 00 00 00 00 01' % number)]
-    for name, lines, last in (('the other direction', pairs + ['RX 36 08', 'RX 36 09'], []), ('its own', pairs + ['TX 36 08', 'TX 36 09'], ['3608', '3609']),
-                              ('too few frames', pairs[:6] + ['RX 36 08'], ['3608'])):
-        found, _, _ = read(lines)
-        check.equal('a message with %s' % name, last, [octets.hex() for octets in found[sum(line in pairs for line in lines):]])
 
 
 def check_digits(check):
@@ -151,73 +276,11 @@ def check_dumps(check):
         check.equal('a dump after %r' % words, frames, found)
 
 
-# A message that confirms itself ---------------------------------------------------------------------------------------
-
-WRITTEN = {
-    'words': lambda octets: octets.hex(' '),
-    'capitals': lambda octets: octets.hex(' ').upper(),
-    'digits without blanks': lambda octets: octets.hex(),
-    'dashes': lambda octets: octets.hex('-'),
-    'colons': lambda octets: octets.hex(':'),
-    'words of four digits': lambda octets: octets.hex(' ', -2),
-    '0x and commas': lambda octets: ', '.join('0x%02x' % octet for octet in octets),
-    'escapes': lambda octets: ''.join('\\x%02x' % octet for octet in octets),
-    'numbers in brackets': lambda octets: str(list(octets)),
-    'bytes of Python': repr,
-}
-FRONTS = '', 'TX ', 'RX ', '07:15:02.123 ', '2026-11-22 07:15:02 RX: ', 'data=', 'sent ', '    '
-TAILS = '', ' ok', ' ; note', ' .'
-
-
-def sure_message(draw):
-    """A message that confirms itself, and the octets that say it."""
-    count = draw.choice([0, 1, 1, 2, 3, 5])
-    block = bytes([182, draw.randrange(256), count]) + draw.randbytes(3 * count) + bytes([draw.choice([0, 2, 4, 8])]) + draw.randbytes(4)
-    items = draw.randrange(1, 4)
-    message = draw.choice([block, bytes([51, items]) + draw.randbytes(3 * items)])
-    if draw.random() < .7:
-        return message, message
-    message = draw.choice([message, bytes([54, draw.randrange(256)]), bytes([179, 0])])
-    octets = with_check(b'\x14\x83' + message)
-    return message, draw.choice([octets, b'~' + octets + b'~'])
-
-
-def other_lines(draw):
-    """Lines that may want the ones below them: cut messages, rows of a dump, octets alone, short messages, words."""
-    in_form = WRITTEN[draw.choice(sorted(WRITTEN))]
-    for _ in range(draw.randrange(6)):
-        message, octets = sure_message(draw)
-        front = draw.choice(FRONTS + ('0000  ', '0010  ', '00000000 '))
-        yield draw.choice([
-            front + in_form(octets[:draw.randrange(1, len(octets) + 1)]),
-            front + '%02x' % draw.choice([35, 36, 49, 53, 54, 182]),
-            front + in_form(bytes([54, draw.randrange(256)])) + draw.choice(TAILS),
-            'connected at 9600 baud',
-            '',
-        ])
-
-
-def check_alone(check, count):
-    """Each way of writing, before and after random lines."""
-    for name, in_form in WRITTEN.items():
-        draw, faults = random.Random(name), []
-        for _ in range(count):
-            message, octets = sure_message(draw)
-            above, below = list(other_lines(draw)), list(other_lines(draw))
-            lines = above + [''] * bool(above) + [draw.choice(FRONTS) + in_form(octets) + draw.choice(TAILS)] + [''] * bool(below) + below
-            place = len(above) + bool(above)
-            verdict = verdicts_on('\n'.join(lines).encode())[place]
-            if (verdict.kind, verdict.frames) != ('frames', (message,)):
-                faults.append((lines, message.hex(), verdict))
-        check.equal('a message that confirms itself, alone: ' + name, [], faults[:1])
-
-
 def main():
-    check = Check(messages=(100, 2000))
+    check = Check()
     use_library(check, 'logs with neighbours')
-    for part in (check_sources, check_others, check_counters, check_directions, check_digits, check_dumps):
+    for part in (check_sources, check_others, check_types, check_sizes, check_bus_of_sizes, check_damage_of_sizes, check_counters, check_digits, check_dumps):
         part(check)
-    check_alone(check, check.given.messages)
     check.end()
 
 

@@ -10,6 +10,7 @@ import tempfile
 from support import packets
 from support.check import Check
 from support.fiolog import fiolog, use_library, written
+from support.kinds import LITTLE
 from support.packets import BLOCK, POLL, ethernet, ipv4, pcap, udp
 from support.tables import TOP
 from support.tshark import Tshark
@@ -77,7 +78,7 @@ def check_judged(check, folder):
             ('an answer that is cut', of_link(*link, cut=3), 0, '1 skipped line (octets may be lost)'),
             ('other packets between', pcap([one for octets in link for one in (ethernet(ipv4(udp(octets))), ethernet(ipv4(bytes(20), protocol=6)),
                                                                               ethernet(ipv4(udp(bytes(12), (53, 5353)))))], 1), 0,
-             '20 skipped lines (no octets 10, octets that are no message 10)')):
+             '20 skipped lines (no octets)')):
         done = fiolog('check', written(folder, 'link.pcap', octets))
         check.equal(name, (status, True), (done.status, words in done.out))
     parts = pcap([ethernet(ipv4(udp(one))) if place != 3 else ethernet(ipv4(udp(one)[:8], part=0x2000)) for place, one in enumerate(link)], 1)
@@ -102,7 +103,7 @@ def check_kinds(check, folder):
             ('a script', b'fio2070 script 1 2 0\npoll\n', 'this is a script'), ('a record', b'record 1\ngap\n', 'read the log itself'),
             ('zeros', bytes(100), 'this is a binary file'), ('a text', b'Dear all,\n', 'no frame in 1 line')):
         done = fiolog('check', written(folder, 'file', octets))
-        check.equal('of %s is said' % name, (1, True), (done.status, words in done.err))
+        check.equal('of %s is said' % name, (LITTLE, True), (done.status, words in done.err))
 
 
 def main():

@@ -60,13 +60,13 @@ def check_examples(check):
                     (done.status, done.out.count('\n1b\n'), done.err))
     for name, line in RESTARTED.items():
         path, words = os.path.join(EXAMPLES, name + '.transcript'), 'line %d restarted\n' % line
-        check.equal('the text of %s' % name, ('record 0\n' + words, 1), fiolog('record', '-q', '--text', path)[::2])
-        check.equal('the table of %s' % name, (words, 1), fiolog('record', '-q', path)[::2])
+        check.equal('the text of %s' % name, ('record 0\n' + words, 0), fiolog('record', '-q', '--text', path)[::2])
+        check.equal('the table of %s' % name, (words, 0), fiolog('record', '-q', path)[::2])
         rows = fiolog('record', '-q', '--json', path).objects()
         check.equal('the object of %s' % name, [{'line': line, 'time': None, 'outcome': 'restarted'}], rows)
         check.equal('the row of %s' % name, '%d,,,,,,restarted' % line, fiolog('record', '-q', '--csv', path).out.splitlines()[-1])
         done = fiolog('record', '-q', '--vcd', path)
-        check.equal('the VCD of %s' % name, (1, 'fiolog: ' + words), (done.status, done.err))
+        check.equal('the VCD of %s' % name, (0, 'fiolog: ' + words), (done.status, done.err))
     path = os.path.join(EXAMPLES, 'good.transcript')
     check.equal('a record without a breach', (0, False),
                 (fiolog('record', '-q', path).status, 'breach' in fiolog('record', '-q', '--vcd', path).out))
@@ -149,10 +149,10 @@ def check_course(check):
 
 
 # Logs of two sites: the second begins with the number that the first ends with, and has entries in its first block. Of the third
-# no answer was logged, so the poll that passes over a number is a breach only at its end.
+# no answer to a poll was logged, so the poll that passes over a number is a breach only at its end.
 SITES = {'first': '> 36ff\n< b6ff00000000000a\n> 3600\n< b600010c000c0000000014\n',
          'second': '> 3600\n< b600010d00050000000008\n> 3601\n< b601018d000c0000000010\n',
-         'third': '> 3605\n> 3607\n'}
+         'third': '> 34\n< b4000000000000000000000001\n> 3605\n> 3607\n'}
 PAIRS = [('first', 'second'), ('second', 'first'), ('third', 'first'), ('first', 'third')]
 
 
@@ -177,8 +177,9 @@ def check_several(check, folder):
     pairs = [(form, (names[one], names[two])) for form in ([], ['--csv'], ['--json'], events) for one, two in PAIRS]
     for form, pair in pairs + [(['--csv'], pair) for pair in zip(paths, paths[1:])]:
         alone = [said_of(form, name) for name in pair]
+        statuses = {status for _, status in alone}
         check.equal('record %s of %s and %s' % (' '.join(form[:1]), *map(os.path.basename, pair)),
-                    ([named(form, name, row) for name, (rows, _) in zip(pair, alone) for row in rows], max(status for _, status in alone)),
+                    ([named(form, name, row) for name, (rows, _) in zip(pair, alone) for row in rows], 1 if 1 in statuses else max(statuses)),
                     said_of(form, *pair))
     first, second = names['first'], names['second']
     check.equal('an entry of the second log', '%s,2,,13,0,5,5,' % second, fiolog('record', '-q', '--csv', first, second).out.splitlines()[2])
@@ -201,7 +202,7 @@ import os, sys
 from types import SimpleNamespace as Names
 from fiolog import log, plot, record
 given = Names(files=sys.argv[1:] or ['-'], quiet=True, format='auto', pattern=None, sdlc=False, no_check=False, line='', address=None,
-              merge=False, text=False, verbose=False, at='auto', start_at_poll=False, whole=False, limits=(255, 1024))
+              like=[], merge=False, text=False, verbose=False, at='auto', start_at_poll=False, whole=False, limits=(255, 1024))
 for lanes in plot.lanes_of(record.Record(log.Log(given), given).logs()):
     print(*[os.path.basename(lanes.name)] * bool(lanes.name),
           {number: (list(lanes.times[number]), [str(state) for state in lanes.states[number]]) for number in sorted(lanes.times)})

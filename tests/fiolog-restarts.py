@@ -3,6 +3,7 @@
 have been in them, remarks of loss, headings, losses of sync. Logs of right links that restart, with loads, pauses and damage, are
 accused of nothing. Last line: `N passed, M failed`."""
 
+import json
 import os
 import random
 import re
@@ -53,25 +54,26 @@ def check_short_lives(check):
 
 
 def check_check(check):
-    """A restart is reported as a breach is, and is not counted as one."""
+    """A restart is reported as a breach is, and is not counted as one: the status is that of a good log."""
     done = checked(RESTART)
     check.equal('a restart', (['line 6: restarted: ' + WORDS, 'frames 10, polls 4, repeats 0, answers lost 0, gap marks 0, breaches 0, restarted 1',
                                'not judged: 1 loss of sync, 2 frames from a loss of sync to the next poll'],
-                              'fiolog: restarted: once, in line 6\n', 1), (done.out.splitlines(), done.err, done.status))
+                              'fiolog: restarted: once, in line 6\n', 0), (done.out.splitlines(), done.remarks, done.status))
     done = checked(RESTART, '--json')
     check.equal('its object', {'file': '-', 'line': 6, 'outcome': 'restarted', 'says': WORDS}, done.objects()[0])
-    check.equal('the object of the summary', (0, 1, 1), (done.summary()['breaches'], done.summary()['restarted'], done.status))
+    check.equal('the object of the summary', (0, 1, 0), (done.summary()['breaches'], done.summary()['restarted'], done.status))
     done = checked(GOOD)
     check.equal('no restart', (0, False, 0), (done.status, 'restarted' in done.out + done.err, checked(GOOD, '--json').summary()['restarted']))
     for words in (['--rules', 'transcript'], ['--late-answers'], ['--whole'], ['--at', 'module'], ['--at', 'bus'], ['--start-at-poll'],
                   ['--except', 'clock']):
         done = checked(RESTART, *words)
-        check.equal('a restart, ' + ' '.join(words), (['6: restarted'], True, 1),
+        check.equal('a restart, ' + ' '.join(words), (['6: restarted'], True, 0),
                     (done.found(TOLD), 'breaches 0, restarted 1' in done.out, done.status))
     done = checked(RESTART + JUMP)
-    check.equal('a breach below the next poll', (['6: restarted', '11: advance'], True), (done.found(TOLD), 'breaches 1, restarted 1' in done.out))
+    check.equal('a breach below the next poll', (['6: restarted', '11: advance'], True, 1),
+                (done.found(TOLD), 'breaches 1, restarted 1' in done.out, done.status))
     check.equal('a watchdog that is forgotten', ['line 4: restarted: the module restarted, or forgot its watchdog: it says that none was set before'],
-                checked(['> 3a32', '< ba00'] * 2).found('^line .*'))
+                checked(['> 3a32', '< ba00'] * 2, '--format', 'transcript').found('^line .*'))
 
 
 def check_others(check, folder):
@@ -87,10 +89,10 @@ def check_others(check, folder):
     check.equal('a table', (['file', 'breaches', 'restarted'], ['0', '1'], 'line 6: restarted'),
                 (table[1].split()[:3], table[2].split()[1:3], table[2][-17:]))
     for command, status in (('check', 1), ('stats', 0)):
-        check.equal('the status of %s' % command, (status, 0), (fiolog(command, *paths[::2]).status, fiolog(command, paths[0], paths[0]).status))
+        check.equal('the status of %s' % command, (0, status), (fiolog(command, *paths[::2]).status, fiolog(command, *paths[2:]).status))
     done = fiolog('live', '-q', '--fifo', paths[2])
     first, *_, last = done.out.splitlines()
-    check.equal('live', ('line 6: restarted: ' + WORDS, ['breaches 0', 'breaches in content 0', 'restarted 1'], 1),
+    check.equal('live', ('line 6: restarted: ' + WORDS, ['breaches 0', 'breaches in content 0', 'restarted 1'], 0),
                 (first, last.split(', ')[-3:], done.status))
     done = fiolog('live', '-q', '--fifo', paths[0])
     check.equal('live without one', (0, False), (done.status, 'restarted' in done.out))
@@ -98,7 +100,7 @@ def check_others(check, folder):
     check.equal('live where a load may explain a stamp', (True, False, 0), (
         'frames whose stamps a load of the counter may explain 1' in done.out, 'restarted' in done.out, done.status))
     done = fiolog('record', '-q', text=text_of(RESTART))
-    check.equal('record', ('line 6 restarted\n', 1), (done.out, done.status))
+    check.equal('record', ('line 6 restarted\n', 0), (done.out, done.status))
     done = fiolog('record', '-q', '--start-at-poll', paths[2], paths[2])
     check.equal('record of a file twice', 2, done.out.count('line 6 restarted'))
 
@@ -132,7 +134,7 @@ def check_loads(check):
     """A load of the counter, one that a lost line may have been too, explains one stamp that is before the latest."""
     for name, (lines, told, unjudged) in LOADS.items():
         done = checked(lines)
-        check.equal('a load: ' + name, (told, int(bool(told)), unjudged), (done.found(TOLD), done.status, not_judged(lines)))
+        check.equal('a load: ' + name, (told, 0, unjudged), (done.found(TOLD), done.status, not_judged(lines)))
     for count, words in ((1, '1 frame whose stamp a load of the counter may explain'), (2, '2 frames whose stamps a load of the counter may explain')):
         lines = [*ABOVE, *LOAD, *LOAD, *BACK, *(AGAIN if count == 2 else [])]
         check.holds('the words of %d' % count, words in checked(lines).out)
@@ -167,19 +169,22 @@ def check_losses(check):
 
 
 POLL, ANSWER, LATER = (('frames', '', (bytes.fromhex(digits),)) for digits in ('3605', 'b60500000000000a', '3607'))
-LOSS, HEADING, TEXT, SHORT = (('passed over', reason, ()) for reason in ('loss', 'heading', 'no octets', 'short message'))
-NEXT_POLL, SENT_AGAIN = (('frames', '', (bytes.fromhex(digits),)) for digits in ('3606', 'b60600020000000b'))
-# Lines, which rules are broken, and how often sync is lost. Block 6 is due below block 5. A remark of loss, or a line that may be a
-# frame, explains that up to the next block or poll, and a block that is sent again up to the next block; a heading that, and what is
-# up to the next poll.
+LOSS, HEADING, TEXT, BROKEN = (('passed over', reason, ()) for reason in ('loss', 'heading', 'no octets', 'broken'))
+POSSIBLE, MORE = ('possible', 'no form', ()), ('frames', 'more', LATER[2])
+NEXT_POLL, SENT_AGAIN, NEXT_ANSWER, LATER_ANSWER = (
+    ('frames', '', (bytes.fromhex(digits),)) for digits in ('3606', 'b60600020000000b', 'b60600000000000b', 'b60700000000000c'))
+# Lines, which rules are broken, and how often sync is lost. Block 6 is due below block 5. A remark of loss explains that up to the next
+# block or poll, and a block that is sent again up to the next block; a heading, a line that may be a message, and octets that are in no
+# frame explain that, and what is up to the next poll.
 REMARKS = {
     'other text': ([POLL, ANSWER, TEXT, LATER], {'advance': 1}, 1),
     'a remark of loss': ([POLL, ANSWER, LOSS, LATER], {}, None),
     'one above a block': ([POLL, LOSS, ANSWER, LATER], {'advance': 1}, None),
     'a remark above an answer that nothing waits for': ([POLL, ANSWER, LOSS, ANSWER], {}, None),
-    'a short message, not sure': ([POLL, ANSWER, SHORT, LATER], {}, None),
-    'a short message above such an answer': ([POLL, ANSWER, SHORT, ANSWER], {}, None),
-    'a short message above a block': ([POLL, SHORT, ANSWER, LATER], {'advance': 1}, None),
+    'a line that may be a message': ([POLL, ANSWER, POSSIBLE, LATER], {}, 1),
+    'one above all': ([POSSIBLE, POLL, ANSWER, LATER], {'advance': 1}, 1),
+    'a message that is not whole': ([POLL, ANSWER, BROKEN, LATER], {}, 1),
+    'octets beside a poll': ([POLL, ANSWER, NEXT_POLL, NEXT_ANSWER, MORE, ANSWER], {}, 2),
     'no remark above such an answer': ([POLL, ANSWER, ANSWER], {'pair': 1}, 1),
     'a remark above the poll for a block that is sent again': ([POLL, ANSWER, LOSS, NEXT_POLL, SENT_AGAIN], {}, None),
     'no remark above such a poll': ([POLL, ANSWER, NEXT_POLL, SENT_AGAIN], {'same': 1}, 1),
@@ -188,6 +193,29 @@ REMARKS = {
     'a heading above an answer': ([POLL, ANSWER, HEADING, ANSWER], {}, 1),
     'a heading above all': ([HEADING, POLL, ANSWER, LATER], {'advance': 1}, 1),
 }
+
+
+# The same of a log that begins with both ends: the answer may be that to a line above all frames that may be a message.
+WHOLE = {
+    'an answer above all': ([ANSWER, POLL, ANSWER], {'pair': 1}, 1),
+    'a line that may be a message above an answer': ([POSSIBLE, ANSWER, NEXT_POLL, NEXT_ANSWER, LATER, LATER_ANSWER], {}, 1),
+    'rules hold from the next poll on': ([POSSIBLE, ANSWER, NEXT_POLL, ANSWER], {'number': 1}, 2),
+    'a heading above an answer': ([HEADING, ANSWER, NEXT_POLL, NEXT_ANSWER], {'pair': 1}, 1),
+    'a heading below a frame': ([POLL, HEADING, NEXT_ANSWER, NEXT_POLL, NEXT_ANSWER], {}, 1),
+}
+
+
+def check_whole(check, folder):
+    """Above the first frame of a log that begins with both ends a line that may be a message is one, a heading is none."""
+    for name, (lines, broken, lost) in WHOLE.items():
+        path = written(folder, 'lines', '\n' * len(lines))
+        with reading(lines):
+            for command in ('check', '-q'), ('live', '-q', '--fifo'):
+                status, out = copied((command[0], '--whole', *command[1:], path), b'')[:2]
+                check.equal('%s --whole, %s' % (command[0], name), (int(bool(broken)), list(broken)),
+                            (status, re.findall(r'^line \d+: (\w+)', out.decode(), re.M)))
+            told = json.loads('[%s]' % copied(('check', '--json', '--whole', path), b'')[1].decode().replace('}\n{', '},{'))
+        check.equal('losses of sync --whole, ' + name, lost, told[-1]['summary']['not_judged']['losses_of_sync'])
 
 
 def check_remarks(check, folder):
@@ -199,7 +227,7 @@ def check_remarks(check, folder):
             found = summary_of(path)
             check_run, live, record = (copied(words, b'')[:2] for words in (
                 ('check', '-q', path), ('live', '-q', '--fifo', path), ('record', '-q', path)))
-        skipped = sum(kind == 'passed over' for kind, _, _ in lines)
+        skipped = sum(kind == 'passed over' and reason != 'broken' for kind, reason, _ in lines)
         check.equal('a summary, ' + name, (broken, skipped, 0), (dict(found.broken), found.left_out['skipped_lines'], found.left_out['damaged_lines']))
         if lost is not None:
             check.equal('losses of sync, ' + name, lost, found.left_out['losses_of_sync'])
@@ -278,7 +306,7 @@ def main():
     for part in (check_check, check_short_lives, check_record, check_loads, check_losses, check_blocks_sent_again):
         part(check)
     with tempfile.TemporaryDirectory() as folder:
-        for part in (check_others, check_remarks):
+        for part in (check_others, check_whole, check_remarks):
             part(check, folder)
     check.fault('right links', fault_of_right_links, check.given.links)
     check.fault('links that go on at once', fault_of_links_that_go_on, check.given.links)

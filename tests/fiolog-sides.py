@@ -8,7 +8,7 @@ import tempfile
 
 from support.check import Check
 from support.fiolog import fiolog, use_library, written
-from support.kinds import KINDS, SIGNS, blocks, polls
+from support.kinds import KINDS, LIKE, LITTLE, SIGNS, blocks, polls
 from support.loggers import LOGGERS
 from support.talking import session
 
@@ -21,32 +21,80 @@ SENTENCES = COMMANDS, ANSWERS, SILENT, NOT_WHOLE
 
 # A log, what is said of it, how many breaches it has, and the status. Below a breach the rules begin anew at the next poll.
 SIDES = {
-    'polls that rise': (polls(5, 6, 7, 8), [COMMANDS], 0, 1),
-    'polls that rise around 255': (polls(254, 254, 255, 0, 1), [COMMANDS], 0, 1),
-    'a configuration and polls': ('TX 33 01 0C 05 03\n' + polls(5, 6, 6), [COMMANDS], 0, 1),
+    'polls that rise': (polls(5, 6, 7, 8), [COMMANDS], 0, LITTLE),
+    'polls that rise around 255': (polls(254, 254, 255, 0, 1), [COMMANDS], 0, LITTLE),
+    'a configuration and polls': ('TX 33 01 0C 05 03\n' + polls(5, 6, 6), [COMMANDS], 0, LITTLE),
     'polls of one number': (polls(5, 5, 5, 5), [SILENT], 0, 0),
     'commands without a poll': ('TX 31 80\n' * 4, [SILENT], 0, 0),
-    'answers': (blocks(5, 6, 7, 8), [ANSWERS], 0, 1),
-    'answers that the module sends again': (blocks(5, 5, 5, 5), [ANSWERS], 0, 1),
+    'answers': (blocks(5, 6, 7, 8), [ANSWERS], 0, LITTLE),
+    'answers that the module sends again': (blocks(5, 5, 5, 5), [ANSWERS], 0, LITTLE),
     'three polls': (polls(5, 6, 7), [], 1, 1),
     'one answer among polls': (polls(5, 6, 7) + blocks(7) + polls(8, 9), [], 2, 1),
     'one answer above polls': (blocks(4) + polls(5, 6, 7, 8), [], 2, 1),
     'one answer below polls': (polls(5, 6, 7, 8) + blocks(8), [], 2, 1),
     'one command among answers': (blocks(4, 5, 6) + polls(7, 7, 7) + blocks(7), [], 0, 0),
-    'answers that are cut': (''.join(polls(number) + 'RX B6 %02X 01 8C 03 ..\n' % number for number in range(5, 9)), [NOT_WHOLE], 0, 1),
-    'half as many answers that are cut': (polls(5, 6, 7, 8) + 'RX B6 05 01 8C 03 ..\n' * 2, [NOT_WHOLE], 0, 1),
-    'fewer': (polls(5, 6, 7, 8) + 'RX B6 05 01 8C 03 ..\n', [COMMANDS], 0, 1),
-    'few lines that are cut': (polls(*range(5, 25)) + 'RX B6 05 01 8C 03 ..\n', [COMMANDS], 0, 1),
+    'answers that are cut': (''.join(polls(number) + 'RX B6 %02X 01 8C 03 ..\n' % number for number in range(5, 9)), [NOT_WHOLE], 0, LITTLE),
+    'half as many answers that are cut': (polls(5, 6, 7, 8) + 'RX B6 05 01 8C 03 ..\n' * 2, [NOT_WHOLE], 0, LITTLE),
+    'fewer': (polls(5, 6, 7, 8) + 'RX B6 05 01 8C 03 ..\n', [COMMANDS], 0, LITTLE),
+    'few lines that are cut': (polls(*range(5, 25)) + 'RX B6 05 01 8C 03 ..\n', [COMMANDS], 0, LITTLE),
 }
 
 
 def check_kinds(check):
-    """What a log looks like is said once, and counts for nothing."""
+    """What a log looks like is said once; then no rule is judged, and nothing else is to be tried."""
     for name, (lines, sign) in KINDS.items():
-        done, last = fiolog('check', text=''.join(lines)), fiolog('check', '--json', text=''.join(lines)).summary()
-        check.equal(name, [SIGNS[sign]] if sign else [], [words[8:] for words in done.err.splitlines() if words[8:] in SIGNS.values()])
-        remarks = [words for words in last.get('remarks', []) if words in SIGNS]
-        check.equal(name + ', as an object', [sign] if sign else [], remarks)
+        # Below a breach, and a late answer above the first poll.
+        for title, more in (name, []), (name + ', with a breach', [polls(99), blocks(98)]), (name + ', above the first poll', blocks(3)):
+            text = ''.join([*more[:1], *lines, *more]) if isinstance(more, list) else more + ''.join(lines)
+            done, *objects = fiolog('check', text=text), *fiolog('check', '--json', text=text).objects()
+            last, count = objects[-1]['summary'], objects[-1]['summary']['frames']
+            check.equal(title, [SIGNS[sign]] if sign else [], [words[8:] for words in done.err.splitlines() if words[8:] in SIGNS.values()])
+            check.equal(title + ', as an object', [sign] if sign else [], [words for words in last.get('remarks', []) if words in SIGNS])
+            told = len(done.found('^line ')), len(objects) - 1, last['breaches'], ': try ' in done.err
+            if not sign:
+                # If a frame is beside those of both ends, the second of equal ones may have no form.
+                check.equal(title + ': breaches are told', name == 'one link in order' and isinstance(more, list) and more != [], all(told[:3]))
+                continue
+            check.equal(title + ': nothing else', ((0, 0, 0, False), LITTLE, count), (told, done.status, last['not_judged']['frames_of_another_kind']))
+            for command in 'record', 'stats':
+                done = fiolog(command, text=text)
+                check.equal('%s, %s' % (title, command), (0, 1, LITTLE), (len(re.findall('breaks|was due', done.out + done.err)),
+                                                                          done.err.count(SIGNS[sign]), done.status))
+
+
+# A log, how many of its answers are surely late, and the rules that are broken. Block 6 that the CPU asks for twice has E the second time.
+AGAIN, LATER = 'RX B6 06 00 02 00 00 00 07\n', 'RX B6 06 00 02 00 00 00 0B\n'
+LATE = {
+    'both polls are above both answers': (polls(6, 6) + blocks(6) + AGAIN, []),
+    'three of each': (polls(6, 6, 6) + blocks(6) + AGAIN + AGAIN, []),
+    'an answer of another type': ('TX 34\n' + polls(6) + blocks(6) + 'RX B4 00 00 00 00 00 00 00 00 00 00 00 09\n', []),
+    'a block below the next poll': (polls(6, 6) + blocks(6) + polls(7) + AGAIN + blocks(7), []),
+    'such a block twice': (polls(6, 6) + blocks(6) + AGAIN * 2, []),
+    'an answer twice': (polls(6) + blocks(6, 6), ['pair']),
+    'an answer twice, below a poll that was lost': (polls(6, 6) + AGAIN * 2, ['pair']),
+    'another answer to one poll': (polls(6) + blocks(6) + AGAIN, ['pair']),
+    'a second block without E': (polls(6, 6) + blocks(6) + 'RX B6 06 00 00 00 00 00 07\n', ['pair']),
+    'a block with another number': (polls(6) + blocks(6) + polls(7) + blocks(6), ['number']),
+    'another number, below a poll that was lost': (polls(6, 6) + AGAIN + polls(7) + blocks(6), ['number']),
+    'the command is far above': (polls(6, 6) + blocks(6) + ''.join(polls(number) + blocks(number) for number in range(7, 11)) + LATER, ['pair']),
+    'another breach': (polls(6, 6) + blocks(6) + AGAIN + polls(7) + blocks(7) + polls(99), ['pair', 'advance']),
+}
+
+
+def check_late(check):
+    """Of a log in which all that is found are answers that are surely late that is said, however it comes, and no breach."""
+    from fiolog.summary import summary_of
+    for name, (lines, broken) in LATE.items():
+        text = polls(5) + blocks(5) + lines
+        done = fiolog('check', *LIKE, text=text)
+        hints = [words[8:] for words in done.err.splitlines() if ': try ' in words]
+        check.equal('late: ' + name, (broken, int(bool(broken)) or LITTLE, hints if broken else [SIGNS['late answers']]),
+                    (done.found(r'^line \d+: (\w+)'), done.status, hints))
+        pieces = summary_of(iter(text.encode().splitlines(True)), like=[line.encode() for line in LIKE[1::2]])
+        check.equal('late, line by line: ' + name, (sorted(broken), [] if broken else ['late answers']), (sorted(pieces.broken), list(pieces.verdicts)))
+        if not broken:
+            check.equal('late, --late-answers: ' + name, (0, False), (fiolog('check', '--late-answers', *LIKE, text=text).status, SIGNS['late answers'] in done.out))
+            check.equal('late, counted: ' + name, 0, fiolog('stats', *LIKE, text=text).status)
 
 
 def sentences(done):
@@ -57,30 +105,30 @@ def sentences(done):
 def check_sides(check):
     """What is said of a log, by each command that judges."""
     for name, (text, said, breaches, status) in SIDES.items():
-        done = fiolog('check', text=text)
+        done = fiolog('check', *LIKE, text=text)
         check.equal(name, (said, breaches, status), (sentences(done), len(done.found('^line ')), done.status))
         if said and status:
-            record, last = fiolog('record', text=text), fiolog('check', '--json', text=text).summary()
-            check.equal('record: ' + name, (said, 0, 1), (sentences(record), record.out.count('breaks') + record.err.count('was due'), record.status))
+            record, last = fiolog('record', *LIKE, text=text), fiolog('check', *LIKE, '--json', text=text).summary()
+            check.equal('record: ' + name, (said, 0, LITTLE), (sentences(record), record.out.count('breaks') + record.err.count('was due'), record.status))
             not_judged = {key: count for key, count in last['not_judged'].items() if 'frame' in key and count}
             check.equal('no frame is judged: ' + name, {'frames_of_one_direction': last['frames']}, not_judged)
     for words in ('--late-answers', '--start-at-poll', '--whole'):
-        done = fiolog('check', words, text=polls(5, 6, 7, 8))
-        check.equal('polls that rise, ' + words, (True, 0, 1), (COMMANDS in done.err, done.out.count('line '), done.status))
+        done = fiolog('check', words, *LIKE, text=polls(5, 6, 7, 8))
+        check.equal('polls that rise, ' + words, (True, 0, LITTLE), (COMMANDS in done.err, done.out.count('line '), done.status))
 
 
 def check_many(check, folder):
     """A row of a table says it, and so does a live line."""
     paths = [written(folder, name, text) for name, text in (
         ('tx.log', polls(5, 6, 7, 8)), ('rx.log', blocks(5, 6, 7, 8)), ('good.log', polls(5) + blocks(5)))]
-    *rows, _ = fiolog('check', '--json', *paths).objects()
+    *rows, _ = fiolog('check', *LIKE, '--json', *paths).objects()
     found = {os.path.basename(row['file']): (row['breaches'], row.get('remarks')) for row in rows}
     check.equal('logs of one direction in a table', {'tx.log': (0, {'the commands alone': 1}), 'rx.log': (0, {'the answers alone': 1}), 'good.log': (0, None)}, found)
-    check.equal('its status', (1, 0), (fiolog('check', *paths).status, fiolog('check', paths[2], paths[2]).status))
-    check.holds('its words', re.search('tx.log .*the commands alone', fiolog('check', *paths).out))
+    check.equal('its status', (LITTLE, 0), (fiolog('check', *LIKE, *paths).status, fiolog('check', *LIKE, paths[2], paths[2]).status))
+    check.holds('its words', re.search('tx.log .*the commands alone', fiolog('check', *LIKE, *paths).out))
     for path, said in zip(paths, (COMMANDS, ANSWERS)):
-        done = fiolog('live', '-q', '--fifo', path)
-        check.equal('live on ' + os.path.basename(path), (True, 0, 1), (said in done.err, done.out.count('line '), done.status))
+        done = fiolog('live', *LIKE, '-q', '--fifo', path)
+        check.equal('live on ' + os.path.basename(path), (True, 0, LITTLE), (said in done.err, done.out.count('line '), done.status))
 
 
 def merged(folder, command, *texts):
@@ -176,6 +224,7 @@ def main():
     use_library(check, 'logs of one direction')
     check_sides(check)
     check_kinds(check)
+    check_late(check)
     with tempfile.TemporaryDirectory() as folder:
         check_many(check, folder)
         for part in (check_merge, check_times, check_places):

@@ -7,6 +7,7 @@ import tempfile
 
 from support.check import Check
 from support.fiolog import fiolog, use_library, written
+from support.kinds import KINDS, LIKE, LITTLE, blocks, polls
 from support.pages import text_of
 
 
@@ -16,7 +17,7 @@ def check_beginning(check):
                                ('two answers', '< b301\n< b605018c03e700000003e8\n', 2)):
         done = fiolog('check', text=above + '> 3606\n< b6060000000003e9\n> 3607\n< b6070000000003ea\n')
         words = ['%d frame%s above the first command' % (count, 's' * (count > 1))]
-        check.equal('%s above the first command' % name, (0, words, ''), (done.status, done.found('^not judged: (.*)'), done.err))
+        check.equal('%s above the first command' % name, (0, words, ''), (done.status, done.found('^not judged: (.*)'), done.remarks))
     text = '< b6050000000003e8\n> 3606\n< b6060000000003e9\n< b6060000000003e9\n'
     for name, words, lines in (('what is below the first command is judged', [], ['4']), ('a log that is whole begins with a command', ['--whole'], ['1', '4']),
                                ('the rules of transcripts alone', ['--rules', 'transcript'], ['4'])):
@@ -39,22 +40,16 @@ def check_explained(check):
 
 
 def check_cures(check):
-    """`fiolog` says what helps: if a reason has a cure, if a message is in two lines, and if a file is no text."""
-    swap, two = 'write the log with `xxd` or `hexdump -C`', 'try --sdlc --no-check if they are at the beginning, --pattern if they are at the end'
-    pairs, cut = '0000000 05b6 8c01 e703 0000 0300 00e8\n0000013\n', 'RX B6 05 01 8C 03 E7 00 00 00 03 E8 A4 7C\n'
-    for name, text, words in (('octets that are exchanged', pairs, [swap]), ('a check of another kind', cut, [two]),
-                              ('other text', 'nothing here\n', [])):
-        said, named = fiolog('check', text=text).err, fiolog('check', '-v', text=text).err
-        check.equal('what helps: ' + name, (words, words), ([one for one in (swap, two) if ': ' + one in said], [one for one in (swap, two) if '(%s): ' % one in named]))
+    """`fiolog` says what helps: to lines of no form a sample; and of a file that is no text what it is."""
     whole, less = 'TX 36 05\nRX B6 05 00 00 00 00 00 01\n', 'TX 36 06\nRX B6 06 00 00 00 00 00\n'
-    for name, text, words in (('one message', whole + less, ['1 message lacks its last octet']), ('several', whole + less * 3, ['3 messages lack their last octet']),
-                              ('beside other damage', whole + less + 'TX 36 06\nRX B6 06 00 00 00\n', []), ('of no frame', 'RX B6 06 00 00 00 00 00\n', [])):
-        for more in (), ('-q',), ('-v',):
-            check.equal('a last octet that is missing, %s%s' % (name, ''.join(more)), [] if more == ('-q',) else words,
-                        re.findall('[0-9]+ messages? lacks? .* last octet', fiolog('check', *more, text=text).err))
+    strange = 'memory at b6 05 00 00\n'
+    for more in (), ('-q',), ('-v',):
+        check.equal('lines that may be messages, and have no form%s' % ''.join(more), [] if more == ('-q',) else ['1 line may be a message'],
+                    re.findall('1 line may be a message(?=, and has no form of this log: to read such, give one by --like)', fiolog('check', *more, text=whole * 3 + strange).err))
     said = fiolog('check', '-v', text=whole + less + '3 frames lost\nLog file opened\nidle\n').err
-    check.equal('a line is named by its words', ['4: an octet too few', '5: octets may be lost', '6: heading', '7: no octets'],
+    check.equal('a line is named by its words', ['4: octets that are no message', '5: octets may be lost', '6: heading', '7: no octets'],
                 re.findall(r'line (\d+: [^:]*): ', said))
+    cut = 'RX B6 05 01 8C 03 E7 00 00 00 03 E8 A4 7C\n'
     header = 'TX 00 08 36 05\nRX 00 08 B6 05 00 00 00 00 00 01\n'
     check.equal('it helps: --sdlc --no-check', ['poll block 5', 'block 5 entries 0 status 00 stamp 1'],
                 [line[9:] for line in fiolog('decode', '-q', '--sdlc', '--no-check', text=header).out.splitlines()])
@@ -64,41 +59,79 @@ def check_cures(check):
     pieces = ''.join('TX 36 0%d\nRX %s\n' % (number, (
         block % (number, number)).replace(' 00 00', '\nRX 00 00', int(number % 3 == 0))) for number in range(1, 9))
     done = fiolog('check', text=pieces)
-    check.equal('messages in two lines without times', (0, True, True, False), (
-        done.status, 'messages split over two lines, which are not read: 2 (4 lines)' in done.err, '4 lines with parts of messages' in done.out,
-        'damaged' in done.out + done.err))
-    check.equal('their lines are shown', 4, fiolog('decode', text=pieces).out.count('? part of a message in two lines: '))
+    check.equal('messages in two lines', (0, ['16'], False), (done.status, done.found('^frames ([0-9]+)'), 'damaged' in done.out + done.err))
     binary = bytes.fromhex('7e1483') + bytes.fromhex('b6050000000000010a') * 30
     for name, octets, is_binary in (('a binary file', binary, True), ('a text', 'caf\u00e9 \u2192\n'.encode() * 30, False), ('one line', b'\x1b[1mhello\n', False)):
         with tempfile.TemporaryDirectory() as folder:
             done = fiolog('check', written(folder, 'log', octets))
-        check.equal('%s needs xxd' % name, (1, is_binary), (done.status, 'this is a binary file: pass it through `xxd`' in done.err))
+        check.equal('%s without a message' % name, (LITTLE, is_binary), (done.status, 'this is a binary file: no message is sure in its octets' in done.err))
 
 
 def check_few(check):
-    """If less than half of what says messages was judged, that is a fault."""
+    """If less than half of what says messages was judged, the status says it. A poll directly below a loss of sync is compared with nothing."""
     whole, cut = 'TX 36 05\nRX B6 05 00 00 00 00 00 01\n', 'RX B6 05 00 00 00\n'
     for name, text, words in (
-            ('half of it', whole + cut * 2, None), ('less than half', whole + cut * 3, '2 of 5'), ('three answers', 'RX B3 00\n' * 3, '0 of 3'),
-            ('answers above most', 'RX B3 00\n' * 3 + whole, '2 of 5'), ('lines of another form', whole + 'RX B6 06 00 00 00 00 00 02 A4 7C\n' * 3, '2 of 5')):
+            ('half of it', whole + cut * 2, None), ('less than half', whole + cut * 3, '2 of 5'), ('three answers', '< b300\n' * 2 + '< b605000000000001\n', '0 of 3'),
+            ('answers above most', 'RX B3 00\n' * 3 + whole, '2 of 5'),
+            ('polls that are all below losses', whole + 'TX 36 06\nRX B6 06 00 00\n' * 3, '3 of 8')):
         done = fiolog('check', text=text)
         found = re.findall('fewer than half of the messages that this log may have were judged: (.*)', done.err)
-        check.equal('judged: ' + name, (int(bool(words)), [words] * bool(words)), (done.status, found))
-        check.equal('record: ' + name, int(bool(words)), fiolog('record', text=text).status)
+        check.equal('judged: ' + name, (LITTLE * bool(words), [words] * bool(words)), (done.status, found))
+        check.equal('record: ' + name, LITTLE * bool(words), fiolog('record', text=text).status)
     with tempfile.TemporaryDirectory() as folder:
         done = fiolog('check', *[written(folder, 'few', whole + cut * 3)] * 2)
-        check.equal('a row of many says it', (1, True), (done.status, 'fewer than half judged' in done.out))
+        check.equal('a row of many says it', (LITTLE, True), (done.status, 'fewer than half judged' in done.out))
+
+
+ROUND, JUMP, CUT = polls(5) + blocks(5), polls(9) + blocks(9), 'RX B6 06 00 00\n'
+BACK = polls(6) + 'RX B6 06 00 00 00 00 00 01\n'
+# A log, the status of what judges it, and that of what counts it.
+STATUSES = {
+    'a good log': (ROUND + polls(6), 0, 0),
+    'a breach': (ROUND + JUMP, 1, 0),
+    'a restart': (ROUND + BACK, 0, 0),
+    'a restart and a breach': (ROUND + BACK + polls(7) + blocks(8), 1, 0),
+    'no frame': ('nothing here\n', LITTLE, LITTLE),
+    'no frame, and a damaged line': (CUT, LITTLE, LITTLE),
+    'fewer than half': (ROUND + CUT * 3, LITTLE, 0),
+    'fewer than half, and a breach': (ROUND + JUMP + CUT * 5, 1, 0),
+    'a restart, and fewer than half': (ROUND + BACK + CUT * 5, LITTLE, 0),
+    'frames that are all below losses': ((polls(5) + CUT) * 8 + blocks(5), LITTLE, 0),
+    'commands alone': (polls(5, 6, 7, 8), LITTLE, 0),
+    'polls that nobody answers': (polls(5, 5, 5, 5), 0, 0),
+    # By sample lines the second of equal frames is no copy.
+    **{name: (''.join(lines), *[0 if name == 'one link in order' else LITTLE] * 2) for name, (lines, _) in KINDS.items()},
+}
+
+
+def check_statuses(check, folder):
+    """All commands that judge have the same statuses: 1 for a breach alone, 4 if little could be judged. Of several logs the worst counts: a
+    breach, else one of which little could be judged."""
+    paths = {name: written(folder, name.replace(' ', '-'), text) for name, (text, _, _) in STATUSES.items()}
+    for name, (_, judged, counted) in STATUSES.items():
+        runs = {words: fiolog(*words, *LIKE, paths[name]).status for words in (
+            ('check',), ('check', '--json'), ('check', '--csv'), ('record',), ('record', '--json'), ('stats',), ('stats', '--json'))}
+        runs['check', 'twice'], runs['stats', 'twice'] = (fiolog(word, *LIKE, *[paths[name]] * 2).status for word in ('check', 'stats'))
+        runs['live', '-q'] = fiolog('live', '-q', *LIKE, '--fifo', paths[name]).status
+        check.equal('the statuses of ' + name, {words: counted if words[0] == 'stats' else judged for words in runs}, runs)
+    for names, status in ((('a good log', 'fewer than half'), LITTLE), (('a good log', 'no frame'), LITTLE), (('the last line first', 'a good log'), LITTLE),
+                          (('a breach', 'two links'), 1), (('a restart', 'a good log'), 0), (('a restart', 'a breach', 'no frame'), 1)):
+        runs = [fiolog('check', *words, *LIKE, *map(paths.get, names)).status for words in ((), ('--csv',), ('--json', '--jobs', '2'))]
+        check.equal('the status of ' + ', '.join(names), [status] * 3, runs)
 
 
 def check_messages(check):
     """A breach names its line, and in a line with several messages which of them it is, and its first octet of theirs."""
     for name, text, words, place in (
             ('a message a line', '> 3605\n< b6050000000003e8\n> 3609\n', 'line 3', {'line': 3}),
-            ('all messages in one line', '3605b6050000000003e83609\n', 'line 1, message 3, octet 11', {'line': 1, 'message': 3, 'octet': 11}),
-            ('in the second line', '3605b6050000000003e8\n3609b6090000000003e9360a\n', 'line 2, message 1, octet 1', {'line': 2, 'message': 1, 'octet': 1})):
+            ('the second message of a line', '> 3605\n< b6050000000003e8 > 3609\n', 'line 2, message 2, octet 9', {'line': 2, 'message': 2, 'octet': 9}),
+            ('the third message of a line', '> 3605\n< b6050000000003e8\n> 3606 < b6060000000003e9 > 3609\n', 'line 3, message 3, octet 11',
+             {'line': 3, 'message': 3, 'octet': 11}),
+            ('the first message of a line', '> 3605\n< b6050000000003e8\n> 3609 < b6090000000003e9\n> 360a\n', 'line 3, message 1, octet 1',
+             {'line': 3, 'message': 1, 'octet': 1})):
         done = fiolog('check', text=text)
         check.equal('the place of a breach: ' + name, (words + ': advance', 'fiolog: advance: once, in ' + words + '\n'),
-                    (done.out.partition(': block')[0], done.err))
+                    (done.out.partition(': block')[0], done.remarks))
         first = fiolog('check', '--json', text=text).objects()[0]
         check.equal('the place in JSON: ' + name, place, {key: first[key] for key in ('line', 'message', 'octet') if key in first})
 
@@ -166,10 +199,10 @@ def check_unseen(check):
     """Damage that is not seen: a right end is accused where a frame is missing or is another. What is seen accuses nobody."""
     link = ['RX B6 %02X 00 00 00 00 00 %02X' % (place // 2, place) if place % 2 else 'TX 36 %02X' % (place // 2) for place in range(16)]
     for name, first, last, line, expected in (
-            ('two lines that are joined', 7, 9, link[7] + ' ' + link[8], (['9: pair'], '0')),
+            ('two lines that are joined', 7, 9, link[7] + ' ' + link[8], ([], '0')),
             ('a digit that makes another message', 8, 9, 'TX 36 0C', (['9: advance'], '0')),
-            ('a word in an octet', 8, 9, 'TX 3note 6 04', (['10: pair'], '0')),
-            ('a line that is too long', 8, 9, link[8] + ' ' + 'x' * 66000, (['10: pair'], '0')),
+            ('a word in an octet, which is seen', 8, 9, 'TX 3note 6 04', ([], '0')),
+            ('a line that is too long', 8, 9, link[8] + ' ' + 'x' * 66000, ([], '1')),
             ('a cut, which is seen', 8, 9, 'TX 36 0', ([], '1')), ('a side alone, which is seen', 8, 9, 'TX', ([], '1'))):
         done = fiolog('check', text='\n'.join([*link[:first], line, *link[last:]]) + '\n')
         check.equal('damage: ' + name, expected, (done.found(r'^line (\d+: \w+)'), (done.found(r'(\d+) damaged line') or ['0'])[0]))
@@ -178,13 +211,16 @@ def check_unseen(check):
 def check_said(check):
     """Why lines are passed over, the text of each, and octets without a zero first."""
     frames = 'TX 36 05\nRX B6 05 00 00 00 00 00 01\n'
-    text = 'hello\n' * 3 + '01 02 03 04\n' * 2 + 'RX B6 05 01 8C 03 E7 00 00 00 03 E8 A4 7C\n' + frames
+    text = frames + 'hello\n' * 3 + '3 lost\n' * 2 + 'Log file opened\n' + frames
     reasons = fiolog('check', text=text).found(r'(\d) skipped lines? \([^,]* (\d), [^,]* (\d), [^,)]* (\d)\)')
     check.equal('three reasons', [('6', '3', '2', '1')], reasons)
     named = re.findall(r'line (\d): no octets: (\w+)', fiolog('check', '-v', text=frames + 'one\ntwo\nthree\n').err)
     check.equal('the text of each line', [('3', 'one'), ('4', 'two'), ('5', 'three')], named)
-    done = fiolog('check', text='TX 0x36 0x5\nRX 0xb6 0x5 0x0 0x0 0x0 0x0 0x0 0x1\n')
-    check.holds('octets without zeros', 'frames whose octets are numbers without leading zeros: 2;' in done.err, done.err)
+    done = fiolog('check', text=frames)
+    check.equal('how lines are read', ['TX ', 'RX '], sorted(re.findall('read as "(.*)" <octets>: 1 line', done.err), reverse=True))
+    last = fiolog('check', '--json', text='hello\n' + frames + frames).summary()
+    check.equal('how lines are read, in an object', ([('RX ', 2, 0, False), ('TX ', 2, 0, False)], 1), (
+        sorted((one['front'], one['lines'], one['damaged'], one['is_copy']) for one in last['read_as']), last['lines_of_no_form']))
 
 
 def check_hints(check):
@@ -222,6 +258,8 @@ def main():
     for part in (check_beginning, check_except, check_explained, check_places, check_messages, check_unseen, check_said, check_hints, check_cures,
                  check_few):
         part(check)
+    with tempfile.TemporaryDirectory() as folder:
+        check_statuses(check, folder)
     check.end()
 
 

@@ -43,6 +43,8 @@ import moves
 STRICT = ['-std=c99', '-Wall', '-Wextra', '-Wpedantic', '-Wconversion', '-Werror']
 SANITIZED = '-g -fsanitize=address,undefined -fno-sanitize-recover=all'
 TESTER = os.path.join(TOP, 'fio2070-test')
+# On a busy machine the longest line of the tester, octet by octet through QEMU, takes seconds.
+PATIENT = '--deadline', str(1000 * board.ANSWER_S)
 CORTEX = ['-mcpu=cortex-m4', '-mthumb', '-Os']
 # What clang needs to find newlib.
 NEWLIB = ['--target=arm-none-eabi', '-isystem', '/usr/lib/arm-none-eabi/include']
@@ -525,7 +527,7 @@ def second_goes_on(says, shared, *left_out):
             table.write(row)
         with subprocess.Popen(words_of(one), stderr=subprocess.DEVNULL) as first:
             os.read(master, 1)
-            second = run(*words_of(two, *left_out), timeout=20)
+            second = run(*words_of(two, *left_out), timeout=LONGEST)
             goes_on = first.poll() is None and os.path.getsize(one['']) >= len(row)
             first.kill()
         said = 'controller: %s: %s\n' % (one[shared], says)
@@ -615,7 +617,7 @@ def late_tester():
     names = sorted(name for name in os.listdir(folder) if name.endswith('.c') and name != 'shared.c')
     tester = late('late-tester', *(os.path.join(folder, name) for name in names))
     adapter = late('late-adapter', os.path.join(folder, 'adapters', 'adapter.c'))
-    return fault_of('qemu-arm', tester, '--own-clock', '--command', 'qemu-arm %s clock' % adapter, '4000')
+    return fault_of('qemu-arm', tester, *PATIENT, '--own-clock', '--command', 'qemu-arm %s clock' % adapter, '4000')
 
 
 def late_rows():
@@ -631,11 +633,11 @@ def late_rows():
 
 # ---- Polls that race scans ----
 
-def wrong_entry(link, seconds):
-    """Polls without a pause for this time, and until there is something to see. Returns the first wrong entry: it has the same state as
-    the entry before of its input. If there is none, returns nothing, or why there is nothing to see."""
-    states, number, entries, ends_at = {}, 0, 0, time.monotonic() + seconds
-    while time.monotonic() < ends_at or entries <= 1000 and time.monotonic() < ends_at + LONGEST:
+def wrong_entry(link, count):
+    """Polls without a pause until there are this many entries. Returns the first wrong one: it has the same state as the entry before
+    of its input. If there is none, returns nothing, or why there is nothing to see."""
+    states, number, entries, ends_at = {}, 0, 0, time.monotonic() + 3 * LONGEST
+    while entries < count and time.monotonic() < ends_at:
         block, number = asked(link, bytes([54, number])), (number + 1) % 256
         if block[-5] & 4:
             states.clear()
@@ -647,8 +649,8 @@ def wrong_entry(link, seconds):
     return None if entries > 1000 else 'only %d entries' % entries
 
 
-def races(seconds, *changes):
-    """The first wrong entry if all inputs move in each scan and the link is polled without a pause."""
+def races(count, *changes):
+    """The first wrong entry of this many if all inputs move in each scan and the link is polled without a pause."""
     with on_board(built(*changes)) as ports:
         # Once the board answers by lines, its link can be reached too.
         lines = board.Lines(ports[1])
@@ -656,7 +658,7 @@ def races(seconds, *changes):
             link.setsockopt(socket.IPPROTO_TCP, socket.TCP_NODELAY, 1)
             asked(link, bytes([51, 64]) + b''.join(bytes([one, 1, 1]) for one in range(64)))
             with toggled(lines):
-                return wrong_entry(link, seconds)
+                return wrong_entry(link, count)
 
 
 # ---- The tester ----
@@ -665,7 +667,7 @@ def tested(folder, image, events, options, *words):
     """What the tester says about the running firmware."""
     with on_board(folder, image) as (_, lines):
         board.Lines(lines).close()
-        return run(TESTER, *options, '--socket', '127.0.0.1:%d' % lines, *words, str(events))
+        return run(TESTER, *PATIENT, *options, '--socket', '127.0.0.1:%d' % lines, *words, str(events))
 
 
 def differs(image, events, *options):
@@ -766,8 +768,9 @@ def main():
         check.fault('run: a controller that ends before it keeps its number', is_wrong, 6, alone, ENDS_BETWEEN)
         check.fault('found: a block that is written twice', is_missed, 6, alone, ENDS_BETWEEN, NEVER_CUT)
         check.fault('found: a number that begins anew', is_missed, 6, restart, NUMBER_ANEW)
-        check.fault('polls that race scans', races, 10)
-        check.fault('found: scans that are not held off', finds_nothing, races, 120, NO_HOLD)
+        # Where scans are not held off, one entry in some 60,000 is wrong.
+        check.fault('polls that race scans', races, 40_000)
+        check.fault('found: scans that are not held off', finds_nothing, races, 1_000_000, NO_HOLD)
         check.fault('found: a restart that is not seen', is_missed, 6, ['--restart', 'module'], UNSEEN_RESTART)
         tester_rows()
     check.end()

@@ -18,7 +18,8 @@ TRIES = 16
 def found_in(log, place='cpu', excepted=()):
     """What `check --late-answers` finds in a log, the names of rules and of restarts, and how many answers are late, as it is judged
     there."""
-    from fiolog.batch import frame_of, made_of
+    from fiolog.batch import made_of
+    from fiolog.event import frame_of
     from fiolog.rules import Rules
     rules = Rules(place, late_answers=True, excepted=excepted)
     frames = [frame_of(number, octets, said=direction) for number, (direction, octets) in enumerate(log, 1)]

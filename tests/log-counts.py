@@ -83,7 +83,8 @@ def by_library(log):
 
 
 def by_fiolog(log):
-    from fiolog.batch import DAMAGED, Line as Event, frame_of, made_of
+    from fiolog.batch import made_of
+    from fiolog.event import DAMAGED, Line as Event, frame_of
     from fiolog.counts import NUMBERS as COUNTED, TABLES, Counts
     counts = Counts()
     events = [Event(number, DAMAGED) if line.octets is None else frame_of(number, line.octets, time=None if line.time is None else line.time / 1e6)

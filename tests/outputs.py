@@ -19,6 +19,7 @@ from pathlib import Path
 import support.fiolog
 from support.check import Check
 from support.fiolog import ENVIRONMENT, PACKAGES, PIPE, TOOL, copied, on_terminal, started, use_library, written
+from support.kinds import LITTLE
 from support.tables import TOP
 from support.waits import LONGEST, sleeps, until, used
 
@@ -78,7 +79,7 @@ def check_locales(check, folder):
         for words in COMMANDS:
             status, out, err = run(*words, name, **settings)
             title = '%s in %s' % (' '.join(words), locale)
-            check.holds('%s: no traceback' % title, status in (0, 1) and b'Traceback' not in err, err.decode('utf-8', 'replace')[-300:])
+            check.holds('%s: no traceback' % title, status in (0, 1, LITTLE) and b'Traceback' not in err, err.decode('utf-8', 'replace')[-300:])
             texts = (err,) if 'pcapng' in words else (out, err)
             check.equal('%s: nothing that acts' % title, [], [one for text in texts for one in ACTS.findall(text.decode('utf-8', 'replace'))])
         for words in (['plan', '--inputs', '8', '--filter', '5'], ['live', '--fifo', name, '-v'], ['check', name, name + 'none'],
@@ -340,7 +341,7 @@ def check_killed(check, folder):
     readers = children(command.pid)
     time.sleep(1)
     command.kill()
-    command.communicate(timeout=60)
+    command.communicate(timeout=LONGEST)
     until(lambda: not any(map(is_running, readers)))
     check.equal('a killed command: its processes end', (3, []), (len(readers), [number for number in readers if is_running(number)]))
     for reader in filter(is_running, readers):
@@ -352,7 +353,7 @@ def check_killed(check, folder):
         until(lambda it=command: children(it.pid))
         time.sleep(dice.uniform(0, 0.02))
         command.send_signal(number)
-        err = command.communicate(timeout=60)[1]
+        err = command.communicate(timeout=LONGEST)[1]
         if command.returncode != 130 or err != b'fiolog: ended: 0 of 3 logs were read\n':
             wrong.append((number.name, command.returncode, err[-300:]))
     check.equal('signals while processes begin', [], wrong)
@@ -372,7 +373,7 @@ def check_start(check, folder):
             err = command.communicate(timeout=LONGEST)[1]
             check.equal('Ctrl-C while %s comes' % name, (b'here\n', -signal.SIGINT, b''), (begun, command.returncode, err))
     for number in (signal.SIGINT, signal.SIGTERM, signal.SIGHUP):
-        command = started('decode', '-q')
+        command = started('decode', '-q', '--format', 'transcript')
         command.stdin.write(GOOD)
         command.stdin.flush()
         command.stdout.readline()
@@ -384,14 +385,14 @@ def check_start(check, folder):
 def check_odd(check, folder):
     """Other files: empty ones, folders, files that may not be read, NUL octets, no line end, broken pipes."""
     open_end = written(folder, 'open-end', GOOD[:-1])
-    files = (('an empty file', written(folder, 'empty', b''), (1,)), ('zeros', written(folder, 'zeros', bytes(200_000)), (1,)),
-             ('no line end', open_end, (0, 1)), ('a folder', folder, (3,)), ('no file', 'none', (3,)))
+    files = (('an empty file', written(folder, 'empty', b''), (LITTLE,)), ('zeros', written(folder, 'zeros', bytes(200_000)), (LITTLE,)),
+             ('no line end', open_end, (0, 1, LITTLE)), ('a folder', folder, (3,)), ('no file', 'none', (3,)))
     for words in COMMANDS if check.whole('odd files by all commands') else COMMANDS[::4]:
         for name, path, expected in files:
             status, _, err = run_as_is(*words, path)
             check.holds('%s of %s' % (' '.join(words), name), status in expected and b'Traceback' not in err, err)
     check.equal('a reader that has enough', b'', run_of_shell('decode -q %s | head -n 1' % ' '.join([open_end] * 500))[2])
-    command = started('decode', '-q')
+    command = started('decode', '-q', '--format', 'transcript')
     command.stdin.write(GOOD)
     command.stdin.flush()
     command.stdout.readline()

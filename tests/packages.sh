@@ -62,14 +62,14 @@ is_clean() { lintian --fail-on error,warning "$@"; }
 unpacks() { for package in "$@"; do dpkg-deb -x "$package" root || return 1; done; }
 
 # reads COMMAND..: the command reads a log.
-reads() { [ "$(echo 'TX 36 05' | "$@" decode -q)" = '1:     > poll block 5' ]; }
+reads() { [ "$(echo 'RX B6 05 00 00 00 00 03 E8' | "$@" decode -q)" = '1:     < block 5 entries 0 status 00 stamp 1000' ]; }
 
 # follows_note: the commands of the note after its first heading, in a folder that only has the archive.
 follows_note() {
     mkdir -p noted && cp dist.1/*.tar.gz noted || return 1
     sed -n '/^Without/,/^For all/s/^    //p' "$place/INSTALL" >noted/commands
     (cd noted && PATH=/usr/bin:/bin sh -e ./commands >out 2>log) || { cat noted/log; return 1; }
-    tail -n 1 noted/out | grep -qx '1:     > poll block 5'
+    tail -n 1 noted/out | grep -qx '1:     < block 5 entries 0 status 00 stamp 1000'
 }
 
 # without_net COMMAND..: runs a command without a network, if the machine allows it.
@@ -106,8 +106,8 @@ cat >copy/installs <<'end'
 set -e
 dpkg -i packages/*.deb >log 2>&1 || { cat log; exit 1; }
 [ "$(echo 3605 | fio2070 show)" = 'poll block 5' ]
-[ "$(echo 'TX 36 05' | fiolog decode -q)" = '1:     > poll block 5' ]
-[ "$(echo 'TX 36 05' | fiolog convert -q --to frames)" = 3605 ]
+[ "$(echo 'RX B6 05 00 00 00 00 03 E8' | fiolog decode -q)" = '1:     < block 5 entries 0 status 00 stamp 1000' ]
+[ "$(echo 'TX 36 05' | fiolog convert -q --like 'TX 36 05' --to frames)" = 3605 ]
 for command in fio2070-vcd fio2070-transcript fio2070-lossy-script fio2070-test; do $command --help >log 2>&1; done
 ldconfig -p | grep -q 'libfio2070\.so\.1 '
 dpkg -r fio2070-tools python3-fio2070 fio2070 libfio2070-dev libfio2070-1 >log 2>&1 || { cat log; exit 1; }
@@ -187,7 +187,7 @@ shows_alone() {
     for file in $(ldd "$1/usr/bin/fio2070" | grep -o '/[^ ]*'); do
         install -D "$file" "$1$file" || return 1
     done
-    shows unshare --map-root-user chroot "$1" /usr/bin/fio2070
+    shows unshare --map-root-user env PATH=/usr/sbin:/usr/bin:/sbin:/bin chroot "$1" /usr/bin/fio2070
 }
 
 # used WHAT PREFIX DOCUMENTS LIBRARY: rows for the archive or the packages: what is below the prefix, with the library in this folder.

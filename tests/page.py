@@ -12,7 +12,7 @@ import subprocess
 import tempfile
 import time
 
-from support import page_judged, page_lines, page_logs, page_packets, page_reading, page_views
+from support import page_judged, page_lines, page_logs, page_packets, page_reading, page_stations, page_views
 from support.fiolog import may_use_library
 from support.browsers import KEYS, Chromium, browsers, running
 from support.check import Check
@@ -277,7 +277,7 @@ def check_plan(check, browser, _):
     for row in rows:
         found = browser.run(move, row[:2], '#plan-row td')
         check.equal('the row of %s inputs with filters of %s' % (row[0], row[1]), row[:5], [*found[:3], found[4], found[6]])
-    check.equal('the number of rows', 24, len(rows))
+    check.equal('the number of rows', 16, len(rows))
     for waiting, lost, every in ((1024, 0, 159), (71, 0, 40), (70, 0, 39), (71, 1, 10), (7, 0, 0)):
         check.equal('the pace if %d may wait, with %d lost' % (waiting, lost), '%d ms' % every,
                     browser.run(move, [8, 5, waiting, lost], '.answers td.mono')[0])
@@ -321,7 +321,7 @@ def check_access(check, browser, _):
 
 
 CHECKS = (check_examples, *page_logs.CHECKS, check_fields, check_many, check_touch, check_hostile, check_print, check_plan, check_play, check_access,
-          *page_views.CHECKS, *page_judged.CHECKS, *page_lines.CHECKS, *page_packets.CHECKS, *page_reading.CHECKS)
+          *page_views.CHECKS, *page_judged.CHECKS, *page_stations.CHECKS, *page_lines.CHECKS, *page_packets.CHECKS, *page_reading.CHECKS)
 
 
 def check_browser(check, kind, folder):

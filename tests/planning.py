@@ -63,6 +63,8 @@ def planned(inputs, filter_length):
 
 
 ROWS = [planned(inputs, filter_length) for inputs in INPUTS for filter_length in FILTERS]
+# The rows of the document: `fiolog plan` prints the others.
+SHOWN = [row for row in ROWS if row.filter in (1, 5, 10, 50)]
 
 
 def at_rate(row, rate):
@@ -75,8 +77,8 @@ def check_table(check):
     """The rows of the table in the document are the computed ones."""
     found = [[cell.strip().replace(',', '') for cell in line.strip('| ').split('|')]
              for line in text_of('docs/PLANNING.md').splitlines() if re.match(r'\| \d', line)]
-    check.equal('the number of rows of docs/PLANNING.md', len(ROWS), len(found))
-    for row, cells in zip(ROWS, found):
+    check.equal('the number of rows of docs/PLANNING.md', len(SHOWN), len(found))
+    for row, cells in zip(SHOWN, found):
         check.equal('the row of docs/PLANNING.md for ' + row.name,
                     [*map(str, (*row[:3], row.kept[1], row.lost[1])), *(at_rate(row, rate) for rate in (153_600, 614_400))], cells)
 

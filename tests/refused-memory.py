@@ -17,6 +17,7 @@ import tempfile
 
 from support.check import Check
 from support.tables import CAN_PROVE, TOP, program
+from support.waits import LONGEST
 
 LIBRARY = os.path.join(TOP, 'tests', 'support', 'refuse.c')
 ALLOCATIONS = os.path.join(TOP, 'crates', 'fio_allocations')
@@ -117,7 +118,7 @@ class Sweep:
             file.write(text)
             file.seek(0)
             done = subprocess.run(['fio2070', *words[1:]], executable=words[0], stdin=file, env=environment, stdout=subprocess.PIPE,
-                                  stderr=subprocess.STDOUT, timeout=60)
+                                  stderr=subprocess.STDOUT, timeout=LONGEST)
         return done.stdout.decode('latin-1'), done.returncode
 
     def refused(self, words, text):

@@ -42,7 +42,7 @@ RUST = '''fn main() {
 }
 '''
 SHOWS = '[ "$(echo 3605 | %s show)" = "poll block 5" ]'
-READS = "echo 'TX 36 05' | %s decode -q | grep -qx '1:     > poll block 5'"
+READS = "echo 'TX 36 05' | %s decode -q --like 'TX 36 05' | grep -qx '1:     > poll block 5'"
 # What is installed of Debian for the second half.
 FURTHER = ['python3-venv', 'cmake', 'cargo', 'pkg-config']
 

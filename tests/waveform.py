@@ -14,6 +14,7 @@ import tempfile
 
 from support.check import Check
 from support.tables import TOP, output_of
+from support.waits import LONGEST
 
 VCD = os.path.join(TOP, 'tools', 'waveform', 'vcd')
 TURN = 1 << 32
@@ -107,7 +108,7 @@ class Dump:
 
 def drawn(text):
     """What the tool writes of a text, on both streams, and its exit status."""
-    done = subprocess.run([VCD], input=text.encode(), stdout=subprocess.PIPE, stderr=subprocess.PIPE, timeout=60)
+    done = subprocess.run([VCD], input=text.encode(), stdout=subprocess.PIPE, stderr=subprocess.PIPE, timeout=LONGEST)
     return done.stdout.decode(), done.stderr.decode(), done.returncode
 
 

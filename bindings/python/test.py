@@ -57,8 +57,9 @@ class Calls(unittest.TestCase):
         self.assertEqual((found.kind, found.breach.rule), (place.OUTCOME_BROKEN, place.RULE_PAIR))
 
     def test_lines(self):
-        found = fio2070.LogReader().read(LOG)
-        self.assertEqual(found[0], (1, 'frames', '', (BLOCK,), ((1, 16, 48),), 26102000000, '<'))
+        reader = fio2070.LogReader()
+        found = reader.read(LOG) + reader.end()
+        self.assertEqual(found[0], (1, 'frames', '', (BLOCK,), ((1, 16, 48),), 26102000000, '<', b'', 0, 0))
         self.assertEqual([one[1:3] for one in found[1:]], [('passed over', 'no octets'), ('blank', '')])
 
     def test_types(self):

@@ -38,6 +38,31 @@ class Logs(unittest.TestCase):
 
     def test_forms(self):
         self.assertRaises(ValueError, fio2070.LogReader, 'other')
+        self.assertEqual(fio2070.LogReader().forms(), [])
+        reader = fio2070.LogReader()
+        reader.read(LOG + b'07:15:03.000 RX b6 06 00 00 00 00 00 01\n07:15:04.000 RX b6 05 01\n')
+        reader.end()
+        self.assertEqual(reader.forms(), [fio2070.ReadAs(b'07:15:02.000 RX ', 1, 3, 1, False)])
+
+    def test_like(self):
+        # By a sample a log is read from its first line on, whatever else it has. Once the log has begun nothing is learnt.
+        for samples, form, count in ((LOG, 'auto', 1), (b'no octets\n', 'auto', 0), (b'', 'auto', 0), (LOG, 'frames', 0), (LOG, 'transcript', 0)):
+            self.assertEqual(fio2070.LogReader(form).like(samples), count)
+        reader = fio2070.LogReader()
+        self.assertEqual(reader.like(LOG), 1)
+        self.assertEqual([one.frames for one in reader.read(b'07:15:04.000 RX b3 00\nRX\n')], [(bytes([179, 0]),), ()])
+        self.assertEqual(reader.like(LOG), 0)
+        self.assertRaises(TypeError, reader.like, 'RX b3 00')
+
+    def test_ended(self):
+        # What waits is said as if the log ended here; the reader reads on.
+        reader = fio2070.LogReader()
+        for _ in range(2):
+            other = reader.ended()
+        reader.read(LOG)
+        other = reader.ended()
+        self.assertEqual([one.kind for one in other.end()], ['frames', 'passed over', 'blank'])
+        self.assertEqual([one.kind for one in reader.read(LOG) + reader.end()], 2 * ['frames', 'passed over', 'blank'])
 
     def test_end(self):
         # The library is asked until a batch has no verdicts.
@@ -50,37 +75,43 @@ class Logs(unittest.TestCase):
     def test_longest_frame_by_order(self):
         text = b'3b' * 773 + b'\n' + b'3b' * 774 + b'\n'
         self.assertEqual(fio2070.LogReader('frames').read(text), [
-            (1, 'frames', '', (b';' * 773,), ((1, 0, 1546),), None, ''), (2, 'damaged', 'no message', (), (), None, '')])
+            (1, 'frames', '', (b';' * 773,), ((1, 0, 1546),), None, '', b'', 0, 0), (2, 'damaged', 'no message', (), (), None, '', b'', 0, 0)])
 
     def test_long_line_by_order(self):
         for first, verdict in ((b'#', ('blank', '')), (b'3', ('damaged', 'too long'))):
             reader = fio2070.LogReader('frames')
-            self.assertEqual(reader.read(first * 70000 + b'\n'), [(1, *verdict, (), (), None, '')])
+            self.assertEqual(reader.read(first * 70000 + b'\n'), [(1, *verdict, (), (), None, '', b'', 0, 0)])
 
 
 class LogBatches(unittest.TestCase):
     """What takes a batch says the same as what takes its lines one by one."""
 
     TEXT = LOG + b''.join(b'07:15:%02d TX 36 %02x\n07:15:%02d.004 RX b6 %02x 00 00 00 00 00 %02x\n' % (turn, turn + turn // 5, turn, turn, turn)
-                          for turn in range(30)) + b'RX b6 0? 00\n3 messages lost\nTX 36 40\nTX 36 41 ?\n'
+                          for turn in range(30)) + b'07:16:00.004 RX b6 0? 00\n3 messages lost\n07:16:01 TX 36 40\nfrom another log 36 41\n'
 
     @staticmethod
     def one_by_one(verdicts, as_said=False):
         judge, counts, signs, found, taken = fio2070.LogJudge(), fio2070.LogCounts(), fio2070.LogSigns(), [], []
         for one in verdicts:
-            if one.kind == 'possible' or one.reason == 'heading':
+            is_dropped = one.reason == 'broken' or one.kind == 'frames' and one.reason != ''
+            if one.kind == 'possible':
                 judge.possible()
+            elif one.reason == 'heading' and found:
+                judge.lose()
             elif one.reason == 'loss':
                 judge.miss()
-            elif one.kind == 'damaged':
+            elif one.kind == 'damaged' or is_dropped:
                 judge.lose()
-            if one.kind in ('possible', 'damaged') or one.reason in ('loss', 'heading'):
+            if one.kind in ('possible', 'damaged') or one.reason in ('loss', 'heading') or is_dropped:
                 counts.lose()
             for octets in one.frames if one.kind == 'frames' else ():
                 from_cpu = one.said == '>' if as_said and one.said else octets[0] < 128
                 found.append(judge.frame(octets, from_cpu, one.said))
                 signs.frame(octets, from_cpu, one.said)
                 taken.append(counts.frame(octets, one.time))
+            if is_dropped and one.frames:
+                judge.lose()
+                counts.lose()
         return [one for one in found if one.kind], [one for one in taken if one is not None], counts, signs.sign
 
     def test_same(self):
@@ -103,7 +134,8 @@ class LogBatches(unittest.TestCase):
     def test_as_said(self):
         # Each answer is there twice, and its line says that the CPU sent it: that is no answer, so no sign.
         text, signs = ''.join(2 * ('TX b6 %02x 00 00 00 00 00 01\n' % number) for number in range(4)).encode(), {}
-        verdicts = fio2070.LogReader().read(text)
+        reader = fio2070.LogReader()
+        verdicts = reader.read(text) + reader.end()
         for as_said in (False, True):
             batch, judge, sign = fio2070.LogBatch(verdicts), fio2070.LogJudge(), fio2070.LogSigns()
             sign.batch(batch, as_said)
@@ -120,7 +152,8 @@ class LogBatches(unittest.TestCase):
         self.assertEqual(batch.verdicts(), verdicts)
         self.assertEqual([batch.told(index).time for index in range(3)], [0, None, 7])
         self.assertEqual((batch.timed, batch.types()), (bytes([1, 0, 1]), bytes([0, 54, 0, 54, 0])))
-        self.assertEqual([one.time for one in fio2070.LogReader().read(b'00:00:00 RX b6 05 00 00 00 00 00 01\n')], [0])
+        reader = fio2070.LogReader()
+        self.assertEqual([one.time for one in reader.read(b'00:00:00 RX b6 05 00 00 00 00 00 01\n') + reader.end()], [0])
 
     def test_counts(self):
         counts = fio2070.LogCounts()
@@ -138,7 +171,8 @@ class LogBatches(unittest.TestCase):
                 self.assertRaises(ValueError, kind, *limits)
 
     def test_made(self):
-        verdicts = fio2070.LogReader().read(self.TEXT)
+        reader = fio2070.LogReader()
+        verdicts = reader.read(self.TEXT) + reader.end()
         batch = fio2070.LogBatch(verdicts)
         self.assertEqual(batch.verdicts(), verdicts)
         self.assertEqual((len(batch), repr(batch)), (len(verdicts), '<LogBatch lines=%d frames=%d>' % (len(verdicts), batch.frame_count)))
@@ -150,9 +184,39 @@ class LogBatches(unittest.TestCase):
         batch.set_kind(0, fio2070.constants.LOG_DAMAGED)
         batch.set_side(0, fio2070.constants.LOG_FROM_CPU)
         self.assertEqual((batch.told(0).kind, batch.told(0).said, batch.kinds[0], batch.sides[0]), ('damaged', '>', 4, 1))
-        batch.truncate(1)
-        self.assertEqual([one.kind for one in batch.verdicts()], ['damaged'])
+        self.assertEqual(batch.reasons, bytes(fio2070.log_batches._REASONS.index(one.reason) for one in verdicts))
         self.assertRaises(ValueError, fio2070.LogBatch, verdicts * 100)
+
+    def test_parts(self):
+        frames = [[b'\x36\x05'], [], [b'\xb6\x05', b'\x36\x06'], [b'\x36\x07'], [b'']]
+        verdicts = [fio2070.Verdict(line, 'frames' if some else 'possible', '' if some else 'no form', tuple(some), (), None, '')
+                    for line, some in enumerate(frames, 1)]
+        batch = fio2070.LogBatch(verdicts)
+        for mask, kinds, lines in ((b'\1\1\1\1\1', [1, 3, 1, 1, 1], frames), (b'\1\0\0\1\0', [1, 0, 0, 1, 0], [frames[0], [], [], frames[3], []]),
+                                   (b'\2\1\1\0\1', [4, 3, 1, 0, 1], [[], [], frames[2], [], frames[4]]), (bytes(5), [0] * 5, [[]] * 5)):
+            own = [octets for some in lines for octets in some]
+            for part in batch.parts([mask]):
+                found = part.verdicts()
+                self.assertEqual(([*part.kinds], [list(one.frames) for one in found]), (kinds, lines))
+                self.assertEqual((part.frames(), part.frame_count, part.frame_counts()), (own, len(own), [len(some) for some in lines]))
+                self.assertEqual((part.types(), part.last_frames(2)), (bytes(octets[0] if octets else 0 for octets in own), own[-2:]))
+                self.assertEqual([one.reason for one in found], ['no message' if how == 2 else one.reason * how for how, one in zip(mask, verdicts)])
+                counts, judge = fio2070.LogCounts(), fio2070.LogJudge()
+                counts.batch(part)
+                alone = [fio2070.LogBatch([one]) for one in found if one.kind != 'blank']
+                self.assertEqual(counts.frames, len(own))
+                expected = [one for part in alone for _, one in judge.batch(part)]
+                self.assertEqual([one for _, one in fio2070.LogJudge().batch(part)], expected)
+        self.assertEqual(batch.verdicts(), verdicts)
+
+    def test_pass_over(self):
+        verdicts = [fio2070.Verdict(1, 'damaged', 'no message', (), (), None, '', b'', 55, 15), fio2070.Verdict(2, 'frames', '', (b'\xb7\0',), (), 7, '<', b'\x14'),
+                    fio2070.Verdict(3, 'frames', '', (b'\x36\1',), (), None, '>')]
+        batch = fio2070.LogBatch(verdicts)
+        self.assertEqual((batch.verdicts(), batch.foreign, batch.sizes[0], batch.told(0).size), (verdicts, bytes([55, 0, 0]), 15, 15))
+        self.assertEqual((batch.last_type(2), batch.last_frames(1), batch.last_frames(9)), (54, [b'\x36\1'], [b'\xb7\0', b'\x36\1']))
+        batch.pass_over([1])
+        self.assertEqual(batch.verdicts(), [verdicts[0], fio2070.Verdict(2, 'passed over', 'no message', (), (), 7, '<', b'', 183), verdicts[2]])
 
     def test_words(self):
         judge = fio2070.LogJudge()

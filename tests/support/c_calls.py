@@ -95,7 +95,10 @@ def words_of(it, unsaid=()):
         if name in unsaid or type(it).__name__ == 'judge_outcome' and name == 'input' and value == NUMBERS['NO_INPUT']:
             continue
         if isinstance(value, ctypes.Array) and kind._type_ is ctypes.c_uint8:
-            said += [name, bytes(value).hex()] if any(value) else []
+            octets_of = bytes(value)[:getattr(it, name + '_length', None)]      # what is after them need not be written
+            said += [name, octets_of.hex()] if any(octets_of) else []
+        elif isinstance(value, ctypes.Array) and issubclass(kind._type_, ctypes.Structure):
+            said += [name, *(word for one in value[:it.count] for word in words_of(one))]
         elif isinstance(value, ctypes.Array):
             said += [word for place, one in enumerate(value) if one for word in (name, str(place), str(one))]
         else:

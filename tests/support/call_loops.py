@@ -64,18 +64,13 @@ def next_log(run):
             yield 'FAILED the next log: %s' % found
 
 
-def dump(count):
-    """Blocks in rows of sixteen octets."""
-    octets = BLOCK * count
-    return ''.join('%08x  %s\n' % (at, octets[at:at + 16].hex(' ')) for at in range(0, len(octets), 16))
-
-
 def ends_with_verdicts_due(run):
-    """Lines that may say a poll wait for those below, so with the frames of a dump their verdicts are due at once. The batch is full
-    before it has them all, and then the log ends with a line that begins another dump. No frame is lost, wherever it is full."""
+    """The lines that wait until the log shows its form have their verdicts at once, and a batch is full wherever it is in a log, whose
+    last line may wait. No frame is lost."""
     for end in ('', '\n'):
-        for blank in range(4085, 4097):
-            text = '\n' * blank + ''.join('tick %c 36 %02x\n' % (97 + line, line) for line in range(5)) + dump(4) + '00000000  36 05' + end
+        for blank in range(4077, 4089):
+            lines = ['RX b6 %02x 00 00 00 00 00 01\n' % line for line in range(13)]
+            text = ''.join(lines[:8] + ['\n'] * blank + lines[8:]).rstrip('\n') + end
             text, frames, taken = text.encode(), 0, 0
             run.call('log_start', '0')
             while taken < len(text):
@@ -84,7 +79,7 @@ def ends_with_verdicts_due(run):
             run.call('log_end')
             while run.call('log_read') or run.kept['log_batch'].values[0].verdict_count:
                 frames += run.kept['log_batch'].values[0].frame_count
-            if frames != 5:
+            if frames != len(lines):
                 yield 'FAILED %d frames below %d lines' % (frames, blank)
 
 

@@ -37,7 +37,7 @@ def run(*words):
     """What a command writes. If it takes too long, it is ended with all that it began."""
     with subprocess.Popen(words, stdin=subprocess.DEVNULL, stdout=subprocess.PIPE, stderr=subprocess.PIPE, text=True, start_new_session=True) as process:
         try:
-            out, err = process.communicate(timeout=LONGEST)
+            out, err = process.communicate(timeout=3 * LONGEST)
         except BaseException:
             os.killpg(process.pid, signal.SIGKILL)
             raise

@@ -25,11 +25,7 @@ LIBRARY = {
     'stack: `show` / other calls, at most': [('stack', 'show, 255 entries'), ('stack', 'others')]}
 # Those of docs/FIRMWARE.md: microseconds with one and the other options, of a processor with this clock in MHz.
 RATE = 64
-FIRMWARE = {'`_scan`: nothing changes': 'module_scan, nothing changes', '`_scan`: two inputs change': 'module_scan, inputs 0 and 1 change',
-            '`_scan`: 64 inputs change': 'module_scan, 64 inputs change',
-            '`_receive`: a poll, 20 entries': 'module_receive, poll, 20 entries',
-            '`_receive`: a poll, 255 entries': 'module_receive, poll, 255 entries',
-            '`_receive`: a configuration of 64 items': 'module_receive, 64 items',
+FIRMWARE = {'`_scan`: 64 inputs change': 'module_scan, 64 inputs change',
             '`_receive`: a configuration of 255 items': 'module_receive, 255 items',
             '`fio2070_wire_read`: an octet': 'wire_read, an octet',
             '`fio2070_wire_write`: the longest message': 'wire_write, 773 octets'}

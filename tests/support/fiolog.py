@@ -36,6 +36,11 @@ class Done(NamedTuple):
     err: str
     status: int
 
+    @property
+    def remarks(self):
+        """What it says on standard error, but for how lines are read."""
+        return ''.join(line + '\n' for line in self.err.splitlines() if not line.startswith('fiolog: read as '))
+
     def objects(self):
         """The objects that a run with `--json` wrote."""
         return json.loads('[%s]' % self.out.replace('}\n{', '},{'))
@@ -125,6 +130,14 @@ def reading(lines):
 
         def last_batches(self):
             yield fio2070.LogBatch(verdicts)
+
+        def forms(self):
+            """None is known."""
+            return []
+
+        def ended(self):
+            """What waits is the same if the log ends here."""
+            return self
     real, fio2070.LogReader = fio2070.LogReader, Reader
     try:
         yield

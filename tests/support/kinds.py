@@ -5,7 +5,13 @@ import runpy
 
 from support.tables import TOP
 
+# The status of a log of which little could be judged.
+LITTLE = 4
 SIGNS = runpy.run_path(os.path.join(TOP, 'bindings', 'python', 'fiolog', 'log_words.py'))['SIGNS']
+
+
+# Short messages alone show no form: of logs of few of them the lines are given.
+LIKE = '--like', 'TX 36 05', '--like', 'RX B6 05 00 00 00 00 00 01'
 
 
 def polls(*numbers):
@@ -29,7 +35,8 @@ LINES = [line for number in NUMBERS for line in (polls(number), blocks(number))]
 KINDS = {
     'one link in order': (LINES, ''),
     'each frame twice': ([line * 2 for line in LINES], 'twice'),
-    'the logs of both ends': ([line + of_other_end(line) for line in LINES], 'both ends'),
+    # Each line of the other end repeats the frame above: it is a copy, and the log that of one end.
+    'the logs of both ends': ([line + of_other_end(line) for line in LINES], ''),
     'the last line first': (LINES[::-1], 'reversed'),
     'two links': ([line for number in NUMBERS for line in (polls(number), blocks(number), polls(number + 90), blocks(number + 90))],
                   'two links'),

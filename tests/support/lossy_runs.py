@@ -5,12 +5,13 @@ import subprocess
 import tempfile
 
 from support.tables import TOP, output_of
+from support.waits import LONGEST
 
 
 def run(tool, words, text=''):
     """What a tool writes, what it writes on standard error, and its exit status."""
     done = subprocess.run([os.path.join(TOP, 'tools', tool), *words], input=text.encode(), stdout=subprocess.PIPE,
-                          stderr=subprocess.PIPE, timeout=60)
+                          stderr=subprocess.PIPE, timeout=LONGEST)
     return done.stdout.decode(), done.stderr.decode(), done.returncode
 
 

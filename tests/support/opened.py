@@ -31,6 +31,9 @@ if (name) dropped.items.add(new File([text], name)); else dropped.setData("text/
 document.querySelector(".drop").dispatchEvent(new DragEvent("drop", { bubbles: true, cancelable: true, dataTransfer: dropped }));'''
 # What work of the page in slices makes, at once.
 FINISHED = 'const finished = (work) => { let next = work.next(); while (!next.done) next = work.next(); return next.value; };'
+# Calls what one more script adds, `window.judged`; its result is `window.found`.
+RUN_ADDED = '''const [added, ...given] = arguments, script = document.createElement("script"); script.textContent = added;
+document.head.append(script); window.found = null; window.judged(...given).then((found) => { window.found = found; }, (fault) => { window.found = String(fault); });'''
 # Directions as rows show them.
 ARROWS = {'>': 'CPU → module', '<': 'module → CPU'}
 # The first and the last millisecond that are seen.
@@ -155,3 +158,13 @@ def dropped(browser, text, file=''):
 def is_message(row):
     """Whether a row has a message, and no line or octets that are none."""
     return row[5] != '' and not re.match('wrong length|unknown|empty', row[3])
+
+
+def open_with(browser, folder, added):
+    """Opens a copy of the page whose policy names one more script."""
+    with open(PAGE, encoding='utf-8') as file:
+        page = file.read()
+    path = os.path.join(folder, 'added.html')
+    with open(path, 'w', encoding='utf-8') as file:
+        file.write(page.replace("script-src 'sha256-", "script-src 'sha256-%s' 'sha256-" % script_hash(added), 1))
+    started(browser, 'file://' + path)

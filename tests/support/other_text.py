@@ -59,18 +59,8 @@ KINDS = {
 }
 
 
-# The frames in 256,000 such lines in logs of 2,000: the log, the line, and the octets. Each is a 51 whose count is right by chance.
-BY_CHANCE = {
-    ('a table of numbers, 61', 898): '3301865125',
-    ('lists of numbers, 114', 203): '3303c22af11641198b363b',
-}
-
-# The lines of them of which it is remarked that they would say a message with a count: the log, the line, and the reason.
-REMARKED = {
-    ('a dump of words, 17', 1498): 'two more',
-    ('sums of files, 31', 706): 'two more',
-    ('lists of numbers, 114', 269): 'two more',
-}
+# The frames in 256,000 such lines in logs of 2,000, by the log and the line: none.
+BY_CHANCE = {}
 
 
 def other_text(count, length=2000):

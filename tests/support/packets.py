@@ -106,50 +106,48 @@ def files():
         for order, is_nano in itertools.product('<>', (False, True)):
             ends = {4: (CPU4, MODULE4), 6: (CPU6, MODULE6)}[version]
             packets = [around(IN_IP[version](udp(POLL), ends), version), around(IN_IP[version](udp(BLOCK, (2070, 40000)), ends[::-1]), version)]
-            digits = '000' * (2 if not is_nano else 3), '001000' if not is_nano else '001000000'
             yield ('%s, IPv%d, %s%s' % (name, version, order, ' ns' * is_nano), pcap(packets, link, order, is_nano),
-                   ['1700000000.%s udpgg %s' % (part, octets.hex()) for part, octets in zip(digits, (POLL, BLOCK))])
+                   ['1700000000.%03d000000 udpgg %s' % (place, octets.hex()) for place, octets in enumerate((POLL, BLOCK))])
     for order in '<>':
         times = [1_700_000_000_000_000 + place * 1000 for place in range(len(OTHERS))]
-        lines = ['1700000000.%06d %s' % (place * 1000, said(what)) for place, (_, _, what) in enumerate(OTHERS)]
+        lines = ['1700000000.%03d000000 %s' % (place, said(what)) for place, (_, _, what) in enumerate(OTHERS)]
         packets = [packet for _, packet, _ in OTHERS]
         yield 'what is no UDP, %s' % order, pcap(packets, 1, order), lines
         yield ('what is no UDP in pcapng, %s' % order,
                section(order) + interface(order, 1) + b''.join(enhanced(order, 0, *pair) for pair in zip(times, packets)), lines)
         yield from of_pcapng(order)
     for snap in (10, 14, 33, 34, 41, 42, 43):
-        yield 'cut after %d' % snap, pcap([ethernet(ipv4(udp(POLL)))], 1, snap=snap), ['1700000000.000000 ' + CUT]
-    yield 'cut in the padding', pcap([ethernet(ipv4(udp(POLL))) + bytes(16)], 1, snap=46), ['1700000000.000000 udpgg 3600']
-    yield 'another link type', pcap([bytes(40)] * 2, 105), ['1700000000.000000 not UDP', '1700000000.001000 not UDP']
+        yield 'cut after %d' % snap, pcap([ethernet(ipv4(udp(POLL)))], 1, snap=snap), ['1700000000.000000000 ' + CUT]
+    yield 'cut in the padding', pcap([ethernet(ipv4(udp(POLL))) + bytes(16)], 1, snap=46), ['1700000000.000000000 udpgg 3600']
+    yield 'another link type', pcap([bytes(40)] * 2, 105), ['1700000000.000000000 not UDP', '1700000000.001000000 not UDP']
     whole = pcap([ethernet(ipv4(udp(POLL)))] * 2, 1)
     yield 'cut in the head of the file', whole[:20], [EARLY]
-    yield 'cut in a head', whole[:-50], ['1700000000.000000 udpgg 3600', EARLY]
-    yield 'cut in a packet', whole[:-5], ['1700000000.000000 udpgg 3600', EARLY]
-    yield 'a packet of more octets than any', whole + struct.pack('<IIII', 0, 0, 1 << 30, 1 << 30) + bytes(9), ['1700000000.000000 udpgg 3600', '1700000000.001000 udpgg 3600', BROKEN]
+    yield 'cut in a head', whole[:-50], ['1700000000.000000000 udpgg 3600', EARLY]
+    yield 'cut in a packet', whole[:-5], ['1700000000.000000000 udpgg 3600', EARLY]
+    yield 'a packet of more octets than any', whole + struct.pack('<IIII', 0, 0, 1 << 30, 1 << 30) + bytes(9), ['1700000000.000000000 udpgg 3600', '1700000000.001000000 udpgg 3600', BROKEN]
     ends = [(40000, 2070), (40001, 2070), (2070, 40000), (2070, 40001)]
     yield ('two pairs of ends', pcap([ipv4(udp(POLL, ports), (CPU4, MODULE4) if place < 2 else (MODULE4, CPU4)) for place, ports in enumerate(ends)], 101),
-           ['1700000000.%06d %s 3600' % (place * 1000, word) for place, word in enumerate(('udpgg', 'udpgh', 'udpgg', 'udpgh'))])
+           ['1700000000.%03d000000 %s 3600' % (place, word) for place, word in enumerate(('udpgg', 'udpgh', 'udpgg', 'udpgh'))])
 
 
 def of_pcapng(order):
     """What pcapng alone has."""
     packet, start = ethernet(ipv4(udp(POLL))), section(order)
-    for resolution, steps, text in ((None, 10 ** 6, '12.500000'), (3, 1000, '12.500000'), (9, 10 ** 9, '12.500000000'), (0x8a, 1024, '12.500000'),
-                                    (0xa0, 1 << 32, '12.500000000')):
-        yield ('steps %s, %s' % (resolution, order), start + interface(order, 1, resolution) + enhanced(order, 0, 25 * steps // 2, packet), ['%s udpgg 3600' % text])
-    yield 'shifted times, ' + order, start + interface(order, 1, 6, 1_700_000_000) + enhanced(order, 0, 1, packet), ['1700000000.000001 udpgg 3600']
+    for resolution, steps in ((None, 10 ** 6), (3, 1000), (9, 10 ** 9), (0x8a, 1024), (0xa0, 1 << 32)):
+        yield ('steps %s, %s' % (resolution, order), start + interface(order, 1, resolution) + enhanced(order, 0, 25 * steps // 2, packet), ['12.500000000 udpgg 3600'])
+    yield 'shifted times, ' + order, start + interface(order, 1, 6, 1_700_000_000) + enhanced(order, 0, 1, packet), ['1700000000.000001000 udpgg 3600']
     yield 'a packet without a time, ' + order, start + interface(order, 1) + simple(order, packet), ['udpgg 3600']
     yield 'a cut packet without a time, ' + order, start + interface(order, 1, snap=42) + simple(order, packet, 42), [CUT]
-    yield 'a cut packet, ' + order, start + interface(order, 1) + enhanced(order, 0, 0, packet[:43], len(packet)), ['0.000000 ' + CUT]
+    yield 'a cut packet, ' + order, start + interface(order, 1) + enhanced(order, 0, 0, packet[:43], len(packet)), ['0.000000000 ' + CUT]
     yield ('two interfaces, a block that is not read, and a section of the other order, ' + order,
            start + interface(order, 101) + interface(order, 1) + block(order, 5, bytes(12)) + enhanced(order, 1, 0, packet) + enhanced(order, 0, 1, packet[14:])
            + section('<>'[order == '<']) + interface('<>'[order == '<'], 1) + enhanced('<>'[order == '<'], 0, 2, packet),
-           ['0.00000%d udpgg 3600' % place for place in range(3)])
+           ['0.00000%d000 udpgg 3600' % place for place in range(3)])
     upper = struct.pack('>HH8sHH', 12, 8, b'fio2070\0', 0, 0)
     yield ('messages that fiolog wrote, ' + order, start + interface(order, 252)
            + b''.join(enhanced(order, 0, place, upper + octets, flags=flags) for place, (octets, flags) in enumerate(((POLL, 2), (BLOCK, 1), (POLL, None))))
            + enhanced(order, 0, 3, upper.replace(b'fio2070', b'another') + POLL),
-           ['0.000000 > 3600', '0.000001 < ' + BLOCK.hex(), '0.000002 3600', '0.000003 not UDP'])
+           ['0.000000000 > 3600', '0.000001000 < ' + BLOCK.hex(), '0.000002000 3600', '0.000003000 not UDP'])
     yield 'an interface that is missing, ' + order, start + interface(order, 1) + enhanced(order, 1, 0, packet), [BROKEN]
     yield 'a block with a wrong length, ' + order, start + interface(order, 1) + struct.pack(order + 'II', 6, 13) + bytes(40), [BROKEN]
 

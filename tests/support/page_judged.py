@@ -1,5 +1,5 @@
-"""What the page says of a log by the library's judge: restarts of the module, what is not judged and why, what kind of log it looks like,
-and the same breaches, restarts and counts as `fiolog check`."""
+"""What the page says of a log by the library's judge: restarts of the module, what is not judged and why, what kind of log it is, and the
+same breaches, restarts and counts as `fiolog check`."""
 
 import glob
 import json
@@ -8,19 +8,20 @@ import re
 
 from support.damage import DAMAGED
 from support.fiolog import LIBRARY, fiolog
-from support.kinds import KINDS, SIGNS
-from support.opened import CELLS, FINISHED, OPEN_ALL, PAGE, pasted, script_hash, started, text_of, words_in
+from support.kinds import KINDS, SIGNS, blocks, polls
+from support.opened import CELLS, FINISHED, OPEN_ALL, RUN_ADDED, open_with, pasted, text_of, words_in
+from support.page_stations import PAIR, SIZES, STATIONS, heard
 from support.strangers import READ
 from support.tables import TOP
 
 # The kind of the verdict, all that it says, and what is not judged.
 SAID = '''const it = document.getElementById("not-judged");
 return [document.getElementById("verdict").dataset.kind, document.getElementById("verdict-text").textContent, it ? it.textContent : ""]'''
-# The breaches and the restarts in the rows, each with its line; what is not judged; and what the verdict says.
+# The breaches and the restarts in the rows, each with its line; what is not judged; and all that the verdict says.
 FOUND = '''const it = document.getElementById("not-judged"), rule = (row) => row.children[4].textContent.split(":")[0];
 const found = [...document.querySelectorAll(".line.broken, .line.restarted")].map((row) =>
     [Number(row.children[0].textContent), row.matches(".broken") ? rule(row) : "restarted"]);
-return [found, it ? it.textContent : "", document.getElementById("verdict-text")?.textContent]'''
+return [found, it ? it.textContent : "", document.getElementById("verdict").textContent]'''
 # How the page says each count that `fiolog check --json` has by this name.
 COUNTS = {
     'frames_above_a_command': r'([\d,]+) messages? above the first command',
@@ -47,34 +48,39 @@ LOGS = [
      {'losses_of_sync': 1}),
     ('a breach below the poll below a restart', BACK + '> 3602\n< b60300000000000c\n', 'broken',
      ['Line 6 breaks the rule number', 'Line 4: ' + RESTARTED], {'losses_of_sync': 2}),
-    ('a watchdog that is forgotten', '> 3a32\n< ba00\n> 3a32\n< ba00\n', 'restarted', ['Line 4: the module restarted, or forgot its watchdog'], {'losses_of_sync': 1}),
+    ('a watchdog that is forgotten', LATER + '> 3a32\n< ba00\n> 3a32\n< ba00\n', 'restarted', ['Line 6: the module restarted, or forgot its watchdog'], {'losses_of_sync': 1}),
     ('a load that was sent', LATER + LOAD + DONE + EARLIER, 'partly', ['in the 5 messages that'], {'frames_below_loads': 1, 'losses_of_sync': 1}),
-    ('a load that a lost line may have been', LATER + CUT + DONE + EARLIER + STATUS + '> 3602\n< b60200000000000c\n', 'partly', ['in the 5 messages that'],
+    ('a load that a lost line may have been', LATER + CUT + DONE + EARLIER + STATUS + '> 3602\n< b60200000000000c\n', 'unjudged', ['Only 3 messages of 10 could be judged'],
      {'frames_below_loads': 1, 'losses_of_sync': 2, 'frames_at_losses_of_sync': 3}),
     ('two steps back below one lost line', LATER + CUT + DONE + '> 3601\n< b601000000000016\n> 3602\n< b60200000000000b\n> 3603\n< b60300000000000a\n',
      'restarted', ['Line 10: ' + RESTARTED],
      {'frames_below_loads': 1, 'losses_of_sync': 3, 'frames_at_losses_of_sync': 1}),
     ('a block that is asked for again', AGAIN % tuple('><' * 2), 'broken', ['Line 3 breaks the rule advance'], {'losses_of_sync': 1, 'frames_at_losses_of_sync': 1}),
     ('the same at the module', AGAIN % tuple('<>' * 2), 'partly', ['in the 3 messages that'], {'frames_not_at_the_cpu': 1}),
-    ('two damaged lines, one below the other', '> 3605\n< b6050\n< b6050\n' + STATUS + '> 3606\n< b606000000000002\n> 3607\n< b607000000000003\n', 'partly', ['in the 5 messages that'],
+    ('two damaged lines, one below the other', '> 3605\n< b6050\n< b6050\n' + STATUS + '> 3606\n< b606000000000002\n> 3607\n< b607000000000003\n', 'unjudged', ['Only 4 messages of 9 could be judged'],
      {'losses_of_sync': 1, 'frames_at_losses_of_sync': 2}),
     ('a log without directions', '36ff\nb6ff010000010200000001\n', 'good', ['does not say who sent'], {}),
-    ('a log with a bad line', '> 36ff\n> 36f\n< b6ff010000010200000001\n> 3600\n< b600000000000002\n', 'partly',
-     ['1 line could not be read as a message and is not judged'], {'losses_of_sync': 1, 'frames_at_losses_of_sync': 1}),
+    ('a log with a bad line', '> 36ff\n> 36f\n< b6ff010000010200000001\n> 3600\n< b600000000000002\n', 'unjudged',
+     ['Only 2 messages of 5', '1 line could not be read as a message and is not judged'], {'losses_of_sync': 1, 'frames_at_losses_of_sync': 1}),
     ('a log of the bus', '3605\nb605000000000001\n3605\n', 'partly', ['1 message is not judged, since this log was not taken at the CPU'], {'frames_not_at_the_cpu': 1}),
-    ('answers below a breach', '> 36ff\n< b605000000000001\n< b605000000000001\n', 'broken',
+    ('answers below a breach', '> 36fe\n< b6fe000000000001\n> 36ff\n< b605000000000001\n< b605000000000001\n', 'broken',
      ['1 loss of sync, at a breach: 1 message from there to the next poll is not judged'], {'losses_of_sync': 1, 'frames_at_losses_of_sync': 1}),
     ('an answer alone', 'b605018c4121000000416a\n', 'unjudged', ['1 message above the first command is not judged'], {'frames_above_a_command': 1}),
     ('a log that begins with an answer', '< b605000000000001\n> 3606\n< b606000000000002\n', 'partly', ['1 message above the first command is not judged'],
      {'frames_above_a_command': 1}),
     ('a breach above the first poll', '> 34\n< b605000000000001\n> 3606\n< b606000000000002\n', 'broken', ['in the middle of traffic'], {'losses_of_sync': 1}),
-    ('one poll, over and over', '> 3605\n' * 4, 'partly', ['No answer came: the module is silent, or its direction was not logged'], {}),
-    ('an answer in two lines', 'TX 36 05\nRX B6 05 00 00\nRX 00 00 00 01\nTX 36 05\nRX B6 05 00 02 00 00 00 01\nTX 36 06\n', 'partly',
-     ['1 message split over two lines is not read'], {'losses_of_sync': 1}),
-    ('a log of which less than half is judged', '> 3605\n' + '> 36f\n' * 3 + '< b605000000000001\n', 'unjudged', ['3 lines could not be read'],
-     {'losses_of_sync': 1, 'frames_at_losses_of_sync': 1}),
+    ('one poll, over and over', '> 36 05\n' * 8, 'partly', ['No answer came: the module is silent, or its direction was not logged'], {}),
+    ('a line that may be a message', 'TX 36 05\nRX B6 05 00 00 00 00 00 01\nmemory at b6 05 00 00\nRX B6 05 00 02 00 00 00 01\nTX 36 06\n', 'unjudged',
+     ['Only 2 messages of 5', '1 line may be a message, and has no form of this log'], {'losses_of_sync': 1, 'frames_at_losses_of_sync': 1}),
+    ('octets beside a message', 'TX 36 05\nRX B6 05 00 00 00 00 00 01\nTX 36 06\nRX B6 06 00 00 00 00 00 02 and b6 09 00\nTX 36 09\n', 'partly',
+     ['1 line could not be read as a message and is not judged'], {'losses_of_sync': 1, 'frames_at_losses_of_sync': 1}),
+    ('a log of which less than half is judged', '> 3605\n< b605000000000001\n> 36f\n' + STATUS * 2, 'unjudged', ['1 line could not be read'],
+     {'losses_of_sync': 1, 'frames_at_losses_of_sync': 4}),
+    ('answers that come late', '> 3605\n> 3605\n< b605000000000001\n< b605000200000001\n> 3606\n< b606000000000002\n', 'unjudged', ['Answers came late in this log'], {}),
+    ('such answers, and a breach', '> 3605\n> 3605\n< b605000000000001\n< b605000200000001\n> 3606\n< b606000000000002\n> 3608\n', 'broken',
+     ['2 messages of 7 break a rule. The first: line 4 breaks the rule pair', 'Answers may have come late or twice'], {'losses_of_sync': 2}),
     ('a log of the other end', '07:15:02.100 RX 36 05\n07:15:02.106 TX B6 05 00 00 00 00 00 01\n', 'good', [], {}),
-    ('commands alone', ''.join('> 36%02x\n' % number for number in range(5)), 'unjudged', ['This log has the commands alone'], {}),
+    ('commands alone', ''.join('> 36%02x\n' % number for number in range(8)), 'unjudged', ['This log has the commands alone'], {}),
     ('answers alone', ''.join('< b6%02x000000000001\n' % number for number in range(5)), 'unjudged', ['This log has the answers alone'], {}),
 ]
 
@@ -96,8 +102,8 @@ def check_logs(check, browser, _):
 
 def check_sources(check, browser, _):
     """Beside a breach are the sources of its rule, as docs/PROTOCOL.md has them of the answer to a load, and of a block's number."""
-    for name, text, words in (('a load that is refused', '> 32000000ff\n< b201\n', 'Source: behaviour own profile, layout own profile.'),
-                              ('another number', '> 3605\n< b6060000000003e8\n', 'Source: behaviour TEES 2009, layout TEES 2009.')):
+    for name, text, words in (('a load that is refused', LATER + '> 32000000ff\n< b201\n', 'Source: behaviour own profile, layout own profile.'),
+                              ('another number', LATER + '> 3601\n< b6020000000003e8\n', 'Source: behaviour TEES 2009, layout TEES 2009.')):
         pasted(browser, text)
         browser.click('#first-breach')
         check.equal('the sources: ' + name, words, words_in(browser, '#rule-source'))
@@ -124,11 +130,8 @@ JUDGED = FINISHED + '''window.judged = async (text, marks) => {
     for (const [place, mark] of marks) found.marks[place] |= MARKS[mark];
     const { breaches, lines, judging, verdict } = finished(new Log(library, new Arena(library), "marked", found, ENDS.auto).work());
     return [[...breaches.keys()].map((place) => lines[place]), judging.losses, judging.unjudged[WHY.placeLost], verdict.notJudged.join(" ")]; }'''
-MARKED = '''const [added, ...given] = arguments, script = document.createElement("script"); script.textContent = added;
-document.head.append(script); window.found = null; window.judged(...given).then((found) => { window.found = found; }, (fault) => { window.found = String(fault); });'''
 # The CPU goes on without the answer to its poll; and an answer comes twice.
 SKIPS = '> 3605\n< b605000000000001\n> 3606\n> 3607\n< b607000000000003\n> 3608\n< b608000000000004\n'
-PAIR = '> 3605\n< b605000000000001\n'
 TWICE = PAIR + '< b605000000000001\n> 3606\n< b606000000000002\n'
 MARKS = [
     ('no remark', SKIPS, [], [4], 1, 1), ('a remark of loss', SKIPS, [[3, 'loss']], [], 0, 0), ('one above a poll', SKIPS, [[0, 'loss']], [4], 1, 1),
@@ -141,21 +144,11 @@ MARKS = [
 WORDS = {'loss': '3 frames lost\n', 'heading': '---- part 2 ----\n'}
 
 
-def open_with(browser, folder, added):
-    """Opens a copy of the page whose policy names one more script."""
-    with open(PAGE, encoding='utf-8') as file:
-        page = file.read()
-    path = os.path.join(folder, 'added.html')
-    with open(path, 'w', encoding='utf-8') as file:
-        file.write(page.replace("script-src 'sha256-", "script-src 'sha256-%s' 'sha256-" % script_hash(added), 1))
-    started(browser, 'file://' + path)
-
-
 def check_marks(check, browser, folder):
     """What remarks of loss and headings do, which lines without octets say: by the calls, and in a log."""
     open_with(browser, folder, JUDGED)
     for title, text, marks, broken, losses, count in MARKS:
-        browser.run(MARKED, JUDGED, text, marks)
+        browser.run(RUN_ADDED, JUDGED, text, marks)
         found = browser.wait('return window.found')
         check.equal(title, [broken, losses, count], found[:3])
         check.equal('%s is said' % title, {key: number for key, number in (('losses_of_sync', losses), ('frames_at_losses_of_sync', count)) if number and losses},
@@ -170,12 +163,14 @@ def check_marks(check, browser, folder):
 
 
 def check_kinds(check, browser, _):
-    """What a log looks like is said in the verdict, in the words of `fiolog check`, and of a log of one link nothing."""
+    """What a log looks like is the verdict, in the words of `fiolog check`, and no rule is judged; of a log of one link rules are."""
     for title, (lines, sign) in KINDS.items():
-        pasted(browser, ''.join(lines))
-        words = SIGNS.get(sign, '')
-        check.equal('%s: what it looks like' % title, words and words[0].upper() + words[1:] + '.',
-                    browser.run('const it = document.getElementById("looks-like"); return it ? it.textContent : ""'))
+        pasted(browser, ''.join([polls(99), *lines, polls(99), blocks(98)] if sign else lines))
+        words, (kind, verdict, _) = SIGNS.get(sign, ''), browser.run(SAID)
+        if sign:
+            check.equal('%s: what it looks like' % title, ('unjudged', words[0].upper() + words[1:] + '.', []), (kind, verdict, browser.run(FOUND)[0]))
+        else:
+            check.equal('%s: it looks like one link' % title, [], [words for words in SIGNS.values() if words[1:] in verdict])
 
 
 def by_fiolog(text):
@@ -194,7 +189,7 @@ def check_as_fiolog(check, browser, _):
     texts = [(os.path.basename(path), text_of(os.path.relpath(path, os.path.join(TOP, 'examples'))))
              for ending in ('*.frames', '*.transcript', 'captures/*.txt') for path in sorted(glob.glob(os.path.join(TOP, 'examples', ending)))]
     texts = [(base, text) for base, text in texts if '\0' not in text]
-    texts += [(title, text) for title, text, *_ in READ[:40] + DAMAGED + LOGS]
+    texts += [(title, text) for title, text, *_ in READ[:40] + DAMAGED + LOGS + SIZES] + [(title, heard(*frames)) for title, frames, *_ in STATIONS]
     browser.run(OPEN_ALL.replace(CELLS, FOUND), [text for _, text in texts])
     browser.wait('return window.tables !== null')
     for (title, text), (found, not_judged, said) in zip(texts, browser.run('return window.tables')):

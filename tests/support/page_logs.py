@@ -1,5 +1,5 @@
-"""What the page shows of the lines of logs, beside what the library says by Python: frames with their octets, messages that are
-only possible, damaged lines, times, and how many lines are passed over."""
+"""What the page shows of the lines of logs, beside what the library says by Python: frames with their octets, lines that may be a
+message, damaged lines, times, and how many lines are passed over."""
 
 import glob
 import os
@@ -17,9 +17,9 @@ from support.tables import TOP, output_of
 SHOWN_OCTETS = 40
 # The rows of the log that is open, and what is said below the verdict.
 SEEN = '''const rows = () => { %s }; return { rows: rows(), note: document.getElementById("note").textContent };''' % CELLS
-POSSIBLE, BAD_LINE = 'possible: nothing in the log confirms it', 'damaged: bad line'
-# Lines that give the library no frame, each by itself; the page has a row for each.
-IN_TWO_LINES = 'part of a message in two lines'
+POSSIBLE, BAD_LINE = 'what may have been a message, and no form of this log', 'damaged: bad line'
+# The reasons of lines with octets that are in no frame, of which the page has a row above those of their frames.
+DROPPED = 'more', 'broken'
 
 # What is captured, and the messages that it has, by docs/CAPTURES.md.
 CAPTURES = {
@@ -56,31 +56,25 @@ def logs():
 
 
 def row_of(verdict, octets):
-    """A frame as its row shows it: line, whether there is a time, direction, whether it is only possible, and octets."""
+    """A frame as its row shows it: line, whether there is a time, direction, whether it is of no form, and octets."""
     arrow = ARROWS['<' if octets[0] >= 128 else '>']
     digits = octets[:SHOWN_OCTETS].hex() + '…' * (len(octets) > SHOWN_OCTETS)
-    return [verdict.line, verdict.time is not None, arrow, verdict.kind == 'possible', digits]
+    return [verdict.line, verdict.time is not None, arrow, False, digits]
 
 
-def parts_in(seen):
-    """The numbers of the lines with parts of messages."""
-    return {int(row[0]) for row in seen['rows'] if IN_TWO_LINES in row[4]}
-
-
-def by_library(text, parts=frozenset()):
-    """The rows of a log, and how many lines are passed over, by the library, without these lines."""
-    rows, verdicts = [], [one for one in verdicts_on(text.encode()) if one.line not in parts]
+def by_library(text):
+    """The rows of a log, and how many lines are passed over, by the library."""
+    rows, verdicts = [], verdicts_on(text.encode())
     for verdict in verdicts:
+        rows += [[verdict.line, False, '', verdict.kind == 'possible', '']] * (verdict.kind in ('damaged', 'possible') or verdict.reason in DROPPED)
         rows += [row_of(verdict, octets) for octets in verdict.frames]
-        rows += [[verdict.line, False, '', False, '']] * (verdict.kind == 'damaged')
-    return rows, sum(verdict.kind == 'passed over' for verdict in verdicts)
+    return rows, sum(verdict.kind == 'passed over' and verdict.reason not in DROPPED for verdict in verdicts)
 
 
 def by_page(seen):
-    """The same by the page, without lines with parts of messages."""
+    """The same by the page."""
     passed = re.search(r'([\d,]+) lines? skipped', seen['note'])
-    rows = [row for row in seen['rows'] if int(row[0]) not in parts_in(seen)]
-    return ([[int(row[0]), row[1] != '', row[2], POSSIBLE in row[4], row[5]] for row in rows],
+    return ([[int(row[0]), row[1] != '', row[2], POSSIBLE in row[4], row[5]] for row in seen['rows']],
             int(passed[1].replace(',', '')) if passed else 0)
 
 
@@ -90,7 +84,7 @@ def check_lines(check, browser, _):
     browser.run(OPEN_ALL.replace(CELLS, SEEN), [text for _, text in wanted])
     browser.wait('return window.tables !== null')
     for (title, text), seen in zip(wanted, browser.run('return window.tables')):
-        check.equal('the log %s' % title, by_library(text, parts_in(seen)), by_page(seen))
+        check.equal('the log %s' % title, by_library(text), by_page(seen))
 
 
 def verdict_on(browser, text):
@@ -104,18 +98,18 @@ ROUNDS = ['> 36%02x\n< b6%02x0000%08x\n' % (number, number, number) for number i
 
 
 def check_unsure(check, browser, _):
-    """A possible message is shown, and not judged; a damaged line is shown as it is written, and accuses nobody up to the next poll;
+    """A line of no form that may be a message is shown; a damaged line is shown as it is written, and accuses nobody up to the next poll;
     a breach below is found."""
-    kind, says = verdict_on(browser, 'poll 36 05 now\n')
-    check.equal('a short message alone', [[1, False, ARROWS['>'], True, '3605']], by_page({'rows': browser.run(CELLS), 'note': ''})[0])
-    check.holds('it is not judged', kind == 'none' and 'possible and not judged' in says, (kind, says))
+    kind, says = verdict_on(browser, ''.join(ROUNDS) + 'memory at b6050000\n')
+    check.equal('a line of no form', [[17, False, '', True, '']], by_page({'rows': browser.run(CELLS), 'note': ''})[0][16:])
+    check.holds('it is not judged', kind == 'partly' and '1 line may be a message' in says, (kind, says))
     poll, answer = ROUNDS[3].splitlines()
     for size in range(len('< b6'), len(answer)):
         # The module answers; the log has a part of it. The CPU goes on.
         kind, says = verdict_on(browser, ''.join(ROUNDS[:3]) + poll + '\n' + answer[:size] + '\n' + ''.join(ROUNDS[4:]))
         check.equal('an answer that is cut to %d characters accuses nobody' % size, 'partly', kind)
     seen = [row[3:5] for row in browser.run(CELLS) if row[5] == '']
-    check.equal('a damaged line is shown as it is written', [[answer[:-1], 'damaged: no octets']], seen)
+    check.equal('a damaged line is shown as it is written', [[answer[:-1], 'damaged: octets that are no message']], seen)
     kind, says = verdict_on(browser, ''.join(ROUNDS[:3]) + poll + '\n' + answer[:9] + '\n' + ROUNDS[4].replace('< b605', '< b607') + ''.join(ROUNDS[5:]))
     check.holds('a breach below is found', kind == 'broken' and 'Line 10' in says, (kind, says))
 

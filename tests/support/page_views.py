@@ -18,11 +18,9 @@ def check_verdict(check, browser, _):
     check.equal('a doubled entry has one verdict', ['broken'], seen)
     browser.click('#first-breach')
     check.equal('which goes to the line', 'Line 10', words_in(browser, '.detail h2'))
-    pasted(browser, ''.join('10.%d RX 14 83 B6 05 00 00 00 00 00 0%d\n' % (number, number) for number in range(4)))
-    check.holds('a reason names the choice that helps', 'choose SDLC frames, without their check' in words_in(browser, '#no-log-passed'))
-    pasted(browser, 'poll 36 05 now\n')
-    check.equal('if nothing is judged the page does not say how', '1 message is possible and not judged: nothing in the log makes '
-                'sure that the octets are a message.', words_in(browser, '#not-judged'))
+    pasted(browser, 'link up\nTX 36 05\nRX B6 05 00 00 00 00 00 01\n')
+    check.holds('how lines are read', 'Read as “TX ” and octets: 1 line.' in words_in(browser, '#note') and 'No form: 1 line.' in words_in(browser, '#note'),
+                words_in(browser, '#note'))
     pasted(browser, '> 3605\n< b60501400001' + '0000000001\n')
     note = browser.run('return [...document.querySelectorAll(".line.broken .rule")].map((it) => it.textContent)')
     check.holds('a breach of the limits says which', any('an entry is of input 64, above 63' in words for words in note), note)

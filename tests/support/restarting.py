@@ -123,14 +123,13 @@ def spoiled(line, draw):
 
 def found_in(lines, **settings):
     """What the rules find in a log: pairs of a line's number and a rule or `restarted`; and what is not judged."""
-    from fiolog.batch import POSSIBLE
+    from fiolog.judgement import Judgement
     from fiolog.reader import Reader
     from fiolog.rules import Rules
-    from fiolog.sides import Judgement
     reader, judgement = Reader(), Judgement(Rules(**settings))
     batches = itertools.chain(reader.feed(('\n'.join(lines) + '\n').encode()), reader.end())
     found = [one for batch in batches for _, *one in judgement.take(batch)]
-    found += judgement.end(reader.reasons, reader.kinds[POSSIBLE])
+    found += judgement.end()
     return [(event.number, one.rule) for event, one in found], judgement.unjudged
 
 

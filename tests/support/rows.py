@@ -6,7 +6,8 @@ steps. A step is the words of a call (c_calls.py), in a group below the rest of 
 is anything. ` *3` at its end stands for three such steps; `~0` is a number of 64 bits less this one; the step `holds` says what is
 in the kept struct, and `line` what a decoder says of a line. What is decoded is written again, as the same octets. Rows of `log`
 have the form, a log, in which `~` is the end of a line, and what is read of it; rows of `log_batches` also whether a frame is of
-whom its line says, and what the calls for batches say. Each call of the header has a row."""
+whom its line says, and what the calls for batches say; rows of `log_samples` sample lines before the log, how many forms these show, and
+by which the log is read. Each call of the header has a row."""
 
 import ctypes
 import json
@@ -93,7 +94,8 @@ def verdicts(batch):
             octet += length
         words += ['at %d %d %d' % (one.line, one.start, one.end) for one in batch.places[place:place + it.places]]
         frame, place = frame + it.frames, place + it.places
-        yield ' '.join(words + ['reserved'] * any(it.reserved))
+        words += ['header %d %d' % (it.address, it.control)] * bool(it.header) + ['foreign %d' % it.foreign] * bool(it.foreign)
+        yield ' '.join(words)
     if (frame, octet, place) != (batch.frame_count, batch.octet_count, batch.place_count):
         yield 'and more'
 
@@ -136,7 +138,21 @@ def log_batches(run, form, as_said, text):
     return ' '.join([', '.join(found), *taken, *counts, 'sign', run.call('log_signs_sign') or '0'])
 
 
-LOGS = {'log': log, 'log_batches': log_batches}
+def log_samples(run, form, samples, text):
+    """How many forms sample lines show, and by which forms a log is read then, in whatever pieces. Once it has begun none is learnt."""
+    samples, text, said = samples.replace('~', '\n').encode().hex(), text.replace('~', '\n').encode(), []
+    for size in range(max(len(text), 1), 0, -1):
+        run.call('log_start', str(form))
+        said.append([run.call('log_like', *filter(None, [samples])) or '0'])
+        for _ in batches(run, text, size):
+            pass
+        if text and run.call('log_like', samples or '00'):
+            raise Broken('forms are learnt in a log that has begun')
+        said[-1].append(run.call('log_forms'))
+    return ' '.join(said[0]) if said.count(said[0]) == len(said) else 'not the same in pieces: %s' % said
+
+
+LOGS = {'log': log, 'log_batches': log_batches, 'log_samples': log_samples}
 
 
 def faults(library, row, called):

@@ -33,7 +33,7 @@ READ = [
     ('PulseView', each('10-17 UART: TX data:', '90-97 UART: RX data:', '%s %s\n'), BOTH),
     ('Saleae, an octet a line', 'Time [s],Analyzer Name,Decoded Protocol Result\n0.100,TX,0x36\n0.10001,TX,0x05\n0.2,RX,0xB3\n0.20001,RX,0x00\n',
      ['>' + POLL, '<b300']),
-    ('xxd -p', '3605b6050000000000013606b6060000000000013607b607000000000001\n3608b608000000000001\n',
+    ('xxd -p of a stream', '3605b6050000000000013606b6060000000000013607b607000000000001\n3608b608000000000001\n',
      [one % number for number in range(5, 9) for one in ('>36%02x', '<b6%02x000000000001')]),
     ('od -An -t x1', ' 36 05 b6 05 00 00 00 00 00 01 36 06 b6 06 00 00\n 00 00 00 01 36 07\n',
      ['>3605', '<b605000000000001', '>3606', '<b606000000000001', '>3607']),
@@ -102,6 +102,7 @@ READ = [
     ('calls', lines('write() 2 bytes:', 'read() 11 bytes:'), BOTH),
     ('a name on all lines', lines('07:15:02 fio:', '07:15:02 fio:'), ['-' + POLL, '<' + BLOCK]),
     ('\\u', 'TX "6\\u0005"\n', ['>' + POLL]),
+    ('base64', 'TX NgU=\nRX tgUAAAAAAAE=\n', BOTH[:1] + ['<' + EMPTY]),
 ]
 
 # What is not read, or not all of it: nothing is read that is not in the log.
@@ -111,7 +112,6 @@ PASSED = [
     ('what is no octets after a direction', 'TX 36 05\nRX B3 00\nTX retries 36 00\nRX window 36:05\nCPU temperature 36,05\nTX to B3 00\n'
      'write() 34\nTX mac b3:00\nRX id: 36-05\n', ['>3605', '<b300']),
     ('two frames on one line', 'TX 36 05 RX B3 00\n', []),
-    ('base64', 'TX NgU=\nRX tgUAAAAAAAE=\n', []),
     ('a list of octets in brackets, one damaged', '[b6] [0?] [05] [34]\n', []),
     ('milliseconds in brackets', 'I (3605) wifi: up\n[3605] up\n(36) up\n', []),
     ('a count after the octets that does not fit', 'TX 36 05\nTX 36 06 (11 bytes)\n', ['>3605']),

@@ -518,6 +518,31 @@ size_t fio2070_log_read(struct fio2070_log_reader *reader, const uint8_t *octets
     return taken;
 }
 
+/* What is written of forms: its numbers are put into the processor's order of octets. */
+void fio2070_log_forms(const struct fio2070_log_reader *reader, struct fio2070_log_form_list *forms) {
+    uint32_t place;
+    MACHINE(fio2070_log_forms);
+    {
+        uint64_t a = READS(reader, sizeof *reader), b = WRITES(forms, sizeof *forms);
+        call_fio2070_log_forms(&machine, a, b);
+    }
+    forms->count = get32((const uint8_t *)&forms->count);
+    for (place = 0; place < forms->count && place < 16; place++) {
+        struct fio2070_log_read_as *it = &forms->forms[place];
+        it->from = get64((const uint8_t *)&it->from);
+        it->lines = get64((const uint8_t *)&it->lines);
+        it->damaged = get64((const uint8_t *)&it->damaged);
+    }
+}
+
+uint32_t fio2070_log_like(struct fio2070_log_reader *reader, const uint8_t *octets, size_t length) {
+    MACHINE(fio2070_log_like);
+    {
+        uint64_t a = WRITES(reader, sizeof *reader), b = READS(octets, length);
+        return (uint32_t)call_fio2070_log_like(&machine, a, b, length);
+    }
+}
+
 SAME(size_of_log_judge, sizeof(struct fio2070_log_judge), 752);
 
 BEGINS(log_judge, start, (struct fio2070_log_judge * log_judge, struct fio2070_limits limits, uint8_t place, uint8_t start), it,

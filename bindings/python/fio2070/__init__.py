@@ -20,15 +20,16 @@ from . import constants, encode, judges
 from .counts import LogCounts
 from .encode import Octets
 from .judges import LinkJudge, LogJudge, LogSigns
-from .logs import LogBatch, LogReader, Verdict
+from .log_batches import LogBatch, Verdict
+from .logs import LogReader, ReadAs
 from .pace import Line, Pace, plan
 from .records import Answer, Breach, Command, ConfigurationItem, ContentBreach, Entry, Fault, Outcome, RecordItem
 from .wire import Wire, WireBits, WireHeard, wire_check, wire_frame
 
 __all__ = ['Answer', 'AnswerRefused', 'Breach', 'Checker', 'Command', 'ConfigurationItem', 'ContentBreach',
            'ContentChecker', 'Counter', 'Entry', 'Fault', 'Filters', 'Heard', 'Line', 'LinkJudge', 'LogBatch', 'LogCounts',
-           'LogJudge', 'LogReader', 'LogSigns', 'Module', 'Octets', 'Outcome', 'Pace', 'Poller', 'RecordItem', 'Verdict',
-           'Wire', 'WireBits', 'WireHeard', 'constants', 'content_rule_text', 'decode_answer', 'decode_command', 'encode',
+           'LogJudge', 'LogReader', 'LogSigns', 'Module', 'Octets', 'Outcome', 'Pace', 'Poller', 'ReadAs', 'RecordItem',
+           'Verdict', 'Wire', 'WireBits', 'WireHeard', 'constants', 'content_rule_text', 'decode_answer', 'decode_command', 'encode',
            'plan', 'read_identification', 'read_outputs_answer', 'rule_text', 'show', 'tester', 'version', 'widen',
            'wire_check', 'wire_frame']
 

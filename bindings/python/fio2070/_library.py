@@ -106,7 +106,8 @@ class CJudgeOutcome(ctypes.Structure):
 
 class CLogVerdict(ctypes.Structure):
     _fields_ = [('line', c_uint64), ('time', c_uint64), ('frames', c_uint32), ('places', c_uint32), ('kind', c_uint8),
-                ('reason', c_uint8), ('has_time', c_uint8), ('said', c_uint8), ('reserved', c_uint8 * 4)]
+                ('reason', c_uint8), ('has_time', c_uint8), ('said', c_uint8), ('address', c_uint8),
+                ('control', c_uint8), ('header', c_uint8), ('foreign', c_uint8)]
 
 
 class CLogPlace(ctypes.Structure):
@@ -117,6 +118,15 @@ class CLogBatch(ctypes.Structure):
     _fields_ = [('verdict_count', c_uint32), ('frame_count', c_uint32), ('octet_count', c_uint32),
                 ('place_count', c_uint32), ('verdicts', CLogVerdict * 4096), ('places', CLogPlace * 20480), ('lengths', c_uint16 *
                 20480), ('octets', c_uint8 * 65536)]
+
+
+class CLogReadAs(ctypes.Structure):
+    _fields_ = [('from', c_uint64), ('lines', c_uint64), ('damaged', c_uint64), ('is_echo', c_uint8),
+                ('front_length', c_uint8), ('reserved', c_uint8 * 6), ('front', c_uint8 * 120)]
+
+
+class CLogFormList(ctypes.Structure):
+    _fields_ = [('count', c_uint32), ('reserved', c_uint8 * 4), ('forms', CLogReadAs * 16)]
 
 
 class CLogCounts(ctypes.Structure):
@@ -246,6 +256,8 @@ _declare('fio2070_log_counts_lose', None, POINTER(CLogCounts))
 _declare('fio2070_log_counts_frame', c_uint8, POINTER(CLogCounts), c_uint8, c_uint64, c_char_p, c_size_t,
          POINTER(c_uint64))
 _declare('fio2070_log_counts_batch', c_uint32, POINTER(CLogCounts), POINTER(CLogBatch), POINTER(c_uint64))
+_declare('fio2070_log_forms', None, POINTER(CLogReader), POINTER(CLogFormList))
+_declare('fio2070_log_like', c_uint32, POINTER(CLogReader), c_char_p, c_size_t)
 _declare('fio2070_log_judge_start', c_uint8, POINTER(CLogJudge), CLimits, c_uint8, c_uint8)
 _declare('fio2070_log_judge_lose', None, POINTER(CLogJudge))
 _declare('fio2070_log_judge_possible', None, POINTER(CLogJudge))

@@ -124,20 +124,18 @@ LOG_POSSIBLE = 3
 LOG_DAMAGED = 4
 LOG_PASSED_OVER = 5
 
-# Why a line of a log gives no frame.
+# Why a line of a log gives no frame, or what else is in one that does.
 LOG_NO_REASON = 0
 LOG_NO_OCTETS = 1
 LOG_NO_MESSAGE = 2
-LOG_SHORT_MESSAGE = 3
-LOG_SEVERAL_MESSAGES = 4
-LOG_MAY_BE_LONGER = 5
+LOG_NO_FORM = 3
+LOG_MORE = 4
 LOG_TOO_LONG = 6
 LOG_BAD_LINE = 7
-LOG_EXCHANGED = 8
-LOG_TWO_MORE = 9
 LOG_LOSS = 10
 LOG_HEADING = 11
-LOG_ONE_LESS = 12
+LOG_COPY = 13
+LOG_BROKEN = 14
 
 # Who sent the octets of a line of a log, as it says.
 LOG_NO_SIDE = 0

@@ -7,7 +7,7 @@ from typing import Any, Counter, Dict, Optional
 
 from . import _library as c
 from .encode import Octets, check_range, octets_of
-from .logs import MOST_FRAMES, LogBatch
+from .log_batches import MOST_FRAMES, LogBatch
 
 
 def _number(name: str, words: str) -> Any:

@@ -3,12 +3,13 @@ log is not the log of one link in order."""
 
 import ctypes
 import re
-from typing import Any, List, Tuple
+from typing import Any, Dict, List, Tuple
 
 from . import _library as c
 from . import constants
 from .encode import Octets, check_range, octets_of
-from .logs import MOST_FRAMES, LogBatch
+from .log_batches import MOST_FRAMES, LogBatch
+from .log_parts import TAKEN, masked
 from .records import Breach, ContentBreach, Outcome
 
 _PLACES = {'auto': constants.LOG_TAKEN_AUTO, 'cpu': constants.LOG_TAKEN_AT_CPU, 'module': constants.LOG_TAKEN_AT_MODULE,
@@ -18,8 +19,8 @@ _SIDES = {'': constants.LOG_NO_SIDE, '>': constants.LOG_FROM_CPU, '<': constants
 _SIGNS = {constants.LOG_SIGN_NONE: '', constants.LOG_SIGN_TWICE: 'twice', constants.LOG_SIGN_BOTH_ENDS: 'both ends',
           constants.LOG_SIGN_REVERSED: 'reversed', constants.LOG_SIGN_TWO_LINKS: 'two links'}
 
-# The octets of an outcome, of which the first is its kind; and the kinds of frames that are not kept.
-_OUTCOME, _NOT_KEPT = ctypes.sizeof(c.CJudgeOutcome), re.compile(b'[^\0]')
+# The octets of an outcome, of which the first is its kind; and the kinds of frames that are not kept, all or those that are judged.
+_OUTCOME, _NOT_KEPT, _FOUND = ctypes.sizeof(c.CJudgeOutcome), re.compile(b'[^\0]'), re.compile(b'[^\0%c]' % constants.OUTCOME_NOT_JUDGED)
 
 
 def check_limits(per_block: int, waiting: int) -> None:
@@ -102,17 +103,22 @@ class LogJudge:
             constants.LOG_LEAVES_OUT_LATE if late_answers else constants.LOG_BEGINS_ANYWHERE
         self._judge, self._found = c.CLogJudge(), c.CJudgeOutcome()
         self._outcomes: Any = None      # of a batch
+        self._kinds: Any = None
         c.library.fio2070_log_judge_start(self._judge, c.CLimits(waiting, per_block, 0), _PLACES[place], begins)
+
+    def __getstate__(self) -> Dict[str, Any]:
+        """What is copied: not the outcomes of a batch."""
+        return {**vars(self), '_outcomes': None, '_kinds': None}
 
     def __repr__(self) -> str:
         return '<LogJudge>'
 
     def lose(self) -> None:
-        """A line may have held a frame, such as a damaged one."""
+        """A line may have held a frame, such as a damaged one; or below a frame another part of the log begins."""
         c.library.fio2070_log_judge_lose(self._judge)
 
     def possible(self) -> None:
-        """A line says a message which nothing confirms, or is a heading: below a frame it is as for `lose`."""
+        """A line says a message which nothing confirms: below a frame, or if the log begins with both ends, it is as for `lose`."""
         c.library.fio2070_log_judge_possible(self._judge)
 
     def miss(self) -> None:
@@ -128,15 +134,20 @@ class LogJudge:
 
     def batch(self, batch: LogBatch, as_said: bool = False) -> List[Tuple[int, Outcome]]:
         """Takes all lines of a batch, in order, and returns what is said of the frames that are not kept: the index of each in the
-        batch, and its outcome. A line is taken by its kind and its reason: frames; a possible message or a heading as by `possible`,
-        a damaged line as by `lose`, a remark of loss as by `miss`. Who sent a frame is found by its type; `as_said` by its line, if
+        batch, and its outcome. A line is taken by its kind and its reason: frames; a possible message as by `possible`; a damaged
+        line, and a heading below a frame, as by `lose`; a remark of loss as by `miss`. Who sent a frame is found by its type; `as_said` by its line, if
         that says it, as in a transcript that is read by order."""
         if self._outcomes is None:
             self._outcomes = (c.CJudgeOutcome * MOST_FRAMES)()
             self._kinds = memoryview(self._outcomes).cast('B')
         count = c.library.fio2070_log_judge_batch(self._judge, as_said, batch._batch, self._outcomes)
-        kinds = bytes(self._kinds[:_OUTCOME * count:_OUTCOME])
-        return [(found.start(), _outcome(self._outcomes[found.start()])) for found in _NOT_KEPT.finditer(kinds)]
+        kinds, taken = bytes(self._kinds[:_OUTCOME * count:_OUTCOME]), batch.taken
+        if taken is None:
+            return [(one.start(), _outcome(self._outcomes[one.start()])) for one in _NOT_KEPT.finditer(kinds)]
+        # It says of the frames of other lines that they are not judged.
+        is_all_judged = kinds.count(constants.OUTCOME_NOT_JUDGED) == taken.count(0)
+        found = _FOUND.finditer(kinds) if is_all_judged else _NOT_KEPT.finditer(masked(kinds, taken))
+        return [(taken.count(TAKEN, 0, one.start()), _outcome(self._outcomes[one.start()])) for one in found]
 
 
 class LogSigns:

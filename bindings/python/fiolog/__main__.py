@@ -26,7 +26,8 @@ OWN_OPTIONS = '-h', '--help', '-V', '--version'
 # Lines have no cycles: to look for some among those of each piece takes a tenth of the time.
 COLLECT_AFTER = 1 << 16
 BEGINNING = ('Begin with `fiolog LOG`, which is `fiolog check LOG`: what is wrong, since when and how often. `fiolog decode LOG` writes '
-             'what each frame says, `fiolog record LOG` what became of the entries; `fiolog COMMAND --help` lists the options.')
+             'what each frame says, `fiolog record LOG` what became of the entries; `fiolog COMMAND --help` lists the options. '
+             'Status 1 is a breach, 4 that little could be judged.')
 
 
 def module_of(name):
@@ -80,6 +81,9 @@ def check_forms(parser, option):
     file."""
     if getattr(option, 'line', '') and (option.pattern or option.sdlc or option.format != 'auto'):
         parser.error('--line is of a file without lines: leave out --format, --pattern and --sdlc')
+    if getattr(option, 'like', ()) and (getattr(option, 'line', '') or getattr(option, 'pattern', None) or getattr(option, 'sdlc', False)
+                                        or getattr(option, 'format', 'auto') != 'auto'):
+        parser.error('--like is of the lines of a log by their forms: leave out --format, --line, --pattern and --sdlc')
     if getattr(option, 'pattern', None):
         try:
             if 'octets' not in re.compile(option.pattern).groupindex:
@@ -108,8 +112,7 @@ def refuse_inputs(option):
 
 
 def main(words=None):
-    """Runs a subcommand. Status 0: good; 1: a fault is reported; 2: the command line is invalid; 3: a file cannot be read or
-    written; 130: ended by Ctrl-C."""
+    """Runs a subcommand, and returns its status."""
     gc.set_threshold(COLLECT_AFTER)
     open_streams()
 

@@ -8,14 +8,14 @@ from typing import NamedTuple, Optional, Sequence
 import fio2070
 from fio2070.constants import LONGEST_FRAME
 
-from .batch import BLANK, DAMAGED, LONGEST_TEXT, PART, PASSED, Line, frame_of, made_of, seconds_of, text_of
-from .line import FLAG, OWN, event_of
+from .batch import made_of
+from .event import BLANK, DAMAGED, LONGEST_TEXT, PART, PASSED, Line, frame_of, seconds_of, text_of
+from .line import ANY, FLAG, OWN, addressed, event_of, one_of
 from .log_words import REASONS
 from .reader import CHECKED, Texts
 from .rules import WRONG_CHECK
 
 HEADER, CHECK = 2, 2
-ANY = None, None
 # The time and the side of a text that says none.
 NOTHING = None, ''
 # The most characters of a line in which the caller's expression is sought: more than a frame and its remarks take.
@@ -65,12 +65,12 @@ def end_of_row(text):
 
 class ByOrder(Texts):
     """Makes batches of lines. `pattern` is an expression with the group `octets`, hexadecimal digits, and perhaps `time` and `dir`;
-    `framing` is CHECKED or UNCHECKED for frames of SDLC. `address` is that of the frames that are judged, with the control octet,
-    each None for any; by default that of a module in lines with flags, and any in others."""
+    `framing` is CHECKED or UNCHECKED for frames of SDLC. `addresses` are those of the frames that are judged, each with the control
+    octet, both None for any; by default that of a module in lines with flags, and any in others."""
 
-    def __init__(self, pattern=None, framing='', address=None):
+    def __init__(self, pattern=None, framing='', addresses=()):
         super().__init__()
-        self.pattern, self.framing, self.address = re.compile(pattern) if pattern else None, framing, address
+        self.pattern, self.framing, self.addresses = re.compile(pattern) if pattern else None, framing, addresses
         self.words = fio2070.LogReader()    # reads what is said before octets
         self.heading = NOTHING              # what the last line without octets says
         self.last_row = ''                  # of a dump
@@ -151,24 +151,24 @@ class ByOrder(Texts):
         """The events of the octets of a line."""
         if self.framing == CHECKED:
             return self._framed(octets, is_row, **line)
-        octets = octets.strip(FLAG)[HEADER:] if self.framing else octets
-        return [frame_of(octets=octets, **line) if octets else Line(kind=BLANK, **line)]
+        octets, header = (octets.strip(FLAG)[HEADER:], octets.strip(FLAG)[:HEADER]) if self.framing else (octets, b'')
+        return [addressed(frame_of(octets=octets, header=header, **line), self.addresses or ANY) if octets else Line(kind=BLANK, **line)]
 
     def _framed(self, octets, is_row, **line):
         """The events of the frames that end in a line."""
-        side = self.sides.setdefault(line['said'], Side(self.address))
+        side = self.sides.setdefault(line['said'], Side(self.addresses))
         side.last = line
         heard = side.read(octets, is_row)
         if heard is None and not is_row:
             return [Line(kind=DAMAGED, note=WRONG_CHECK, **line)]
-        return [event_of(one, **line) for one in heard or ()] or [Line(kind=PART, **line)]
+        return [event_of(one, addresses=self.addresses or ANY, **line) for one in heard or ()] or [Line(kind=PART, **line)]
 
 
 class Side:
     """What one side sent, line by line of a log."""
 
-    def __init__(self, address):
-        self.address, self.is_open = address, False     # whether a frame is under way
+    def __init__(self, addresses):
+        self.addresses, self.is_open = addresses, False     # whether a frame is under way
         self.decoder = None     # of what came from the first flag on
         self.last = {}          # the last line
 
@@ -176,7 +176,7 @@ class Side:
         """What a line says, alone or with those above; None if it says nothing, and no flag came down to here. A line that has a right
         check as it is written is alone, whatever is under way above. A row of a dump is never alone."""
         is_between = octets.startswith(FLAG) and octets.endswith(FLAG)
-        heard = () if is_row or octets.startswith(FLAG) and not is_between else alone(octets, self.address)
+        heard = () if is_row or octets.startswith(FLAG) and not is_between else alone(octets, self.addresses)
         if heard:
             above = self._read(FLAG) if self.is_open else []
             self._read(FLAG if is_between else b'')
@@ -186,20 +186,20 @@ class Side:
     def _read(self, octets):
         """What octets say that go on a line."""
         if FLAG in octets and not self.decoder:
-            self.decoder = fio2070.Wire(*self.address or OWN)
+            self.decoder = fio2070.Wire(*one_of(self.addresses or OWN))
         self.is_open = bool(octets) and not octets.endswith(FLAG)
         return self.decoder.read(octets) if self.decoder else []
 
 
-def alone(octets, address):
+def alone(octets, addresses):
     """What octets say between two flags, or with them: with octet stuffing if all of them are in frames, or one frame as it is. The
-    address is that of ByOrder."""
-    heard = fio2070.Wire(*address or (OWN if FLAG in octets else ANY)).read(FLAG + octets.strip(FLAG) + FLAG)
+    addresses are those of ByOrder."""
+    heard = fio2070.Wire(*one_of(addresses or (OWN if FLAG in octets else ANY))).read(FLAG + octets.strip(FLAG) + FLAG)
     if all(one.kind != 'damaged' for one in heard):
         return heard
     for one in (octets, octets[1:-1], octets.strip(FLAG)):
         message, check = one[HEADER:-CHECK], one[-CHECK:]
         if 0 < len(message) <= LONGEST_FRAME and fio2070.wire_check(one[:-CHECK]) == int.from_bytes(check, 'little'):
             is_bare = one == octets and not octets.startswith(FLAG)
-            return fio2070.Wire(*address or (ANY if is_bare else OWN)).read(fio2070.wire_frame(message, *one[:HEADER]))
+            return fio2070.Wire(*one_of(addresses or (ANY if is_bare else OWN))).read(fio2070.wire_frame(message, *one[:HEADER]))
     return ()

@@ -211,10 +211,8 @@ class Lines:
 
 
 def _clock(time, steps, shift):
-    """A time as seconds: with six digits below the point, or nine for finer steps."""
-    digits = 6 if steps <= 10 ** 6 else 9
-    count = max(time * 10 ** digits // steps + shift * 10 ** digits, 0)
-    return '%d.%0*d' % (count // 10 ** digits, digits, count % 10 ** digits)
+    """A time as seconds with nine digits below the point: an odd count of digits is no octets."""
+    return '%d.%09d' % divmod(max(time * 10 ** 9 // steps + shift * 10 ** 9, 0), 10 ** 9)
 
 
 def lines_of(chunks):

@@ -1,15 +1,15 @@
 """`fiolog check`: every breach of the rules on the order of messages and on what entries and answers say; with what should have
 come and what came, or with what the breach means."""
 
-import sys
 from collections import Counter
 
-from . import log, options, sides, terminal
-from .batch import OTHER, PART, PASSED, POSSIBLE
+from . import judgement, log, options, statuses, terminal
+from .event import OTHER, PART, PASSED
 from .counts import Counts, in_words, unjudged_numbers, unjudged_words
-from .message import BLOCK, POLL, TYPE_ANSWER
+from .late import is_late
 from .output import Refused
-from .rules import Rules
+from .rules import RESTARTED, Rules
+from .stations import Stations
 from .terminal import shown
 
 
@@ -32,24 +32,26 @@ def _place(event):
     return place if event.time is None else '%s at %s' % (place, event.clock)
 
 
-def judged(read, option):
+def judged(read, option, counts=None):
     """The lines of a log, with the breaches and restarts that are certain now and what judges them, which is new for each file; at
     the end of a file None with the others. With --start-at-poll from the first poll on."""
     for of_log, batches in read.logs():
-        judgement = None
+        judge = None
         for batch in batches:
             if not (batch.count or any(event.is_loss for _, event in batch.others)):
                 continue
-            judgement = judgement or sides.Judgement(rules_for(option), read.name if read.has_several else '', not option.start_at_poll)
+            judge = judge or Stations(lambda: judgement.Judgement(rules_for(option), read.name if read.has_several else '', not option.start_at_poll),
+                                      counts)
             if option.at in ('cpu', 'bus'):
                 read.balance += batch.balance
-            batch = judgement.opened(batch)
-            yield batch, judgement.take(batch), judgement
-        if judgement:
-            broken = [(0, *one) for one in judgement.end(of_log.reasons, of_log.kinds[POSSIBLE])]
-            read.judgements.append(judgement)
-            read.unjudged += judgement.unjudged
-            yield None, broken, judgement
+            batch = judge.opened(batch)
+            yield batch, judge.take(batch), judge
+        if judge:
+            broken = [(0, *one) for one in judge.end()]
+            read.judgements += judge.judgements
+            read.unjudged += judge.unjudged
+            read.others += judge.others
+            yield None, broken, judge
 
 
 def rules_for(option):
@@ -58,31 +60,41 @@ def rules_for(option):
 
 
 class Findings:
-    """Writes each breach and each restart, and says how often each rule is broken."""
+    """The breaches and the restarts of a log, which are written at its end: only then it is known what kind of log it is."""
 
     def __init__(self, option, read):
         self.option, self.read, self.paint = option, read, terminal.painter('auto')
-        self.count, self.restarts, self.has_late_answers = 0, 0, False
-        self.spans = {}     # of each rule that is broken, and of restarts: the first and the last frame, and how often
+        self.held, self.count, self.restarts, self.has_late_answers = judgement.Held(), 0, 0, False
+        self.spans = {}     # of each rule that is broken, and of restarts: the places of the first and of the last one, and how often
 
     def add(self, event, found):
         """A breach, or a restart."""
-        self.count += not found.is_restart
-        self.restarts += found.is_restart
-        first, _, count = self.spans.get(found.rule, (event, event, 0))
-        self.spans[found.rule] = first, event, count + 1
-        if self.option.json:
-            kind = {'outcome': found.rule} if found.is_restart else {'rule': found.rule, **found.due, 'source': found.source}
-            place = {'line': event.number, **({'message': event.message, 'octet': event.octet} if event.message else {})}
-            terminal.print_object({'file': shown(event.file or self.read.name), **place, **kind, 'says': found.says})
-        else:
-            print('%s%s: %s: %s' % (event.head, event.where, self.paint('fault', found.rule), found.meaning))
+        self.held.add((event.station, found.rule, _place(event), self._object(event, found) if self.option.json else
+                       '%s%s: %s: %s' % (event.head, event.where, self.paint('fault', found.rule), found.meaning)))
+
+    def _object(self, event, found):
+        """What is written of it with --json."""
+        kind = {'outcome': found.rule} if found.is_restart else {'rule': found.rule, **found.due, 'source': found.source}
+        place = {'line': event.number, **({'message': event.message, 'octet': event.octet} if event.message else {}),
+                 **({'address': event.station} if event.station else {})}
+        return {'file': shown(event.file or self.read.name), **place, **kind, 'says': found.says}
+
+    def write(self):
+        """Writes and counts those of links, or of stations, of which the rules are judged."""
+        fit = {station for one in self.read.judgements if one.is_fit for station in one.stations}
+        for station, rule, place, written in self.held.take():
+            if station not in fit:
+                continue
+            self.count += rule != RESTARTED
+            self.restarts += rule == RESTARTED
+            first, _, count = self.spans.get(rule, (place, place, 0))
+            self.spans[rule] = first, place, count + 1
+            (terminal.print_object if self.option.json else print)(written)
 
     def words(self):
         """A line for each rule that is broken, and for restarts: how often, from when to when."""
         for rule, (first, last, count) in self.spans.items():
-            yield '%s: %s' % (rule, 'once, ' + _place(first) if count == 1 else
-                              '%d times, first %s, last %s' % (count, _place(first), _place(last)))
+            yield '%s: %s' % (rule, 'once, ' + first if count == 1 else '%d times, first %s, last %s' % (count, first, last))
 
     def look_for_late(self, batch, broken, counts):
         """Notes whether an answer that was not due came late or twice; `counts` are those above the lines."""
@@ -91,20 +103,8 @@ class Findings:
                 self.has_late_answers |= is_late(event.octets, batch.octets[:frame], counts, found.is_restart)
 
 
-def is_late(octets, above, counts, may_be_due):
-    """Whether an answer is to a command above, or a block of the latest number or the one before, and not directly below its command if that
-    `may_be`. `above` are the frames of its batch above it, `counts` those above the batch."""
-    types, command = [one[:1] for one in above], octets[0] - TYPE_ANSWER
-    if may_be_due and (types[-1] == bytes([command]) if above else counts.command == command):
-        return False
-    if octets[0] == BLOCK:
-        polled = next((one[1] for one in reversed(above) if len(one) == 2 and one[0] == POLL), counts.polled)
-        return polled is not None and (polled - octets[1]) % 256 < 2
-    return command in counts.types or bytes([command]) in types
-
-
 def run(option):
-    """Checks a log, or several side by side; status 1 if a rule is broken, the module restarted, or there is no frame."""
+    """Checks a log, or several side by side."""
     if option.explain:
         from .explain import explanation
         print('\n'.join(explanation(option.explain)))
@@ -114,24 +114,23 @@ def run(option):
     if log.has_several(option) or option.csv:
         from . import many
         return many.run(option)
-    read, counts = log.Log(option, sys.stdout.flush, writes=option.json), Counts()
-    findings, judgement = Findings(option, read), None
-    for batch, broken, judgement in judged(read, option):
-        if batch:
+    read, counts = log.Log(option, writes=False), Counts()
+    findings, judge = Findings(option, read), None
+    for batch, broken, judge in judged(read, option, counts):
+        if batch and not judge.parts:
             findings.look_for_late(batch, broken, counts)
             counts.take(batch)
-        for frame, where, found in broken:
-            if batch:
-                read.name_passed(batch.line_of(frame))
+        for _, where, found in broken:
             findings.add(where, found)
-    if not read.summary():
-        return 1
+    findings.write()
+    if not read.summary(says_forms=True):
+        return statuses.LITTLE
     for words in () if option.quiet else findings.words():
         terminal.say(words)
-    return end(option, read, counts, judgement, findings)
+    return end(option, read, judge.total(counts) if judge else counts, judge, findings)
 
 
-def end(option, read, counts, judgement, findings):
+def end(option, read, counts, judge, findings):
     """The summary, and the hints."""
     kinds = read.kinds
     left_out = counts.unjudged() + read.unjudged + Counter(skipped_lines=kinds[PASSED], frames_of_others=kinds[OTHER])
@@ -139,23 +138,38 @@ def end(option, read, counts, judgement, findings):
     restarted = {'restarted': findings.restarts} if findings.restarts or option.json else {}
     parts = {'parts_of_frames': kinds[PART]} if option.sdlc and (kinds[PART] or option.json) else {}
     numbers = {**counts.in_short(), **late, 'breaches': findings.count, **restarted, **parts}
-    sides.say_signs(read.judgements)
+    stations = judge.rows() if judge else {}
     if option.json:
-        remarks = [words for one in read.judgements for words in (sides.IN_SHORT.get(one.verdict), one.sign) if words]
-        terminal.print_object({'summary': {**numbers, **({'remarks': remarks} if remarks else {}), 'not_judged': unjudged_numbers(left_out)}})
+        remarks = [judgement.IN_SHORT[one.verdict] for one in read.judgements if one.verdict]
+        terminal.print_object({'summary': {**numbers, **({'remarks': remarks} if remarks else {}), **({'stations': stations} if stations else {}),
+                                           **log.forms_numbers(*read.read_as()),
+                                           'not_judged': unjudged_numbers(left_out)}})
     else:
-        print(', '.join('%s %d' % (in_words(name), number) for name, number in numbers.items()))
+        print(numbers_words(numbers))
+        for address, row in stations.items():
+            print('address %s: %s' % (address, numbers_words(row)))
         if left_out:
             print('not judged: ' + unjudged_words(left_out, read.reasons))
     say_excused(left_out['frames_not_at_the_cpu'])
-    is_fault = sides.say(read.judgements)
+    is_little = judgement.say(read.judgements)
+    for words in hints(option, read, counts, judge, findings) if judge and not judge.sign else ():
+        terminal.say(words)
+    return statuses.of_log(findings.count, is_little)
+
+
+def hints(option, read, counts, judge, findings):
+    """What to try."""
     if read.balance > 0:
-        terminal.say('most lines say the other direction than their messages: if this is the log of the module, try --at module')
-    if judgement and judgement.rules.is_above_polls and counts.polls and not option.start_at_poll:
-        terminal.say('the log begins in the middle of traffic: try --start-at-poll')
+        yield 'most lines say the other direction than their messages: if this is the log of the module, try --at module'
+    if judge.rules.is_above_polls and counts.polls and not option.start_at_poll:
+        yield 'the log begins in the middle of traffic: try --start-at-poll'
     if findings.has_late_answers and not option.late_answers:
-        terminal.say('answers came late or twice: try --late-answers' + ' --except advance' * (option.at == 'bus'))
-    return 1 if findings.count or findings.restarts or is_fault else 0
+        yield 'answers came late or twice: try --late-answers' + ' --except advance' * (option.at == 'bus')
+
+
+def numbers_words(numbers):
+    """Numbers with their names."""
+    return ', '.join('%s %d' % (in_words(name), number) for name, number in numbers.items())
 
 
 def say_excused(excused):

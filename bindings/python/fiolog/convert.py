@@ -6,8 +6,8 @@ import sys
 
 from fio2070.constants import BIT_LOST as LOST
 
-from . import log, options
-from .batch import FRAME
+from . import log, options, statuses
+from .event import FRAME
 from .captures import Writer
 from .message import BLOCK, message_of
 from .output import Refused, made
@@ -43,7 +43,7 @@ def write(option, frames, out):
 
 
 def run(option):
-    """Converts the logs; status 1 if there is no frame."""
+    """Converts the logs."""
     is_binary = option.to == 'pcapng'
     if option.to == 'vcd' and log.has_several(option):
         raise Refused('a VCD file has the blocks of one log: name one file, or --merge the files of one line')
@@ -51,4 +51,4 @@ def run(option):
     with made(option.output, is_binary) if option.output else standard as out:
         read = log.Log(option, out.flush, writes=not option.output)
         write(option, (event for event in read.events() if event.kind == FRAME), out)
-    return 0 if read.summary() else 1
+    return statuses.of_log(False, not read.summary())

@@ -7,7 +7,7 @@ from collections import Counter
 import fio2070
 from fio2070.constants import LOG_SAYS
 
-from .batch import BAD, DAMAGED, DOUBTFUL, seconds_of
+from .event import BAD, LOSSES, seconds_of
 
 # How many response times are kept for the median and the 99th percentile: beyond, every second one, and so on.
 MOST_TIMES = 1 << 16
@@ -98,7 +98,7 @@ class Counts(fio2070.LogCounts):
     def take(self, batch):
         """Counts the frames of a batch; at a line that may have held one it is not known whether the last poll was answered."""
         kinds = batch.kinds_of_events()
-        self.damaged += kinds[BAD] + kinds[DAMAGED] + kinds[DOUBTFUL]
+        self.damaged += sum(kinds[kind] for kind in (BAD, *LOSSES))
         self.responses.add(self.batch(batch.said))
         first, last = _timed(batch.said)
         if first is not None:
@@ -124,7 +124,8 @@ class Counts(fio2070.LogCounts):
 # By reason: the words of one, and of several.
 UNJUDGED = {
     'damaged_lines': ('damaged line', 'damaged lines'),
-    'lines_with_parts': ('line with part of a message', 'lines with parts of messages'),
+    'lines_with_dropped_octets': ('line with octets that are in no frame', 'lines with octets that are in no frame'),
+    'possible_lines': ('line that may be a message and has no form', 'lines that may be a message and have no form'),
     'skipped_lines': ('skipped line', 'skipped lines'),
     'frames_of_others': ('frame of another address', 'frames of other addresses'),
     'losses_of_sync': ('loss of sync', 'losses of sync'),
@@ -134,6 +135,7 @@ UNJUDGED = {
     'frames_below_loads': ('frame whose stamp a load of the counter may explain', 'frames whose stamps a load of the counter may explain'),
     'frames_below_late_answers': ('frame that a late answer above may explain', 'frames that late answers above may explain'),
     'frames_not_at_the_cpu': ('frame that the CPU may not have heard so', 'frames that the CPU may not have heard so'),
+    'frames_of_another_kind': ('frame of a log that is not one link in order', 'frames of a log that is not one link in order'),
     'frames_of_one_direction': ('frame of a log of one direction', 'frames of a log of one direction'),
     'excepted_breaches': ('breach of a rule that is left out', 'breaches of rules that are left out'),
     'late_answers': ('late answer', 'late answers'),
@@ -141,7 +143,7 @@ UNJUDGED = {
     'restarts': ('restart of the module', 'restarts of the module'),
 }
 # What is of lines, and so is not counted either.
-OF_LINES = ('damaged_lines', 'lines_with_parts', 'skipped_lines', 'frames_of_others', 'gap_marks', 'restarts')
+OF_LINES = ('damaged_lines', 'lines_with_dropped_octets', 'possible_lines', 'skipped_lines', 'frames_of_others', 'gap_marks', 'restarts')
 # How many reasons of lines that are skipped are named.
 MOST_REASONS = 3
 

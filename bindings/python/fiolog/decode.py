@@ -6,17 +6,17 @@ import sys
 
 from fio2070.constants import LOG_FROM_CPU
 
-from . import log, terminal
-from .batch import BAD, DAMAGED, DATED, DOUBTFUL, END_OF_TIME, FRAME, LOSSES, MICRO, OTHER, PIECE, POSSIBLE, dated
-from .log_words import POSSIBLE as UNSURE
+from . import log, statuses, terminal
+from .event import BAD, BELOW, DAMAGED, DATED, DROPPED, END_OF_TIME, FRAME, LOSSES, MICRO, OTHER, WAITING, dated
+from .log_words import WAITING as UNSURE
 from .message import BLOCK, LETTERS, POLL, SENT_AGAIN, SHORT, TYPE_ANSWER, message_of, spells
 from .options import add_reading, line_range, message_type, number_in, status_letters
 from .terminal import shown
 
-# The kinds of messages that nothing makes sure.
-UNSURE_KINDS = POSSIBLE, DOUBTFUL
-SPOKEN = FRAME, *UNSURE_KINDS
-SHOWN = *SPOKEN, BAD, OTHER, DAMAGED, PIECE
+SPOKEN = FRAME, WAITING
+SHOWN = *SPOKEN, BAD, OTHER, *LOSSES
+# How the words of a line begin that may have held a frame.
+_LOST = {DAMAGED: 'damaged: '}
 # The most characters of a damaged line that are shown.
 MOST_SHOWN = 100
 # The stamp 0, at the end of the words of a block.
@@ -48,7 +48,7 @@ def fault_in(event):
         return event.note
     if event.kind == OTHER:
         return '%s: %s' % (event.note, event.octets.hex())
-    words = 'damaged: ' * (event.kind == DAMAGED) + event.note
+    words = _LOST.get(event.kind, '') + event.note
     return '%s: %s' % (words, shown(event.text[:MOST_SHOWN])) if event.raw else words
 
 
@@ -87,7 +87,7 @@ class Text:
         if message is None:
             says = self.paint('fault', fault_in(event)) + '\n'
         else:
-            note = self.paint('fault', '  ' + UNSURE) if event.kind in UNSURE_KINDS else self.paint('dim', '  ' + event.note) if event.kind == OTHER else ''
+            note = self.paint('fault', '  ' + UNSURE) if event.kind == WAITING else self.paint('dim', '  ' + event.note) if event.kind == OTHER else ''
             says = self._says(event.octets, event.direction, note)
         self.write('%s%s %s' % (event.place, event.direction or '?', says))
 
@@ -109,7 +109,7 @@ class Text:
     def takes(self, batch):
         """Whether the lines have a frame each, and a date or no time."""
         times = set(batch.said.timed)
-        return batch.is_plain and (times == {0} or times == {1} and all(DATED * MICRO <= time < END_OF_TIME for time in batch.said.times()))
+        return batch.is_plain and not batch.others and (times == {0} or times == {1} and all(DATED * MICRO <= time < END_OF_TIME for time in batch.said.times()))
 
     def write_all(self, batch):
         """Writes lines that it takes."""
@@ -131,8 +131,7 @@ def as_json(wanted):
     def line(name, event, message):
         one = {'file': shown(name), 'line': event.number, 'time': event.time, 'direction': event.direction,
                'octets': event.octets.hex()}
-        if event.kind in UNSURE_KINDS:
-            one['possible'] = True
+        one.update(zip(('address', 'control'), ('%02X' % octet for octet in event.header)))
         if event.kind == OTHER:
             one['other'] = event.note
         if message is None:
@@ -171,7 +170,7 @@ def unanswered(events):
             if poll:
                 yield poll
             poll = event if event.octets[0] == POLL else None
-        elif event.kind in LOSSES or event.kind == FRAME and event.octets[0] == BLOCK:
+        elif event.kind in (BELOW, *LOSSES) or event.kind == FRAME and event.octets[0] == BLOCK:
             poll = None
     if poll:
         yield poll
@@ -187,7 +186,7 @@ def others(read, text):
 
 
 def run(option):
-    """Decodes the logs; status 1 if a frame is damaged or there is none."""
+    """Decodes the logs; a damaged line is as a breach."""
     conditions = conditions_of(option)
     is_text = not (option.json or option.csv)
     line = Text(sys.stdout.write, terminal.painter(option.color), option.input) if is_text else (as_json if option.json else as_csv)(option.input)
@@ -197,4 +196,5 @@ def run(option):
             message = spoken(event)
             if all(condition(event, message) for condition in conditions):
                 line(event.file or read.name, event, message)
-    return 0 if read.summary(takes_possible=True) and not any(read.kinds[kind] for kind in (BAD, DAMAGED, PIECE)) else 1
+    is_read = read.summary(says_forms=True)
+    return statuses.of_log(is_read and any(read.kinds[kind] for kind in (BAD, DAMAGED, DROPPED)), not is_read)

@@ -17,8 +17,8 @@ KINDS = {
             'unpack it first, or save it as text', 'unpack it first, or save it as text'),
     'script': (r'^fio2070 script ', 'a script for fio2070 simulate', 'fio2070 simulate runs it', 'the view Play runs it'),
     'record': (r'^record \d+\n', 'a record, which fio2070 record wrote of a log', 'read the log itself', 'open the log itself'),
-    'binary': (r'^(?!\xff\xfe|\xfe\xff)[\s\S]*\0', 'a binary file', 'pass it through `xxd` or `hexdump -C`; or, if it is what a line carried, see --line',
-               'if it is what a line carried, or messages without flags, say so at “How is it written?”'),
+    'binary': (r'^(?!\xff\xfe|\xfe\xff)[\s\S]*\0', 'a binary file', 'no message is sure in its octets, read as rows of a dump; if it is what a line carried, see --line',
+               'no message is sure in its octets; if it is what a line carried, say so at “How is it written?”'),
 }
 _PATTERNS = {kind: re.compile(row[0].encode('latin-1')) for kind, row in KINDS.items()}
 _CONTROLS = bytes(octet for octet in range(32) if octet not in b'\t\n\r\f\x1b')
@@ -28,11 +28,14 @@ def kind_of(first):
     """The kind of a file by its first octets; None for a text that may be a log."""
     first = first[:WINDOW]
     found = next((kind for kind, pattern in _PATTERNS.items() if pattern.search(first)), None)
-    return found or ('binary' if _is_binary(first) else None)
+    return found or ('binary' if is_binary(first) else None)
 
 
-def _is_binary(octets):
-    """Whether octets are no text: one in ten is a control character or no UTF-8."""
+def is_binary(octets):
+    """Whether octets are no text: all of them are 0, or of the others one in ten is a control character or no UTF-8."""
+    if octets and not octets.strip(b'\0'):
+        return True
+    octets = octets.replace(b'\0', b'')
     strange = len(octets) - len(octets.translate(None, _CONTROLS)) + octets.decode('utf-8', 'replace').count('\ufffd')
     return 10 * strange > len(octets)
 

@@ -7,15 +7,19 @@ import re
 import fio2070
 from fio2070.constants import WIRE_ADDRESS, WIRE_CONTROL
 
-from .batch import DAMAGED, OTHER, Line, frame_of, made_of
+from .batch import made_of
+from .event import BAD, DAMAGED, FRAME, OTHER, Line, frame_of
+from .files import is_binary
 from .log_words import LINE
-from .message import direction_of
 from .options import BITS, HIGH_FIRST, OCTETS
 from .rules import WRONG_CHECK
 
-# The address and control octet of frames that are judged, if the caller names none.
-OWN = WIRE_ADDRESS, WIRE_CONTROL
+# The address and control octet of frames that are judged, if the caller names none; and those of any.
+OWN = (WIRE_ADDRESS, WIRE_CONTROL),
+ANY = (None, None),
 FLAG = b'\x7e'
+# A file that is neither a text nor what a line of SDLC carried.
+ROWS = 'rows'
 # The first octets of a file, which show what it is, and the first bits, which show how long one is.
 WINDOW = 1 << 14
 # The octets that show whether bits are a text.
@@ -39,14 +43,32 @@ def _in_order(form):
     return [format(octet, '08b')[::1 if form == HIGH_FIRST else -1].encode() for octet in range(256)]
 
 
-def event_of(heard, number, **line):
-    """The event of what a line says at a flag."""
-    if heard.kind == 'message':
-        return frame_of(number, heard.message, **line)
+def one_of(addresses):
+    """The address and control octet by which the library finds frames of these addresses: any, if there are several."""
+    return addresses[0] if len(addresses) == 1 else (None, None)
+
+
+def words_of(header):
+    """What is said of a frame with this header, which is not judged."""
+    return LINE['other'].format(address=header[:1].hex().upper(), control=header[1:].hex().upper()) if len(header) > 1 else \
+        LINE['of'].format(address=header.hex().upper()) if header else LINE['none']
+
+
+def addressed(event, addresses):
+    """The event of a frame, if it is judged: that of a frame of another address, if it has none of these."""
+    if event.kind not in (FRAME, BAD) or any(all(one in (None, octet) for one, octet in zip(address, event.header or (-1,))) for address in addresses):
+        return event
+    return event._replace(kind=OTHER, note=words_of(event.header))
+
+
+def event_of(heard, number, addresses, **line):
+    """The event of what a line says at a flag; frames of these addresses are judged."""
+    if heard.kind == 'damaged':
+        return Line(number, DAMAGED, note=WRONG_CHECK, **line)
+    event = frame_of(number, heard.message, header=bytes((heard.address, heard.control)), **line)
     if heard.kind == 'other':
-        note = LINE['other'].format(address='%02X' % heard.address, control='%02X' % heard.control)
-        return Line(number, OTHER, octets=heard.message, direction=direction_of(heard.message), note=note, **line)
-    return Line(number, DAMAGED, note=WRONG_CHECK, **line)
+        return event._replace(kind=OTHER, note=words_of(event.header))
+    return addressed(event, addresses)
 
 
 def _is_text(octets):
@@ -62,12 +84,13 @@ class Beginning:
     """Holds how a file begins until that shows what it is: a text, by a line without control characters; what a line carried, by a
     frame with a right check; or a text of bits. However the octets come, the answer is the same."""
 
-    def __init__(self, address):
-        self.held, self.address, self.probe = b'', address, None    # the decoder of what comes from the first flag on
+    def __init__(self, addresses):
+        self.held, self.addresses, self.probe = b'', addresses, None    # the decoder of what comes from the first flag on
         self.seen, self.line, self.is_strange, self.frames, self.damaged = 0, b'', False, 0, 0
 
     def form(self, octets, is_all=False):
-        """Takes octets. Returns one of LINES, or '' for a text; None if more octets are needed to know."""
+        """Takes octets. Returns one of LINES, ROWS for another file that is no text, or '' for a text; None if more octets are needed to
+        know."""
         self.held += octets
         for piece in _PIECES.findall(self.held[self.seen:WINDOW]):
             self.seen += len(piece)
@@ -78,12 +101,14 @@ class Beginning:
             return None
         if _BITS.fullmatch(self.held[:WINDOW]):
             return BITS if _ANY_BIT.search(self.held, 0, WINDOW) else ''
-        return OCTETS if self.frames and self.frames >= self.damaged else ''
+        if self.frames and self.frames >= self.damaged:
+            return OCTETS
+        return ROWS if is_binary(self.held) else ''
 
     def _form_by(self, piece):
         """What this piece of a line shows."""
         if FLAG in piece and not self.probe:
-            self.probe = fio2070.Wire(*self.address)
+            self.probe = fio2070.Wire(*one_of(self.addresses))
         kinds = [heard.kind for heard in self.probe.read(piece)] if self.probe else []
         self.damaged += kinds.count('damaged')
         self.frames += len(kinds) - kinds.count('damaged')
@@ -101,9 +126,9 @@ class Beginning:
 class Raw:
     """Makes batches of what a line carried, a file in one of the forms LINES."""
 
-    def __init__(self, form, address):
-        self.form, self.count, self.frames = form, 0, 0
-        self.decoder = (fio2070.Wire if form == OCTETS else fio2070.WireBits)(*address)
+    def __init__(self, form, addresses):
+        self.form, self.count, self.frames, self.addresses = form, 0, 0, addresses
+        self.decoder = (fio2070.Wire if form == OCTETS else fio2070.WireBits)(*one_of(addresses))
         self.is_text, self.held, self.sample = None, b'', b''
 
     def feed(self, octets):
@@ -117,7 +142,7 @@ class Raw:
     def _event(self, heard):
         self.count += 1
         self.frames += heard.kind != 'damaged'
-        return event_of(heard, self.count)
+        return event_of(heard, self.count, self.addresses)
 
     def _bits(self, octets, is_all=False):
         """The bits of octets that come next, as a text: as they are written, one to an octet, or each octet as eight."""

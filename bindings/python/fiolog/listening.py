@@ -11,7 +11,7 @@ import subprocess
 import time
 
 from . import terminal
-from .batch import BAD, DAMAGED, FRAME, Line, frame_of
+from .event import BAD, DAMAGED, FRAME, Line, frame_of
 from .options import OCTETS
 from .reader import Reader
 
@@ -137,12 +137,12 @@ class Datagrams:
 def opened(option):
     """What is heard."""
     if option.exec is not None:
-        return Process(option.exec, Reader('transcript'), Reader(address=option.address))
+        return Process(option.exec, *[Reader('transcript')] * (not option.like), Reader(address=option.address, like=option.like))
     if option.udp is not None:
         return Datagrams(option.host, option.udp)
     if option.fifo is not None:
         # Without a writer an open would wait, and not look at the time.
-        return Lines(io.FileIO(os.open(option.fifo, os.O_RDONLY | os.O_NONBLOCK)), Reader(address=option.address))
+        return Lines(io.FileIO(os.open(option.fifo, os.O_RDONLY | os.O_NONBLOCK)), Reader(address=option.address, like=option.like))
     return Lines(serial_port(option), Reader(line=OCTETS, address=option.address))
 
 

@@ -7,18 +7,22 @@ frame check. What a port loses, or hears with a wrong parity or stop bit, is not
 import sys
 import time
 
-from . import check, listening, log, options, output, sides, terminal
-from .batch import BAD, FRAME, LOSSES, OTHER, PASSED, PIECE, POSSIBLE, made_of
+from . import check, judgement, listening, log, options, output, statuses, terminal
+from .batch import made_of
+from .event import BAD, DAMAGED, FRAME, LOSSES, OTHER, PASSED
 from .captures import Writer
 from .counts import UNJUDGED, Counts, in_words
 from .decode import Text, spoken
 from .options import number_in
+from .rules import LOST_LINES
+from .stations import Stations
 from .waiting import Waiting
 
 # Seconds without a frame after which the status line says so.
 QUIET = 2.0
 # The reasons that are shown for frames that are not judged.
-SHOWN = 'frames_above_a_command', 'frames_below_loads', 'late_answers', 'frames_below_late_answers', 'frames_of_one_direction'
+SHOWN = ('frames_above_a_command', 'frames_below_loads', 'late_answers', 'frames_below_late_answers', 'frames_of_one_direction',
+         'frames_of_another_kind')
 # The counts that the status line shows even if they are 0.
 ALWAYS = ('frames', 'polls', 'breaches')
 
@@ -29,7 +33,7 @@ def add_arguments(parser):
     source.add_argument('--serial', metavar='DEVICE', help='octet-stuffed HDLC with frame check')
     source.add_argument('--udp', type=number_in(0, 65535), metavar='PORT', help='a frame a datagram')
     source.add_argument('--fifo', metavar='FILE', help='a pipe or file with lines of a log')
-    options.add(parser, '--address')
+    options.add(parser, '--address', '--like')
     parser.add_argument('--rate', type=int, default=153600, metavar='BAUD', help='of the serial port (153600)')
     parser.add_argument('--host', default='127.0.0.1', help='the address to hear datagrams at (127.0.0.1)')
     parser.add_argument('--transcript', metavar='FILE', help='write what comes as a transcript')
@@ -51,7 +55,7 @@ class Station:
         self.out = sys.stderr if option.pcapng == '-' else sys.stdout
         self.paint = terminal.painter('auto')
         self.line = Text(self._write, self.paint)
-        self.judgement = sides.Judgement(check.rules_for(option))
+        self.stations = Stations(lambda: judgement.Judgement(check.rules_for(option)), self.counts)
         self.transcript = output.recorded(option.transcript, option.force) if option.transcript else None
         self.capture = None
         if option.pcapng:
@@ -63,7 +67,7 @@ class Station:
         """Frames, good or bad; other lines are passed over, and at a damaged one the place is lost."""
         for batch in made_of(events, self.source.reader.as_said):
             told = {}
-            for frame, *one in self.judgement.take(batch):
+            for frame, *one in self.stations.take(batch):
                 told.setdefault(batch.line_of(frame), []).append(one)
             self.counts.take(batch)
             for line, event in batch.numbered():
@@ -72,7 +76,7 @@ class Station:
     def _add(self, event, broken):
         """What is done with a line, and with what is broken there."""
         if event.kind not in (FRAME, BAD, OTHER):
-            if event.kind in (PASSED, POSSIBLE, *LOSSES) and self.option.verbose:
+            if event.kind in (PASSED, *LOSSES) and self.option.verbose:
                 self._say(event.words)
             return
         if not self.option.quiet and not self.waiting.was_shown(event):
@@ -102,7 +106,7 @@ class Station:
 
     def flush(self):
         """Writes out what is held, and the status line on a terminal; and what lines would be that wait, if the log ended now."""
-        for event in () if self.option.quiet else self.waiting.due(self.source.reader.waiting()):
+        for event in () if self.option.quiet else self.waiting.due(self.source.reader):
             self.line('-', event, spoken(event))
         self._flush()
         silence = time.monotonic() - self.last
@@ -118,33 +122,35 @@ class Station:
     def numbers(self, is_over=True):
         """What was counted."""
         kinds = self.source.reader.kinds
-        numbers = {in_words(name): number for name, number in self.counts.in_short(is_over).items()}
+        numbers = {in_words(name): number for name, number in self.stations.total(self.counts).in_short(is_over).items()}
         others = {'skipped lines': kinds[PASSED],
-                  'wrong frame checks' if self.option.serial else 'damaged lines': sum(kinds[kind] for kind in LOSSES if kind != PIECE),
-                  'lines with parts of messages': kinds[PIECE], 'frames of other addresses': kinds[OTHER],
-                  **{UNJUDGED[name][1]: self.judgement.unjudged[name] for name in SHOWN}, 'datagrams dropped': self.source.dropped}
+                  'wrong frame checks' if self.option.serial else 'damaged lines': kinds[DAMAGED],
+                  **{UNJUDGED[LOST_LINES[kind]][1]: kinds[kind] for kind in LOST_LINES}, 'frames of other addresses': kinds[OTHER],
+                  **{UNJUDGED[name][1]: self.stations.unjudged[name] for name in SHOWN}, 'datagrams dropped': self.source.dropped}
         broken = {name: count for name, count in self.broken.items() if count or name != 'restarted'}
         return {**numbers, **broken, **{words: count for words, count in others.items() if count}}
 
     def end(self):
-        """The summary; status 1 if a rule is broken, the module restarted, or nothing came."""
+        """The summary; returns the status. What was said of a log that does not look like that of one link is taken back."""
         self.add(self.source.end())
-        self._name(self.judgement.end(self.source.reader.reasons, self.source.reader.kinds[POSSIBLE]))
-        for words in self.source.reader.doubts():
-            self._say(words)
+        self._name(self.stations.end())
         self._write(', '.join('%s %d' % pair for pair in self.numbers().items()) + '\n')
+        for address, row in self.stations.rows().items():
+            self._write('address %s: %s\n' % (address, check.numbers_words(row)))
         self._flush()
-        sides.say_signs([self.judgement])
-        check.say_excused(self.judgement.rules.unjudged['frames_not_at_the_cpu'])
-        is_fault = sides.say([self.judgement])
+        check.say_excused(self.stations.unjudged['frames_not_at_the_cpu'])
+        judgements = self.stations.judgements
+        is_little = judgement.say(judgements)
+        for words in self.source.reader.sizes():
+            terminal.say(words)
         if not self.counts.frames:
             log.say_others(self.source.reader.others)
             terminal.say('no frame came')
-        return 1 if any(self.broken.values()) or is_fault or not self.counts.frames else 0
+        return statuses.of_log(any(one.is_fit for one in judgements) and self.broken['breaches'] + self.broken['breaches in content'], is_little)
 
 
 def run(option):
-    """Hears the line until it ends; status 1 also if it ends with a fault."""
+    """Hears the line until it ends; a line that ends with a fault is as a breach."""
     for name in ('exec', 'serial', 'fifo'):
         given = getattr(option, name)
         if given is not None and not given.strip():
@@ -171,4 +177,4 @@ def run(option):
         status = station.end()
     finally:
         is_failed = source.close() or is_failed
-    return 1 if is_failed else status
+    return statuses.BREACH if is_failed else status

@@ -9,9 +9,9 @@ import zlib
 from collections import Counter
 
 from . import captures
-from .batch import BAD, FRAME, LOSSES, PASSED, PIECE, POSSIBLE, made_of
+from .batch import made_of
+from .event import BAD, BLANK, DAMAGED, DROPPED, FRAME, LOSSES, PASSED, POSSIBLE, text_of
 from .counts import reasons_in_words
-from .log_words import CURES, REASONS
 from .reader import CHECKED, UNCHECKED, Reader
 from .terminal import say, shown, status
 
@@ -81,7 +81,8 @@ def _opened(name):
 def settings_of(option):
     """The reader's settings, by the options of the command line."""
     framing = '' if not option.sdlc else UNCHECKED if option.no_check else CHECKED
-    return {'form': option.format, 'pattern': option.pattern, 'framing': framing, 'line': option.line, 'address': option.address}
+    return {'form': option.format, 'pattern': option.pattern, 'framing': framing, 'line': option.line, 'address': option.address,
+            'like': option.like}
 
 
 def has_several(option):
@@ -99,11 +100,12 @@ class Log:
         self.has_several = has_several(option)
         self.balance = 0    # of how many more frames the log says another sender than that of their type: above 0 it is of the module's end
         self.judgements, self.unjudged = [], Counter()  # of each file that is judged, and what of them is not, by its reason
+        self.others = Counter()     # of frames that are judged for no station, by what is said of them
         self._first = None      # the octets with which the first file begins
         self._unnamed = []      # lines of the present batch that are to be named, each with its index
 
     def total(self, name):
-        """The sum of what the readers counted: `kinds`, `reasons`, `damages` or `others`."""
+        """The sum of what the readers counted: `kinds`, `reasons` or `others`."""
         return sum((getattr(reader, name) for reader in self.readers), Counter())
 
     @property
@@ -119,7 +121,7 @@ class Log:
     @property
     def damaged(self):
         """How many lines are damaged."""
-        return sum(self.kinds[kind] for kind in LOSSES if kind != PIECE)
+        return self.kinds[DAMAGED]
 
     def logs(self):
         """Each log as what counts its lines, and its lines: file after file, or all files in the order of time. With -v lines that are skipped
@@ -163,25 +165,32 @@ class Log:
     def _merged(self):
         """The lines of all files as of one log."""
         from . import merge
-        both = merge.Merge([merge.File(name, (event for batch in self._of_file(name, reader) for event in batch.events()))
-                            for name, reader in zip(self.option.files, self.readers)])
+        streams = [self._octets_of(name) for name in self.option.files]
+        firsts = [next(stream, b'') for stream in streams]
+        if self.option.format == 'auto' and not (self.option.like or self.option.pattern or self.option.sdlc or self.option.line):
+            for reader, samples in zip(self.readers, merge.samples_of(firsts)):
+                reader.learn(samples)
+        both = merge.Merge([merge.File(name, (event for batch in reader.read(itertools.chain([first], stream)) for event in batch.events()))
+                            for name, reader, first, stream in zip(self.option.files, self.readers, firsts, streams)])
         yield from made_of(both, self.readers[0].as_said)
         if both.is_apart:
             say('one file ends before another begins: are they of the same link and the same time?')
 
     def _of_file(self, name, reader):
+        return reader.read(self._octets_of(name))
+
+    def _octets_of(self, name):
+        """The octets of a file, decoded."""
         descriptor = _opened(name)
         if not self.option.quiet and os.isatty(descriptor):
             say('reading from the terminal: to read a log, name its file after the command')
 
         def begins(first):
             self._first = first if self._first is None else self._first
-        yield from reader.read(decoded(_chunks_of(descriptor, name, self._progress(descriptor), self.idle), not self.option.line, begins))
+        yield from decoded(_chunks_of(descriptor, name, self._progress(descriptor), self.idle), not self.option.line, begins)
         status.clear()
         if descriptor != sys.stdin.fileno():
             os.close(descriptor)
-        for words in () if self.option.quiet else reader.doubts():
-            say(words)
 
     def _progress(self, descriptor):
         """A function that takes how many octets more of a file were read. On a terminal it shows how much of a long file that is, unless
@@ -197,19 +206,25 @@ class Log:
                 status.show('reading %d %%' % (100 * count // size))
         return add
 
-    def summary(self, takes_possible=False):
-        """Says how many lines were passed over and why; false without a frame or, if the command `takes_possible` ones, one that
-        is possible."""
+    def summary(self, says_forms=False):
+        """Says how many lines were passed over and why and, if the command `says_forms`, how the others were read; false without a
+        frame."""
         kinds = self.kinds
         found = kinds[FRAME] + kinds[BAD]
-        for words in () if self.option.quiet else self._remarks(kinds, takes_possible):
+        for words in () if self.option.quiet else [*(read_as_words(*self.read_as()) if says_forms else ()), *self._remarks(kinds)]:
             say(words)
         if not (self.option.quiet and found):
-            say_others(self.total('others'))
-        if not found and not (takes_possible and kinds[POSSIBLE]):
+            say_others(self.total('others') + self.others)
+        if not found:
             say(self._why())
             return False
         return True
+
+    def read_as(self):
+        """By which forms lines were read, and how many lines no form has."""
+        read = [(reader.count - reader.kinds[BLANK], forms) for reader in self.readers if (forms := reader.forms())]
+        forms = [one for _, some in read for one in some]
+        return forms, sum(count for count, _ in read) - sum(one.lines for one in forms)
 
     def _why(self):
         """Why there is no frame."""
@@ -221,26 +236,45 @@ class Log:
     def _lines(self):
         return sum(reader.count for reader in self.readers)
 
-    def _remarks(self, kinds, takes_possible):
+    def _remarks(self, kinds):
         """What is said of the lines that give no frame."""
-        passed, pieces, possible, damaged, lines = kinds[PASSED], kinds[PIECE], kinds[POSSIBLE], self.damaged, self._lines()
-        reasons, damages, names = self.reasons, self.total('damages'), '' if self.option.verbose else ' (-v names each)'
-        less, flagged = damages[REASONS['one less']], sum(reader.flagged for reader in self.readers)
+        passed, possible, damaged, dropped, lines = kinds[PASSED], kinds[POSSIBLE], self.damaged, kinds[DROPPED], self._lines()
+        reasons, names, flagged = self.reasons, '' if self.option.verbose else ' (-v names each)', sum(reader.flagged for reader in self.readers)
         if passed:
             yield '%d of %d line%s skipped: %s%s' % (passed, lines, 's' * (lines != 1), reasons_in_words(reasons), names)
-        yield from ('%s: %s' % one for one in CURES.items() if reasons[one[0]] or damages[one[0]])
-        if less and less == damaged:
-            yield '%d message%s last octet: does the logger cut lines off?' % (less, ' lacks its' if less == 1 else 's lack their')
+        for reader in self.readers:
+            yield from reader.sizes()
         if flagged and not self.option.sdlc:
             yield '%d line%s a flag, address and control octet of SDLC, and no frame that is read: try --sdlc' % (
                 flagged, ' has' if flagged == 1 else 's have')
-        if pieces:
-            yield 'messages split over two lines, which are not read: %d (%d lines)' % (pieces // 2, pieces)
         if damaged:
             yield '%d damaged line%s may have held a frame: nobody is accused up to the next poll%s' % (damaged, 's' * (damaged > 1), names)
+        if dropped:
+            yield '%d line%s octets that are in no frame: nobody is accused up to the next poll%s' % (
+                dropped, ' has' if dropped == 1 else 's have', names)
         if possible:
-            yield 'possible messages, which nothing in the log confirms: %d%s' % (
-                possible, '' if takes_possible else '; `fiolog decode` shows them')
+            yield '%d line%s may be a message, and ha%s no form of this log: to read such, give one by --like%s' % (
+                possible, 's' * (possible > 1), 's' if possible == 1 else 've', names)
+
+
+def read_as_words(forms, others):
+    """How lines were read: a line for each form, and in the last one how many lines no form has."""
+    ends = [''] * (len(forms) - 1) + ['; no form: %s' % lines_words(others) if others > 0 else '']
+    for one, end in zip(forms, ends):
+        damaged = ', {:,} damaged'.format(one.damaged) if one.damaged else ''
+        copies = ', which repeat the frames above' if one.is_echo else ''
+        yield 'read as "%s" <octets>: %s%s%s%s' % (shown(text_of(one.front)), lines_words(one.lines), damaged, copies, end)
+
+
+def lines_words(count):
+    """How many lines there are."""
+    return '{:,} line{}'.format(count, 's' * (count != 1))
+
+
+def forms_numbers(forms, others):
+    """How lines were read, by name."""
+    return {'read_as': [{'front': shown(text_of(one.front)), 'first_line': one.first, 'lines': one.lines, 'damaged': one.damaged,
+                         'is_copy': one.is_echo} for one in forms], 'lines_of_no_form': max(others, 0)}
 
 
 def say_others(others):

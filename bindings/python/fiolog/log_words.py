@@ -1,48 +1,44 @@
-"""What is said of the lines of a log: why one gives no frame, by the reasons of `fio2070.Verdict` in the order of their numbers; of
-which frames damage is not seen; which directions are missing; and of what a line carried. tools/generate-messages writes the same
-words for the page."""
+"""What is said of the lines of a log: why one gives no frame, or what else is in one that does, by the reasons of `fio2070.Verdict`
+in the order of their numbers; which directions are missing; and of what a line carried. tools/generate-messages writes the same words
+for the page."""
 
 REASONS = {
     'no octets': 'no octets',
     'no message': 'octets that are no message',
-    'short message': 'a short message in a line unlike those of other messages',
-    'several messages': 'more than one message',
-    'may be longer': 'it may be one message with the line below or above, or one by itself',
+    'no form': 'what may have been a message, and no form of this log',
+    'more': 'beside its frames it has octets that may be a message',
     'too long': 'longer than a line with a frame can be',
     'bad line': 'bad line',
-    'exchanged': 'octets that are a message if those of each pair are exchanged',
-    'two more': 'octets that are a message but for two at their beginning or end',
     'loss': 'octets may be lost',
     'heading': 'heading',
-    'one less': 'an octet too few',
+    'copy': 'a copy of the frame above',
+    'broken': 'the message above is not whole, and does not go on here',
 }
-# What helps, by the words of a reason.
-CURES = {
-    REASONS['exchanged']: 'write the log with `xxd` or `hexdump -C`',
-    REASONS['two more']: 'try --sdlc --no-check if they are at the beginning, --pattern if they are at the end',
-}
-POSSIBLE = 'possible: nothing in the log confirms it'
-DOUBTS = {
-    'rows': 'each row has one octet: if a row is missing, the rest may read as another message',
-    'numbers': 'frames whose octets are numbers without leading zeros: {count}; if the log lost a digit, nothing shows it',
-    'loose': 'frames of types that may have any length: {count}; if the logger cut one off, nothing shows it',
-}
+WAITING = 'it may go on in the next line'
 SIDES = {
     'commands': 'this log has the commands alone: the answers were not logged, so no rule is judged',
     'answers': 'this log has the answers alone: the commands were not logged, so no rule is judged',
     'not whole': 'no answer in this log is whole, so no rule is judged',
     'silent': 'no answer came: the module is silent, or its direction was not logged',
 }
-# What kind of log it looks like, if it is not the log of one link in order, and what to do.
+# What kind of log it looks like, if it is not the log of one link in order, and what to do: in the order of the library's numbers, and last
+# what it has no number of.
 SIGNS = {
     'twice': 'this log looks as if each frame is in it twice: keep one of both channels or sources, and judge that',
     'both ends': 'this log looks like the logs of both ends merged: keep the lines of one end, and judge these',
     'reversed': 'this log looks as if its last line is first: reverse it with `tac FILE`',
     'two links': 'this log looks like the lines of two links: split it by port or address, and judge each link by itself',
+    'late answers': 'answers came late in this log, below commands that were sent again: try --late-answers',
 }
 LINE = {
     'damaged': 'no frame with a right check',
     'other': 'of address {address}, control octet {control}: not judged',
+    'of': 'of address {address}: not judged',
+    'none': 'of no address, or of a line with several: not judged',
+    'type': 'message of type {type}, not of this protocol',
+    'size': 'message of type {type}, of another size',
+    'inputs': '{type} has {octets} of inputs in {lines}: a module with {count} inputs? its 180, 181 and 55 are not read, all else is judged',
+    'outputs': '{type} has {octets} of outputs in {lines}: a module with {count} outputs? its 55 are not read, all else is judged',
     'octets': 'no frame with a right check in the octets of this line',
     'bits': 'no frame with a right check in these bits, one a clock: if they are written eight to an octet, try the other order',
     'faster': 'no frame at one bit a clock, and nearly all bits last {count} samples or more: the sample clock is faster than the line, so sample on the clock of the line, or keep one sample of each bit',

@@ -6,7 +6,7 @@ import sys
 from functools import partial, reduce
 from operator import add
 
-from . import log, options, sides, terminal
+from . import judgement, log, options, statuses, terminal
 from .counts import OF_LINES, UNJUDGED, in_words, unjudged_numbers, unjudged_words
 from .output import Refused
 from .summary import Summary, summary_of
@@ -51,12 +51,17 @@ def numbers(summary):
 
 
 def first_words(summary):
-    """The first breach, else the first restart or, if little can be judged, why, as a row says it."""
+    """The first breach, else the first restart, else the remarks."""
     if summary.first_breach:
         return 'line %d: %s' % summary.first_breach[:2]
     if summary.first_restart:
         return 'line %d: restarted' % summary.first_restart
-    return ', '.join(map(sides.IN_SHORT.get, summary.verdicts)) if summary.counts.frames else 'no frame'
+    return remarks(summary)
+
+
+def remarks(summary):
+    """Why little can be judged, as a row says it."""
+    return ', '.join(map(judgement.IN_SHORT.get, summary.verdicts))
 
 
 def left_out(summary, counts_alone):
@@ -69,8 +74,9 @@ def write_json(rows, faults, total, counts_alone):
     """An object for each file, and one for all."""
     def object_of(one):
         key, _, missing = left_out(one, counts_alone)
-        remarks = {'remarks': {sides.IN_SHORT[name]: count for name, count in one.verdicts.items()}} if one.verdicts else {}
-        return {**numbers(one), **remarks, key.replace(' ', '_'): missing, 'rules': dict(one.broken)}
+        verdicts = {'remarks': {judgement.IN_SHORT[name]: count for name, count in one.verdicts.items()}} if one.verdicts else {}
+        return {**numbers(one), **verdicts, key.replace(' ', '_'): missing, 'rules': dict(one.broken),
+                **({'stations': one.stations} if one.stations else {})}
     for name, one in rows:
         terminal.print_object({'file': shown(name), **object_of(one), 'first': one.first_breach})
     for name, words in faults:
@@ -87,7 +93,7 @@ def write_csv(rows, faults):
     for name, one in rows:
         found, (line, rule, _) = {**numbers(one), 'lines': one.lines}, one.first_breach or ('', '', '')
         table.writerow([shown(name), *(found[column] for column in names), *(one.left_out[column] for column in missing),
-                        *(one.broken[column] for column in options.NAMES), line, rule, ', '.join(map(sides.IN_SHORT.get, one.verdicts)), ''])
+                        *(one.broken[column] for column in options.NAMES), line, rule, remarks(one), ''])
     for name, words in faults:
         table.writerow([shown(name), *[''] * (len(names) + len(missing) + len(options.NAMES) + 3), shown(words)])
 
@@ -118,8 +124,8 @@ class Seen:
 
 
 def run(option, counts_alone=False):
-    """Reads the files; status 1 if there is no frame or, unless it `counts_alone`, a rule is broken or a module
-    restarted; 3 if a file cannot be read; 130 if Ctrl-C ended it: then the rows are those of the files that were read."""
+    """Reads the files, and judges them unless it `counts_alone`. If a file cannot be read, the status says that. If Ctrl-C ended it, the
+    rows are those of the files that were read."""
     from . import side_by_side      # which a single log does not need
     work, count = partial(summary_or_fault, settings_of(option)), len(option.files)
     done = side_by_side.results(work, option.files, side_by_side.jobs_of(option.jobs, count), Seen(count).add)
@@ -133,8 +139,8 @@ def run(option, counts_alone=False):
         write_csv(rows, faults)
     else:
         (write_json if option.json else write_table)(rows, faults, total, counts_alone)
-    is_bad = not total.counts.frames or not counts_alone and (total.breaches or total.restarted or any(map(sides.is_fault, total.verdicts)))
+    is_little = any(judgement.is_little(one, counts_alone) for one in total.verdicts)
     if len(done) < count:
         terminal.say('ended: %d of %d logs were read' % (len(done), count))
-        return 130
-    return 3 if faults else 1 if is_bad else 0
+        return statuses.ENDED
+    return statuses.FAILED if faults else statuses.of_log(total.breaches and not counts_alone, is_little)

@@ -1,13 +1,40 @@
 """The files of one line, such as one of each channel of an analyser, as one log in the order of time (docs/CAPTURES.md, Two
 files of one line)."""
 
-from .batch import DATED, FRAME, LOSSES, OF_DAY
+import itertools
+
+import fio2070
+
+from .event import DATED, FRAME, LOSSES, OF_DAY, PART
 from .message import AGAIN, BLOCK, POLL, TYPE_ANSWER
 from .output import Refused
 from .terminal import shown
 
 DAY = 86_400
+# How many lines of a file show how the others of it are written.
+SAMPLES = 8
 DATE, CLOCK, SECONDS = 'a date', 'a time of day', 'seconds'
+
+
+def _lines_of(octets, numbers_of):
+    """The lines of a text of which a reader says frames or parts of them, and that `numbers_of` has."""
+    reader, lines = fio2070.LogReader(), octets.splitlines(keepends=True)
+    return [lines[one.line - 1] for one in reader.read(octets) + reader.end() if one.kind in (FRAME, PART) and numbers_of(one.line - 1)]
+
+
+def samples_of(beginnings):
+    """Of each file, by how it begins, the lines that say messages if the lines of all files are read in turn, as polls do above their
+    answers; none of a file that shows a form by itself."""
+    texts, count, found = [one.splitlines() for one in beginnings], len(beginnings), []
+    for place, one in enumerate(beginnings):
+        # The file is above the others, or below them.
+        turns = () if _lines_of(one, lambda _: True) else ([place, *others], [*others, place]) if (others := [
+            other for other in range(count) if other != place]) else ()
+        ways = [(b''.join(line + b'\n' for row in itertools.zip_longest(*(texts[index] for index in turn), fillvalue=b'') for line in row),
+                 turn.index(place)) for turn in turns]
+        lines = (_lines_of(text, lambda number, first=first: number % count == first) for text, first in ways)
+        found.append(b''.join(next(filter(None, lines), [])[:SAMPLES]))
+    return found
 
 
 class File:

@@ -2,6 +2,7 @@
 its range."""
 
 import argparse
+import os
 import sys
 
 from fio2070.constants import WIRE_CONTROL
@@ -54,8 +55,13 @@ def message_type(text):
     return number
 
 
-def line_address(text):
-    """The address of the frames of a line that are judged, and their control octet, each None for any."""
+def line_addresses(text):
+    """The addresses of the frames of a line that are judged, each with its control octet, both None for any."""
+    return [_line_address(word) for word in text.split(',')]
+
+
+def _line_address(text):
+    """One address, and its control octet."""
     if text == 'any':
         return None, None
     if len(text) not in (2, 4) or not all(sign in '0123456789abcdefABCDEF' for sign in text):
@@ -64,9 +70,15 @@ def line_address(text):
     return octets[0], octets[-1] if len(octets) > 1 else WIRE_CONTROL
 
 
-def address_words(address, control):
-    """The word that `line_address` reads as these."""
-    return 'any' if address is None else '%02X' % address + '%02X' % control * (control != WIRE_CONTROL)
+def samples(text):
+    """Sample lines of a log: this one, or those of a file that is named after `@`."""
+    if not text.startswith('@'):
+        return os.fsencode(text)
+    try:
+        with open(text[1:], 'rb') as file:
+            return file.read()
+    except OSError as fault:
+        raise argparse.ArgumentTypeError('%s: %s' % (text[1:], fault.strerror)) from None
 
 
 def status_letters(text):
@@ -95,8 +107,11 @@ _SHARED = {
     '--no-check': {'action': 'store_true', 'help': 'with --sdlc: each line ends with one frame, without the frame check'},
     '--line': {'choices': LINES, 'default': '', 'metavar': 'FORM',
                'help': 'the file is what a line carried: octets, or bits (bits-high-first), one a clock, as a text of 0 and 1 or eight to an octet'},
-    '--address': {'type': line_address, 'metavar': 'HEX',
-                  'help': 'the address of the frames of a line that are judged (14), with or without the control octet (1483), or any'},
+    '--address': {'type': line_addresses, 'action': 'extend', 'metavar': 'HEX',
+                  'help': 'the address of the frames of a line that are judged (14), with or without the control octet (1483), several (14,15), '
+                          'or any'},
+    '--like': {'action': 'append', 'type': samples, 'default': [], 'metavar': 'LINE',
+               'help': 'a line with a message as this log writes it, such as "TX 36 05", or @FILE for such lines; may be given again'},
     '--merge': {'action': 'store_true', 'help': 'read the files as one log, in the order of their times: such as one file of each channel'},
     '-v --verbose': {'action': 'store_true', 'help': 'name each line that is skipped, and why'},
     '-q --quiet': {'action': 'store_true', 'help': 'write only errors to standard error'},
@@ -122,7 +137,7 @@ def add(parser, *names):
 
 def add_reading(parser):
     """Adds the options of all that read logs."""
-    add(parser, 'files', '--format', '--pattern', '--sdlc', '--no-check', '--line', '--address', '--merge', '-v --verbose', '-q --quiet')
+    add(parser, 'files', '--format', '--pattern', '--sdlc', '--no-check', '--line', '--address', '--like', '--merge', '-v --verbose', '-q --quiet')
 
 
 def add_place(parser):

@@ -8,7 +8,7 @@ import os
 import stat
 import sys
 
-from . import signals
+from . import signals, statuses
 from .terminal import fault_words, say, status as status_line
 
 STANDARD = 'standard output'
@@ -194,8 +194,8 @@ def _set_mode(descriptor, beside, mode):
 
 
 def guarded(name, run):
-    """Runs a command of this name, and returns its status. What ends it is said in one line: status 2 if an output is refused, 3
-    if a file cannot be read or written, 130 at Ctrl-C, SIGTERM or SIGHUP, 1 without a word if nobody reads its output."""
+    """Runs a command of this name, and returns its status. What ends it is said in one line: an output that is refused, or a file that
+    cannot be read or written. If nobody reads its output, the status is 1, without a word."""
     sys.stdout = standard(sys.stdout)
     try:
         signals.end_in_order()
@@ -205,7 +205,7 @@ def guarded(name, run):
             signals.end_at_once()
     except KeyboardInterrupt:
         signals.end_at_once()
-        status = 130
+        status = statuses.ENDED
     status_line.clear()
     try:
         sys.stdout.flush()
@@ -226,10 +226,10 @@ def _status(name, run):
         sys.stdout.flush()
         return status
     except BrokenPipeError:
-        return 1        # the reader, such as `head`, has enough
+        return statuses.BREACH      # the reader, such as `head`, has enough
     except Refused as refusal:
         say(str(refusal), name)
-        return 2
+        return statuses.REFUSED
     except OSError as fault:
         say(fault_words(fault), name)
-        return 3
+        return statuses.FAILED

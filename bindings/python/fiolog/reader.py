@@ -5,15 +5,14 @@ import re
 from collections import Counter
 
 import fio2070
-from fio2070.constants import LOG_SAYS
 
-from .batch import DAMAGED, LONGEST_TEXT, OTHER, PASSED, Batch, frame_of, made_of
-from .doubts import Doubts
-from .line import OWN, Beginning, Raw
+from .batch import Batch, made_of
+from .event import DAMAGED, LONGEST_TEXT, OTHER, PASSED, frame_of
+from .foreign import Foreign
+from .line import OWN, ROWS, Beginning, Raw, addressed
 from .log_words import REASONS
-from .options import FORMS, address_words
+from .options import FORMS
 from .output import Refused
-from .pieces import Pieces
 
 # Frames of SDLC with their checks, or without.
 CHECKED, UNCHECKED = 'checked', 'unchecked'
@@ -63,13 +62,16 @@ class Texts:
 
 
 class Found(Texts):
-    """Makes batches of the octets of a log in which the library finds frames; `form` is one of FORMS."""
+    """Makes batches of the octets of a log in which the library finds frames; `form` is one of FORMS, `like` are sample lines, each as its
+    octets, `addresses` those of the frames that are judged, or none for all. Raises Refused if the samples show no form."""
 
-    def __init__(self, form):
+    def __init__(self, form, like=(), addresses=()):
         super().__init__()
-        self.library, self.doubts = fio2070.LogReader(form), Doubts()
-        self.form, self.has_frames = form, False
+        self.library, self.form, self.addresses = fio2070.LogReader(form), form, addresses
         self.told = 0   # the last line with a verdict
+        self.foreign = Foreign()
+        if like and not self.library.like(b'\n'.join(like) + b'\n'):
+            raise Refused('--like: these lines show no message and how it is written, such as `TX 36 05`')
 
     def feed(self, octets):
         """The lines that are certain once these octets are read."""
@@ -82,16 +84,22 @@ class Found(Texts):
         return self._batches(self.library.last_batches())
 
     def waiting(self):
-        """The lines that have no verdict yet, each with its number."""
-        return list(enumerate(self.lines, self.above + 1))[max(self.told - self.above, 0):]
+        """The numbers of the lines that have no verdict yet."""
+        return range(self.told + 1, self.count + 1)
+
+    def ended(self):
+        """What these lines say, if the log ends here."""
+        for said in self.library.ended().last_batches():
+            yield from Batch(said, self.form == 'transcript', raw_of=self.of).events()
 
     def _batches(self, batches):
         for said in batches:
-            first = -1 if self.has_frames else said.kinds.find(LOG_SAYS) if LOG_SAYS in said.kinds else len(said)
-            self.has_frames, self.told = first < len(said), said.line(len(said) - 1)
-            batch = Batch(said, self.form == 'transcript', raw_of=self.of, first=first)
-            if self.form == 'auto':
-                self.doubts.take(batch, self)
+            self.told = said.line(len(said) - 1)
+            self.foreign.take(said)
+            batch = Batch(said, self.form == 'transcript', raw_of=self.of)
+            if self.form == 'auto' and self.addresses:
+                yield from made_of([addressed(event, self.addresses) for event in batch.events()])
+            elif self.form == 'auto':
                 yield batch
             else:
                 yield from self._by_form(batch)
@@ -111,36 +119,69 @@ class Found(Texts):
         return frame._replace(direction=event.said) if is_transcript else frame
 
 
+class Octets(Found):
+    """Makes batches of a file that is no text: its octets are read as rows of 16 in hexadecimal."""
+
+    ROW = 16
+
+    def __init__(self):
+        super().__init__('auto')
+        self.held = b''
+
+    def feed(self, octets):
+        """The rows that are certain once these octets are read."""
+        octets = self.held + octets
+        whole = len(octets) - len(octets) % self.ROW
+        self.held = octets[whole:]
+        return super().feed(self._rows(octets[:whole]))
+
+    def _rows(self, octets):
+        """The rows of octets."""
+        return b''.join(octets[start:start + self.ROW].hex().encode() + b'\n' for start in range(0, len(octets), self.ROW))
+
+    def end(self):
+        """The rows that waited, and the last one."""
+        yield from super().feed(self._rows(self.held))
+        yield from super().end()
+
+
 class Reader:
     """Makes batches of the octets of a log, in pieces of any length. `form` is one of FORMS; `pattern` and `framing` are those of
-    ByOrder; `line` is one of line.LINES for what a line carried, which is also seen by its beginning; `address` is the address and
-    control octet of the frames of a line that are judged, each None for any."""
+    ByOrder; `line` is one of line.LINES for what a line carried, which is also seen by its beginning; `address` are the addresses of the
+    frames that are judged, each with its control octet, both None for any; `like` are sample lines of a text."""
 
-    def __init__(self, form='auto', pattern=None, framing='', line='', address=None):
+    def __init__(self, form='auto', pattern=None, framing='', line='', address=None, like=()):
         self.kinds, self.reasons, self.damages = Counter(), Counter(), Counter()    # the reasons of lines passed over, and of damaged ones
         self.others = Counter()     # of frames that are not judged, by what is said of their address
         self.flagged = 0            # lines with the beginning of a frame of SDLC that give no frame
-        self.pieces, self.address, self.has_addresses = Pieces(), address, framing == CHECKED
+        self.addresses = tuple(address or ())
+        if address and not framing and (pattern or form != 'auto'):
+            raise Refused('--address: the frames of %s have no address' % ('a --pattern' if pattern else 'a text of this --format'))
         self.as_said = form == FORMS[-1]    # whether the lines say themselves who sent a frame
         if pattern or framing:
             from .by_order import ByOrder
-            self.text = ByOrder(pattern, framing, address)
+            self.text = ByOrder(pattern, framing, self.addresses)
         else:
-            self.text = Found(form)
-        may_be_line = form == 'auto' and not pattern and framing in ('', CHECKED)
-        self.way = Raw(line, address or OWN) if line else None if may_be_line else self._way_of_text()
-        self.beginning = Beginning(address or OWN)
+            self.text = Found(form, like, self.addresses)
+        may_be_line = form == 'auto' and not pattern and not like and framing in ('', CHECKED)
+        self.way = Raw(line, self.addresses or OWN) if line else None if may_be_line else self.text
+        self.beginning = Beginning(self.addresses or OWN)
 
     @property
     def count(self):
         """How many lines were read."""
         return self.way.count if self.way else 0
 
+    def learn(self, samples):
+        """Learns forms from sample lines, before the first octets."""
+        if samples:
+            self.text.library.like(samples)
+
     def feed(self, octets):
         """Yields the lines that are certain once these octets are read. A batch is overwritten by the next one."""
         octets = octets if self.way else self._begin(octets)
         if self.way:
-            yield from self._joined(self.way.feed(octets))
+            yield from map(self._counted, self.way.feed(octets))
 
     def read(self, chunks):
         """Yields the lines of a log that comes in these pieces."""
@@ -151,39 +192,37 @@ class Reader:
     def end(self):
         """Yields the lines that waited."""
         held = b'' if self.way else self._begin(b'', True)
-        yield from self._joined(self.way.feed(held))
-        yield from self._joined(self.way.end())
-        yield from map(self._counted, self.pieces.end())
-
-    def _joined(self, batches):
-        for batch in batches:
-            yield from map(self._counted, self.pieces.join(batch))
+        yield from map(self._counted, self.way.feed(held))
+        yield from map(self._counted, self.way.end())
 
     def _begin(self, octets, is_all=False):
         """Chooses the way by how the file begins, if that shows it, and returns the octets that are to be read."""
         form = self.beginning.form(octets, is_all)
-        if form is not None:
-            self.way = Raw(form, self.address or OWN) if form else self._way_of_text()
+        if form == ROWS and isinstance(self.text, Found):
+            self.way = Octets()
+        elif form is not None:
+            self.way = Raw(form, self.addresses or OWN) if form and form != ROWS else self.text
         return self.beginning.held
 
-    def _way_of_text(self):
-        """The way of a text. Raises Refused if an address is given, and its messages have none."""
-        if self.address and not self.has_addresses:
-            raise Refused('--address is of frames of SDLC: `fiolog check --sdlc --address %s LOG` judges those of this address in the '
-                          'lines of a log' % address_words(*self.address))
-        return self.text
-
     def waiting(self):
-        """The lines that have no verdict yet, each with its number, if the lines below can show what they are."""
-        return self.way.waiting() if isinstance(self.way, Found) else []
+        """The numbers of the lines that have no verdict yet, if the lines below can show what they are."""
+        return self.way.waiting() if isinstance(self.way, Found) else range(0)
+
+    def ended(self):
+        """What these lines say, if the log ends here."""
+        return self.way.ended()
 
     def words(self):
         """Why a file of what a line carried has no frame; empty for any other."""
         return self.way.words() if isinstance(self.way, Raw) else ''
 
-    def doubts(self):
-        """What is said of frames of which damage is not seen."""
-        return self.text.doubts.words() if isinstance(self.way, Found) else ()
+    def forms(self):
+        """By which forms lines were read."""
+        return [one for one in self.way.library.forms() if one.lines] if isinstance(self.way, Found) else []
+
+    def sizes(self):
+        """What is said of modules of another size."""
+        return self.way.foreign.words() if isinstance(self.way, Found) else ()
 
     def _counted(self, batch):
         """A batch, of which is counted what its lines are."""
@@ -191,7 +230,7 @@ class Reader:
         for _, event in batch.others:
             if event.kind in (PASSED, DAMAGED):
                 (self.reasons if event.kind == PASSED else self.damages)[event.note] += 1
-                self.flagged += self.way is self.text and bool(_FLAGGED.search(event.raw))
+                self.flagged += self.way is self.text and event.note in REASONS.values() and bool(_FLAGGED.search(event.raw))
             elif event.kind == OTHER:
                 self.others[event.note] += 1
         return batch

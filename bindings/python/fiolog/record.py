@@ -8,16 +8,19 @@ from operator import itemgetter
 import fio2070
 from fio2070.constants import BIT_LOST as LOST
 
-from . import hires, log, options, sides, terminal
+from . import hires, log, options, statuses, terminal
 from .check import judged
 from .convert import block_of
 from .counts import unjudged_words
+from .judgement import Held, say
 from .message import BLOCK, POLL, spells
 from .output import Refused
 from .terminal import shown
 from .waveform import draw
 
 _POLL, _BLOCK = bytes([POLL]), bytes([BLOCK])
+# So many frames show what kind of log it is.
+ENOUGH = 64
 # The count and the status of a block that says nothing, and its length.
 _EMPTY, EMPTY = bytes(2), 8
 COLUMNS = ['line', 'time', 'input', 'state', 'stamp', 'wide']
@@ -65,7 +68,7 @@ class Hearing:
 
 
 class Record:
-    """The record of a log as it is read: breaches and restarts are counted. It begins anew with each log, as text at its first command."""
+    """The record of a log as it is read: breaches are counted. It begins anew with each log, as text at its first command."""
 
     def __init__(self, read, option):
         self.faults, self.read, self.option = 0, read, option
@@ -75,7 +78,9 @@ class Record:
         its log, its event, the items or None, and the breach or restart or None."""
         hearing, heard_by = Hearing(), None
         for batch, broken, judgement in judged(self.read, self.option):
-            self.faults += len(broken)
+            if judgement.parts:
+                raise Refused('this log has the frames of several stations: record each by itself, with --address (%s)'
+                              % ', '.join(judgement.rows()))
             if not batch:
                 yield from ((judgement, judgement.named(where), None, found) for _, where, found in broken)
                 continue
@@ -85,6 +90,26 @@ class Record:
                 if items or found or is_drawn:
                     self.read.name_passed(batch.line_of(frame))
                     yield judgement, judgement.named(where or batch.event(frame)), items, found
+
+    def _settled(self, is_drawn=False):
+        """The same, but no breach and no restart of a log that does not look like that of one link: what the first frames add is kept
+        until they show it."""
+        for judgement, part in groupby(self._taken(is_drawn), itemgetter(0)):
+            kept, held = [], Held()
+            for one in chain(part, [None]):
+                kept.append(one)
+                if one is None or judgement.frames >= ENOUGH:
+                    yield from (self._told(*some, held) for some in kept if some)
+                    kept.clear()
+            yield from (self._told(judgement, event, None, found, held) for event, found in held.take() if not judgement.sign)
+
+    def _told(self, judgement, event, items, found, held):
+        """What a frame adds or breaks; what it breaks is held as long as the log does not look like that of one link."""
+        if found and judgement.sign:
+            held.add((event, found))
+            found = None
+        self.faults += found is not None and not found.is_restart
+        return judgement, event, items, found
 
     def _of_batch(self, batch, broken, judgement, hearing):
         """What each frame adds or breaks: its index, the event of a breach that was held, the items of a block that is taken, and the breach."""
@@ -105,7 +130,7 @@ class Record:
                 items = hearing.hear(octets) if frame >= first and (octets[2:4] == _EMPTY and len(octets) == EMPTY or spells(octets)) else None
             elif octets[:1] == _POLL and len(octets) == 2:
                 due = hearing.note(octets[1])
-                if due is not None and frame >= judgement.answers_from and frame not in judgement.found:
+                if due is not None and frame >= judgement.answers_from and frame not in judgement.found and not judgement.sign:
                     self._say_jump(batch.line_of(frame), judgement.named(batch.event(frame)), due, octets[1])
             if items is not None or found:
                 yield frame, None, items, found
@@ -118,7 +143,7 @@ class Record:
     def logs(self):
         """The blocks of each log that were taken, as they are drawn, with the name of its file if there are several; breaches and
         restarts are said."""
-        for judgement, part in groupby(self._taken(True), itemgetter(0)):
+        for judgement, part in groupby(self._settled(True), itemgetter(0)):
             yield judgement.name, self._blocks(part)
 
     def _blocks(self, part):
@@ -131,7 +156,7 @@ class Record:
     def parts(self):
         """The items, the breaches and the restarts with their lines: a breach of a rule on content below the items that are above
         it, a restart above the items of its block."""
-        for _, event, items, found in self._taken():
+        for _, event, items, found in self._settled():
             items = items or ()
             place = found.items if found and found.items >= 0 else len(items)
             yield from ((event, item, None) for item in items[:place])
@@ -210,7 +235,7 @@ def write_text(record):
 
 
 def run(option):
-    """Writes the record; status 1 if a rule is broken, the module restarted, or there is no frame."""
+    """Writes the record."""
     read = log.Log(option, sys.stdout.flush, writes=not option.plot)
     record, form = Record(read, option), '--text' if option.text else '--vcd' if option.vcd else ''
     if form and read.has_several:
@@ -227,4 +252,4 @@ def run(option):
     is_read = read.summary()
     if read.unjudged and not option.quiet:
         terminal.say('not judged: ' + unjudged_words(read.unjudged))
-    return 1 if sides.say(read.judgements) or record.faults or not is_read else 0
+    return statuses.of_log(record.faults, say(read.judgements) or not is_read)

@@ -11,7 +11,7 @@ from fio2070.constants import OUTCOME_BROKEN, OUTCOME_BROKEN_CONTENT, OUTCOME_NO
 from fio2070.constants import TYPE_ANSWER, TYPE_WATCHDOG, WHY_ABOVE_COMMAND, WHY_LATE, WHY_LATE_ABOVE, WHY_LOAD
 from fio2070.constants import WHY_PLACE_LOST, WHY_UNHEARD
 
-from .batch import LOSSES, MISSING, PIECE
+from .event import DAMAGED, DROPPED, LOSSES, MISSING, POSSIBLE
 from .log_words import BREACHES, LINE
 from .message import AGAIN, BLOCK, message_of, words_of
 from .protocol import ADVANCE, CONTENT_RULES, INPUTS, RULES, SOURCES
@@ -25,6 +25,8 @@ DUE = {'pair': 'an answer %d was due, %d came', 'number': 'block %d was asked fo
 NOT_JUDGED = {WHY_LOAD: 'frames_below_loads', WHY_UNHEARD: 'frames_not_at_the_cpu', WHY_LATE: 'late_answers',
               WHY_LATE_ABOVE: 'frames_below_late_answers', WHY_ABOVE_COMMAND: 'frames_above_a_command',
               WHY_PLACE_LOST: 'frames_at_losses_of_sync'}
+# How a line that may have held a frame is counted (counts.py), by its kind.
+LOST_LINES = {DROPPED: 'lines_with_dropped_octets', POSSIBLE: 'possible_lines'}
 RESTARTED = 'restarted'
 # What is said of a frame that shows a restart: by its stamp, or of an answer to a watchdog that was set before.
 WENT_BACK = 'the module restarted, or the stamp is wrong: its counter went back'
@@ -77,8 +79,11 @@ class Rules:
 
     def __init__(self, at='auto', whole=False, limits=(), excepted=(), late_answers=False, with_content=True):
         self.judge = fio2070.LogJudge(*limits, place=at, begun=whole and not late_answers, late_answers=late_answers)
-        self.at, self.excepted, self.with_content = at, frozenset(excepted), with_content
+        self.at, self.excepted, self.with_content, self.late_answers = at, frozenset(excepted), with_content, late_answers
+        # The lines at which the judge loses its place above the first frame too.
+        self._lose_always = (DAMAGED, DROPPED, POSSIBLE) if whole and not late_answers else (DAMAGED, DROPPED)
         self.unjudged = Counter()   # what is not judged, by its reason
+        self.begun_again = 0    # the polls below losses of sync, from which judging begins anew
         self.is_above_polls = False     # whether a breach is above the first poll
         # Whether a poll is above, and a frame; whether the place is lost, up to the next poll.
         self._has_polls = self._has_frames = self._is_lost = False
@@ -99,7 +104,7 @@ class Rules:
         """What the judge says of frames that are not kept, and the events at which it may lose its place, each with how many frames
         are above."""
         outcomes = [(frame, None, outcome) for frame, outcome in self._judged(batch) if outcome.kind != OUTCOME_NOT_JUDGED or outcome.why]
-        lines = [(batch.frames_above(line), event, None) for line, event in batch.others if event.is_loss]
+        lines = [(batch.above(line, event), event, None) for line, event in batch.others if event.is_loss]
         return sorted(lines + outcomes, key=itemgetter(0)) if lines else outcomes
 
     def _judged(self, batch):
@@ -117,15 +122,15 @@ class Rules:
         """Goes on below these frames: the place is known from a poll on."""
         self._has_frames |= first < last
         if (self._is_lost or not self._has_polls) and batch.has_poll(first, last):
+            self.begun_again += self._is_lost
             self._is_lost, self._has_polls = False, True
 
     def _note(self, event):
         """Takes a line that may have held a frame, or says that frames may be missing or that another part of the log begins."""
         if event.kind in LOSSES:
-            self.unjudged['lines_with_parts' if event.kind == PIECE else 'damaged_lines'] += 1
-            if not (self.at == 'cpu' and event.note == WRONG_CHECK):
-                self._lose_place()
-        elif event.note not in MISSING and self._has_frames:
+            self.unjudged[LOST_LINES.get(event.kind, 'damaged_lines')] += 1
+        is_lost = not (self.at == 'cpu' and event.note == WRONG_CHECK) if event.kind in LOSSES else event.note != MISSING
+        if is_lost and (self._has_frames or event.kind in self._lose_always):
             self._lose_place()
 
     def _lose_place(self):

@@ -2,9 +2,10 @@
 
 from collections import Counter
 
-from . import log, options, terminal
-from .batch import OTHER, PASSED, PIECE
+from . import judgement, log, options, statuses, terminal
+from .event import DROPPED, OTHER, PASSED, POSSIBLE
 from .counts import OF_LINES, Counts, in_words, unjudged_numbers, unjudged_words, placed
+from .stations import Stations, Unjudged
 
 MILLI = 1000    # microseconds
 
@@ -41,22 +42,31 @@ def flat(one, above=''):
 
 
 def run(option):
-    """Counts a log, or several side by side; status 1 if there is no frame."""
+    """Counts a log, or several side by side, and says what kind of log it is if not that of one link in order."""
     if log.has_several(option):
         from . import many
         return many.run(option, counts_alone=True)
     read, counts = log.Log(option, writes=False), Counts()
+    stations = Stations(Unjudged, counts)
     for batch in read.batches():
+        stations.take(batch)
         counts.take(batch)
+    counts, read.others, signs = stations.total(counts), stations.others, [one.sign for one in stations.judgements if one.sign]
     if not read.summary():
-        return 1
+        return statuses.LITTLE
     missing = counts.unjudged() + Counter(
-        damaged_lines=read.damaged, lines_with_parts=read.kinds[PIECE], skipped_lines=read.kinds[PASSED], frames_of_others=read.kinds[OTHER])
+        damaged_lines=read.damaged, lines_with_dropped_octets=read.kinds[DROPPED], possible_lines=read.kinds[POSSIBLE],
+        skipped_lines=read.kinds[PASSED], frames_of_others=read.kinds[OTHER] + sum(stations.others.values()))
+    each = {address.hex().upper(): numbers(of_station) for address, of_station in sorted(stations.counts.items())}
     if option.json:
-        terminal.print_object({**numbers(counts), 'not_counted': unjudged_numbers(missing, OF_LINES)}, indent=1)
+        parts = {**({'stations': each} if each else {}), **({'remarks': signs} if signs else {})}
+        terminal.print_object({**numbers(counts), **parts, 'not_counted': unjudged_numbers(missing, OF_LINES)}, indent=1)
     else:
-        terminal.table('Frames of %s' % ', '.join(option.files), ['what', 'number'], list(flat(numbers(counts))))
+        terminal.table('Frames of %s' % ', '.join(option.files), ['what', 'number'], 
+                       [*flat(numbers(counts)), *flat({'address ' + address: one for address, one in each.items()})])
         words = unjudged_words(missing, read.reasons, OF_LINES)
         if words:
             print('not counted: ' + words)
-    return 0
+    for sign in signs:
+        terminal.say(judgement.WORDS[sign])
+    return statuses.of_log(False, signs)

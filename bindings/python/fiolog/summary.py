@@ -6,14 +6,15 @@ on this machine by `fiolog check FILE..`, or on any engine that maps and reduces
 """
 
 import os
-from collections import Counter
+from collections import Counter, defaultdict
 
 from .counts import Counts
 from .log import CHUNK, decoded
-from .batch import OTHER, POSSIBLE
+from .event import OTHER
 from .reader import Reader
 from .rules import Rules
-from .sides import Judgement
+from .judgement import Judgement
+from .stations import Stations
 
 
 class Summary:
@@ -25,7 +26,8 @@ class Summary:
         self.counts, self.broken, self.first_breach = Counts(), Counter(), None
         self.restarted, self.first_restart = 0, None    # how often, and the first line that shows it
         self.lines, self.unjudged, self.reasons = 0, Counter(), Counter()
-        self.verdicts = Counter()   # of how many logs little can be judged, by its reason (sides.py)
+        self.verdicts = Counter()   # of how many logs, or stations of a log, little can be judged, by its reason (judgement.py)
+        self.stations = {}          # of a log of several stations what is said of each, by its address (stations.py)
 
     @property
     def breaches(self):
@@ -41,17 +43,24 @@ class Summary:
         both = Summary()
         for name, ours in vars(self).items():
             theirs = getattr(other, name)
+            if name == 'stations':      # an address is that of another station in another log
+                continue
             setattr(both, name, ours or theirs if name.startswith('first_') else ours + theirs)
         return both
 
-    def add_breaches(self, broken):
-        """Counts breaches and restarts, each with its event."""
-        for *_, event, found in broken:
-            if found.is_restart:
-                self.restarted, self.first_restart = self.restarted + 1, self.first_restart or event.number
-                continue
-            self.broken[found.rule] += 1
-            self.first_breach = self.first_breach or (event.number, found.rule, found.says)
+    def add_breach(self, event, found):
+        """Counts a breach or a restart."""
+        if found.is_restart:
+            self.restarted, self.first_restart = self.restarted + 1, self.first_restart or event.number
+            return
+        self.broken[found.rule] += 1
+        self.first_breach = self.first_breach or (event.number, found.rule, found.says)
+
+    def add_breaches(self, other):
+        """Counts what another summary of this log has counted of breaches and restarts."""
+        self.broken, self.restarted = self.broken + other.broken, self.restarted + other.restarted
+        self.first_breach, self.first_restart = (min(filter(None, (getattr(one, name) for one in (self, other))), default=None)
+                                                 for name in ('first_breach', 'first_restart'))
 
 
 def chunks_of(source):
@@ -69,17 +78,22 @@ def chunks_of(source):
         yield from source
 
 
-def summary_of(source, start_at_poll=False, form='auto', pattern=None, framing='', line='', address=None, **rules):
+def summary_of(source, start_at_poll=False, form='auto', pattern=None, framing='', line='', address=None, like=(), **rules):
     """The summary of a log: a path, a file open for reading octets, or an iterator of octets. With `start_at_poll` it begins with the first
     poll; `rules` are what rules.Rules takes, and all else what the reader does."""
-    summary, judgement, reader = Summary(), Judgement(Rules(**rules), is_open=not start_at_poll), Reader(form, pattern, framing, line, address)
+    summary, reader, told = Summary(), Reader(form, pattern, framing, line, address, like), defaultdict(Summary)
+    stations = Stations(lambda: Judgement(Rules(**rules), is_open=not start_at_poll), summary.counts)
     for batch in reader.read(decoded(iter(chunks_of(source)), not line)):
-        batch = judgement.opened(batch)
-        summary.add_breaches(judgement.take(batch))
+        batch = stations.opened(batch)
+        for _, event, found in stations.take(batch):
+            told[event.station].add_breach(event, found)
         summary.counts.take(batch)
-    summary.add_breaches(judgement.end(reader.reasons, reader.kinds[POSSIBLE]))
-    summary.lines, summary.reasons = reader.count, reader.reasons
-    if judgement.verdict:
-        summary.verdicts[judgement.verdict] += 1
-    summary.unjudged = judgement.unjudged + Counter(skipped_lines=sum(summary.reasons.values()), frames_of_others=reader.kinds[OTHER])
+    for event, found in stations.end():
+        told[event.station].add_breach(event, found)
+    for one in stations.judgements:
+        summary.verdicts.update([one.verdict] * bool(one.verdict))
+        for station in one.stations if one.is_fit else ():
+            summary.add_breaches(told[station])
+    summary.lines, summary.reasons, summary.counts, summary.stations = reader.count, reader.reasons, stations.total(summary.counts), stations.rows()
+    summary.unjudged = stations.unjudged + Counter(skipped_lines=sum(summary.reasons.values()), frames_of_others=reader.kinds[OTHER])
     return summary

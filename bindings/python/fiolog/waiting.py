@@ -1,37 +1,33 @@
-"""Lines that wait for the lines below to show what they are: `fiolog live` shows after a while what they would be if the log ended
-now."""
+"""Lines that wait for the lines below: `fiolog live` shows after a while what they say if the log ends there."""
 
 import time
-from itertools import chain
 
-from .batch import FRAME, POSSIBLE
-from .reader import Reader
+from .event import FRAME, WAITING
 
-# Seconds that a line waits before it is shown; and how many lines are read for it.
-PATIENCE, MOST = 1.0, 128
+# Seconds that a line waits before it is shown.
+PATIENCE = 1.0
 
 
 class Waiting:
-    """Which lines wait, since when, and which of them were shown."""
+    """Which lines wait, since when, and what of them was shown."""
 
     def __init__(self):
         self._since, self._shown = {}, {}
 
-    def due(self, lines):
-        """The messages of lines that have waited long enough, each once and as a possible one. `lines` are those that wait, each with
-        its number."""
-        now, lines = time.monotonic(), lines[:MOST]
-        self._since = {number: self._since.get(number, now) for number, _ in lines}
-        if not any(now - since >= PATIENCE and number not in self._shown for number, since in self._since.items()):
+    def due(self, reader):
+        """The messages of lines that have waited long enough, each once."""
+        now, lines = time.monotonic(), reader.waiting()
+        self._since = {number: self._since.get(number, now) for number in lines}
+        self._shown = {number: shown for number, shown in self._shown.items() if number in self._since}
+        old = {number for number, since in self._since.items() if now - since >= PATIENCE}
+        if old <= self._shown.keys():
             return
-        reader = Reader()
-        batches = chain(reader.feed(b''.join(raw for _, raw in lines)), reader.end())
-        for event in chain.from_iterable(batch.events() for batch in batches):
-            number = lines[min(event.number, len(lines)) - 1][0]
-            if event.kind in (FRAME, POSSIBLE) and number not in self._shown and now - self._since[number] >= PATIENCE:
-                self._shown[number] = event.octets
-                yield event._replace(number=number, kind=POSSIBLE)
+        self._shown.update({number: [] for number in old - self._shown.keys()})
+        for event in reader.ended():
+            if event.kind == FRAME and event.number in old and event.octets not in self._shown[event.number]:
+                self._shown[event.number].append(event.octets)
+                yield event._replace(kind=WAITING)
 
     def was_shown(self, event):
-        """Whether a message that is sure now was shown; it is forgotten."""
-        return self._shown.pop(event.number, None) == event.octets
+        """Whether a message that is sure now was shown."""
+        return event.octets in self._shown.get(event.number, ())

@@ -1,5 +1,5 @@
 -- The steps of the calls that take a pointer to a reader: each lends what lies there to a call.
-pub use Rattle.std.proofs.Common.{ℕ, List, [], ◌∷◌, ◌++◌, refl, ap, w8, w64, MutBor}
+pub use Rattle.std.proofs.Common.{ℕ, List, [], ◌∷◌, ◌++◌, refl, ap, w8, w32, w64, MutBor}
 pub use Rattle.std.proofs.raw_atomic.Walks.{proved}
 pub use base.Fraction.{full_share}
 pub use base.Fml.{flent, fex, flft, ftrue}
@@ -7,7 +7,7 @@ pub use base.Logic.{id⊢}
 pub use borrow.Table.OneValue.{part_in}
 pub use contract.Monad.{fact}
 pub use contract.Running.{tables}
-pub use denote.Builtin.{RefMutOf, SliceRefOf, u8, unit, usize}
+pub use denote.Builtin.{RefMutOf, SliceRefOf, u32, u8, unit, usize}
 pub use denote.Exit.{yes}
 pub use denote.Laws.{Is, shows}
 pub use denote.Lend.{LentAgain, comes_back, lends_again, lends_ref, ref_back}

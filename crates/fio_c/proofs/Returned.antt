@@ -3,62 +3,53 @@ use Rattle.std.proofs.Common.{◌≡◌, ℕ, ◌+◌, ◌-◌, ◌^◌, ◌≤�
 use Rattle.std.proofs.lemmas.List.{map-append}
 use Rattle.std.proofs.lemmas.List.Elements.{All-nil, All-push}
 use Rattle.std.specs.List.{All}
-use Rattle.fio_log.specs.Blanks.{Texts}
-use Rattle.fio_log.specs.Frames.{AreFramesAt, Log}
-use Rattle.fio_log.specs.Lines.{Making, Text, is_whole, no_line}
+use Rattle.fio_log.specs.Blanks.{Texts, is_blank_line}
+use Rattle.fio_log.specs.Lines.{Text, is_whole}
 use Rattle.fio_log.specs.OwnVerdicts.{IsOwnVerdict, own_form_of}
-use Rattle.fio_log.specs.Sayings.{spells}
+use Rattle.fio_log.specs.OwnTexts.{spells}
+use Rattle.fio_log.specs.Telling.{HasTaken, HasTold, IsTextOf, Knows, Telling, frames_of, places_of}
 use Rattle.fio_log.specs.Wordings.{SaysWords}
-use Rattle.fio_log.specs.Telling.{HasTaken, HasTold, IsLineOf, IsReaderOf, IsTextOf, Telling, frames_of, places_of}
 use Rattle.fio_log.specs.declared.own_texts.OwnForm.{OwnForm}
 use Rattle.fio_log.specs.declared.verdict.Form.TheVariants.{Auto}
+use Rattle.fio_log.specs.declared.verdict.Kind.TheVariants.{Blank}
 use Rattle.fio_log.specs.declared.verdict.LineVerdict.{LineVerdict}
 use Rattle.fio_c.specs.Logs.{AreNext, HasNoneDue, HasReadOn, HasRoomFirst, HasTakenOctets, HasVerdicts, Holds, content_of, flat_told, has_room}
-use Rattle.fio_c.specs.Told.{AreLinesAfter, HasReadOf, IsVerdictOf, Returns, ReturnsAll, Told, octets_by_line, told_by}
+use Rattle.fio_c.specs.Told.{AreLinesAfter, HasReadOf, IsVerdictOf, Returns, ReturnsAll, Told, told_by}
 use Rattle.fio_c.specs.declared.log_batch.LogBatch.{LogBatch}
 use Rattle.fio_c.proofs.Batches.{next_more}
 
 -- a reader that has read nothing has read nothing of any log
-pub nothing_read : (telling : Telling) → telling.making ≡ no_line → ((log : Log) → IsReaderOf log telling) → (texts : Texts) → HasReadOf texts telling
-nothing_read telling none kept texts = record {
-  text = λ is. let no : false ≡ true = ap (λ (m : Making). is_whole m.ending) (sym none) ∙ is in absurd (cc);
-  kept = kept (octets_by_line texts);
-}
+pub nothing_read : (telling : Telling) → ((texts : Texts) → Knows texts telling) → (texts : Texts) → HasReadOf texts telling
+nothing_read telling knows texts = record { knows = knows texts }
 
--- a reader that makes and has read the same
-pub same_read : (texts : Texts) (before after : Telling) → after.making ≡ before.making → after.read ≡ before.read
-    → ((log : Log) → IsReaderOf log before → IsReaderOf log after) → HasReadOf texts before → HasReadOf texts after
-same_read texts before after making read kept has = record {
-  text = λ is. ap (λ (m : Making). m.text) making ∙ has.text (ap (λ (m : Making). is_whole m.ending) (sym making) ∙ is) ∙ ap texts (sym read);
-  kept = kept (octets_by_line texts) has.kept;
-}
+-- a reader that has returned a verdict, or none
+pub told_read : (texts : Texts) (before after : Telling) → ((texts : Texts) → Knows texts before → Knows texts after)
+    → HasReadOf texts before → HasReadOf texts after
+told_read texts before after knows has = record { knows = knows texts has.knows }
 
 -- a reader that has read a line more
 pub line_read : (texts : Texts) (before after : Telling) → IsTextOf texts after
-    → ((log : Log) → IsReaderOf log before → IsLineOf log after → IsReaderOf log after) → HasReadOf texts before → HasReadOf texts after
-line_read texts before after text kept has = record {
-  text = text;
-  kept = kept (octets_by_line texts) has.kept (λ is. ap (λ (t : Text). t.octets) (text is));
-}
+    → ((texts : Texts) → Knows texts before → IsTextOf texts after → Knows texts after) → HasReadOf texts before → HasReadOf texts after
+line_read texts before after text knows has = record { knows = knows texts has.knows text }
 
 -- a verdict that a reader of a log returns is of that log
-pub verdict_of : (texts : Texts) (before after : Telling) (verdict : LineVerdict) → HasTold before verdict after
-    → ((log : Log) → IsReaderOf log before → IsReaderOf log after)
-    → ((log : Log) → IsReaderOf log before → before.form ≡ Auto → AreFramesAt log (frames_of after) (places_of after))
-    → ((log : Log) → IsReaderOf log before → before.form ≡ Auto → SaysWords (log verdict.line) verdict.reason)
+pub verdict_of : (texts : Texts) (before after : Telling) (verdict : LineVerdict)
+    → ((texts : Texts) → Knows texts before → Knows texts after)
+    → ((texts : Texts) → Knows texts before → before.form ≡ Auto → SaysWords (texts verdict.line).octets verdict.reason)
+    → ((texts : Texts) → Knows texts before → before.form ≡ Auto → verdict.kind ≡ Blank → is_blank_line (texts verdict.line) ≡ true)
     → ((own : OwnForm) → own_form_of before.form ≡ Some own → IsOwnVerdict own after.making.text verdict.kind verdict.reason (frames_of after))
     → ((own : OwnForm) → own_form_of before.form ≡ Some own → (verdict.line ≡ after.read) × (is_whole after.making.ending ≡ true))
     → HasReadOf texts before → HasReadOf texts after × IsVerdictOf texts before.form (told_by verdict after)
-verdict_of texts before after verdict told kept written words own last has =
-    let read = same_read texts before after told.making told.read kept has in (
+verdict_of texts before after verdict knows words blank own last has =
+    let read : HasReadOf texts after = told_read texts before after knows has in (
       read,
       record {
-        written = written (octets_by_line texts) has.kept;
-        words = words (octets_by_line texts) has.kept;
+        words = words texts has.knows;
+        blank = blank texts has.knows;
         own = λ form is.
             let line = last form is in
             subst (λ text. IsOwnVerdict form text verdict.kind verdict.reason (frames_of after))
-            (read.text line.1 ∙ ap texts (sym line.0)) (own form is);
+            (read.knows.text line.1 ∙ ap texts (sym line.0)) (own form is);
       },
     )
 
@@ -132,10 +123,10 @@ next_line false text texts above read counted lines is = absurd (cc)
 -- the same verdicts, when a reader has taken octets
 pub verdicts_fed : (first : Telling) (whole : List Text) (before after : Telling) (octets : List ℕ) (batch : LogBatch) → HasTaken before octets after
     → before.read ≡ first.read + length whole
-    → ((log : Log) → IsReaderOf log before → IsLineOf log after → IsReaderOf log after)
+    → ((texts : Texts) → Knows texts before → IsTextOf texts after → Knows texts after)
     → HasVerdicts first whole batch before
     → HasVerdicts first (whole ++ (if is_whole after.making.ending then after.making.text ∷ [] else [])) batch after
-verdicts_fed first whole before after octets batch taken counted kept has = record {
+verdicts_fed first whole before after octets batch taken counted knows has = record {
   told = has.told;
   holds = has.holds;
   returned = returns_none first has.told before after taken.told has.returned;
@@ -146,7 +137,7 @@ verdicts_fed first whole before after octets batch taken counted kept has = reco
       let above = has.log texts read split.0 in
       let text : IsTextOf texts after = next_line (is_whole after.making.ending) after.making.text texts before.read after.read taken.read
       (subst (λ count. AreLinesAfter count texts (if is_whole after.making.ending then after.making.text ∷ [] else [])) (sym counted) split.1) in
-      (line_read texts before after text kept above.0, above.1);
+      (line_read texts before after text knows above.0, above.1);
 }
 
 -- no verdict yet

@@ -1,11 +1,12 @@
 -- What is counted of a log's frames as C sees it.
 use Rattle.std.specs.Prelude.{ℕ, ◌==◌, List, [], ◌∷◌, Option, Some, None, if◌then◌else◌}
 use Rattle.std.specs.List.{cons_option}
+use Rattle.fio_check.specs.LineKinds.{events_below_frame, events_of_line}
 use Rattle.fio_check.specs.LogCounts.{counted_lost, counts_with, time_to_frame}
 use Rattle.fio_check.specs.LogJudges.{LogEvent}
 use Rattle.fio_check.specs.declared.log_counts.LogCounts.{LogCounts}
 use Rattle.fio_c.specs.BatchItems.{BatchItem}
-use Rattle.fio_c.specs.LogJudges.{event_of_line}
+use Rattle.fio_c.specs.LogJudges.{line_kind_of}
 use Rattle.fio_c.specs.declared.log_batch.LogVerdict.{LogVerdict}
 
 -- the time of a frame in microseconds, if it has one
@@ -25,9 +26,11 @@ counted_line counts (event ∷ events) = counted_lost counts
 
 -- with an item more: the frames of a line that is none of frames are not counted
 abbrev pub counts_with_item : LogCounts → BatchItem → LogCounts
-counts_with_item counts (verdict, None) = counted_line counts (event_of_line verdict.kind verdict.reason)
+counts_with_item counts (verdict, None) = counted_line counts (events_of_line (line_kind_of verdict))
 counts_with_item counts (verdict, Some octets) =
-    if verdict.kind == 1 then counts_with counts (time_of verdict) octets else counts
+    if verdict.kind == 1
+    then counted_line (counts_with counts (time_of verdict) octets) (events_below_frame (line_kind_of verdict))
+    else counts
 
 -- how long the module took for the answer that an item is, if that is known
 abbrev pub time_to_item : LogCounts → BatchItem → Option ℕ

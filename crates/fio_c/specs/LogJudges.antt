@@ -1,7 +1,10 @@
 -- The judge of a log as C sees it.
-use Rattle.std.specs.Prelude.{ℕ, ◌≡◌, ◌==◌, ◌&&◌, ◌||◌, Bool, true, false, not, nat_lt, List, [], ◌∷◌, replicate, slice_get, unwrap_or, Option, Some, None, if◌then◌else◌}
-use Rattle.fio_check.specs.LogJudges.{Found, LogEvent, LogJudging, Lost, Missing, Possible, log_below_events, log_with_event, outcome_in_log}
+use Rattle.std.specs.Prelude.{ℕ, ◌≡◌, ◌==◌, ◌||◌, Bool, true, false, not, nat_lt, List, [], ◌∷◌, replicate, slice_get, unwrap_or, Option, Some, None, if◌then◌else◌}
+use Rattle.fio_check.specs.LineKinds.{events_below_frame, events_of_line}
+use Rattle.fio_check.specs.LogJudges.{Found, LogEvent, LogJudging, log_below_events, log_with_event, outcome_in_log}
 use Rattle.fio_check.specs.declared.late_answers.LateAnswers.{LateAnswers}
+use Rattle.fio_check.specs.declared.line_kind.LogLineKind.{LogLineKind}
+use Rattle.fio_check.specs.declared.line_kind.LogLineKind.TheVariants as kinds
 use Rattle.fio_check.specs.declared.log_judge.LogOutcome.{LogOutcome}
 use Rattle.fio_check.specs.declared.log_judge.LogOutcome.TheVariants.{Late, LateAbove, Link}
 use Rattle.fio_check.specs.declared.log_judge.LogStart.{LogStart}
@@ -90,19 +93,32 @@ is_sent_frame as_said said octets = nat_lt (unwrap_or (slice_get octets 0) 0) AN
 abbrev pub event_of_frame : Bool → Option Bool → List ℕ → LogEvent
 event_of_frame as_said said octets = Found (is_sent_frame as_said said octets) said octets
 
--- The event that a line without frames is to the judge, if any, by its kind and its reason: a message that nothing confirms, or a
--- heading; damage; a remark of loss, or a short message in a line unlike those of other messages, which may have been a frame.
-abbrev pub event_of_line : ℕ → ℕ → List LogEvent
-event_of_line kind reason = if kind == 3 || kind == 5 && reason == 11 then Possible ∷ []
-    else if kind == 4 then Lost ∷ []
-    else if kind == 5 && (reason == 3 || reason == 10) then Missing ∷ []
-    else []
+-- What a line is to the judge, by its kind and, if that does not say it, its reason:
+abbrev pub line_kind_by : ℕ → ℕ → LogLineKind
+line_kind_by kind reason =
+    -- frames, and something beside them
+    if kind == 1 then (if reason == 0 then kinds.Frames else kinds.FramesAndMore)
+    -- a message above that is broken
+    else if reason == 14 then kinds.BreakingOff
+    -- octets that may be a message in a line of no form
+    else if kind == 3 then kinds.Possible
+    -- damage
+    else if kind == 4 then (if reason == 6 then kinds.TooLong else kinds.Damaged)
+    -- none of these
+    else if kind == 5 then (if reason == 10 then kinds.Loss else if reason == 11 then kinds.Heading else kinds.Other)
+    -- blank, or a part of a message; no line has another kind
+    else (if kind == 0 || kind == 2 then kinds.Other else kinds.Damaged)
+
+-- what the line of a verdict is to it
+abbrev pub line_kind_of : LogVerdict → LogLineKind
+line_kind_of verdict = line_kind_by verdict.kind verdict.reason
 
 -- the judge after one item more: a frame of a line whose kind has no frames is not judged
 abbrev pub log_below_item : Bool → LogJudging → BatchItem → LogJudging
-log_below_item as_said judge (verdict, None) = log_below_events judge (event_of_line verdict.kind verdict.reason)
+log_below_item as_said judge (verdict, None) = log_below_events judge (events_of_line (line_kind_of verdict))
 log_below_item as_said judge (verdict, Some octets) = if verdict.kind == 1
-    then log_with_event judge (event_of_frame as_said (end_in verdict.said) octets)
+    then log_below_events (log_with_event judge (event_of_frame as_said (end_in verdict.said) octets))
+    (events_below_frame (line_kind_of verdict))
     else judge
 
 -- the outcome of a frame of a verdict

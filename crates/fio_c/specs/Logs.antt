@@ -4,7 +4,9 @@ use Rattle.std.specs.List.{All, concat, flat_map}
 use Rattle.fio_message.specs.Bits.{bit_of}
 use Rattle.fio_log.specs.Blanks.{Texts}
 use Rattle.fio_log.specs.Lines.{Text, finished, lines_after, no_line, only}
-use Rattle.fio_log.specs.Telling.{IsTextOf, KeepsVerdict, Telling, has_told_all, read_at_end}
+use Rattle.fio_log.specs.OwnVerdicts.{own_form_of}
+use Rattle.fio_log.specs.declared.own_texts.OwnForm.{OwnForm}
+use Rattle.fio_log.specs.Telling.{HasReadAsBefore, IsTextOf, KeepsVerdict, Telling, has_told_all, read_at_end}
 use Rattle.fio_log.specs.declared.directions.Direction.{Direction}
 use Rattle.fio_log.specs.declared.directions.Direction.TheVariants as directions
 use Rattle.fio_log.specs.declared.places.Place.{Place}
@@ -35,16 +37,14 @@ abbrev pub reason_number : Reason → ℕ
 reason_number reasons.None = 0
 reason_number reasons.NoOctets = 1
 reason_number reasons.NoMessage = 2
-reason_number reasons.ShortMessage = 3
-reason_number reasons.SeveralMessages = 4
-reason_number reasons.MayBeLonger = 5
+reason_number reasons.NoForm = 3
+reason_number reasons.More = 4
 reason_number reasons.TooLong = 6
 reason_number reasons.BadLine = 7
-reason_number reasons.Exchanged = 8
-reason_number reasons.TwoMore = 9
 reason_number reasons.Loss = 10
 reason_number reasons.Heading = 11
-reason_number reasons.OneLess = 12
+reason_number reasons.Copy = 13
+reason_number reasons.Broken = 14
 
 -- the number of who sent octets
 abbrev pub side_number : Option Direction → ℕ
@@ -63,7 +63,10 @@ flat_verdict verdict frames places = record {
   reason = reason_number verdict.reason;
   has_time = bit_of (is_some verdict.time);
   said = side_number verdict.said;
-  reserved = 0 ∷ 0 ∷ 0 ∷ 0 ∷ [];
+  address = verdict.header.address;
+  control = verdict.header.control;
+  header = verdict.header.count;
+  foreign = verdict.foreign;
 }
 
 -- a place as C sees it: an index of 2^32 or more is 2^32 - 1
@@ -140,6 +143,20 @@ pub record HasBegun (form : Form) (telling : Telling) : Type 0 where
   pub told : telling.told ≡ 0
   pub is_ended : telling.is_ended ≡ false
   pub log : (texts : Texts) → HasReadOf texts telling
+
+-- A reader has written its forms, at most 16, and stays as it was.
+pub record HasForms (before : Telling) (count : ℕ) (after : Telling) : Type 0 where
+  pub same : after ≡ before
+  pub few : count ≤ 16
+
+-- A reader has learnt so many forms of sample lines. It learns none once a line of a log is read, or if a log is one of the
+-- program's own texts; whatever it learns, nothing changes of what it has read and told.
+pub record HasLearnt (before : Telling) (count : ℕ) (after : Telling) : Type 0 where
+  pub same : HasReadAsBefore before after
+  pub log : (texts : Texts) → HasReadOf texts before → HasReadOf texts after
+  pub late : 0 < before.read → count ≡ 0
+  pub own : (text : OwnForm) → own_form_of before.form ≡ Some text → count ≡ 0
+  pub few : count ≤ 16
 
 -- A log has ended. The line that was made is its last one, if it has octets. A verdict that can be given stays as it was.
 pub record HasEnded (before after : Telling) : Type 0 where

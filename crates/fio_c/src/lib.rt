@@ -47,8 +47,8 @@
 //!
 //! `fio2070_log_start` sets the octets of its reader, which may be fewer than the room. The verdicts that `fio2070_log_read`
 //! puts into a batch are those that `Reader` of `fio_log` returns of the next lines, each once, in order and no other, octet
-//! for octet, with all their frames and places (`HasRead` in `specs/Logs.antt`, `HasVerdicts` in `specs/Told.antt`); what is
-//! proved of `Reader` is true of the batch. A call makes progress: if its batch has no verdict, it took all octets, and after
+//! for octet, with all their frames and places (see `HasRead` and `HasVerdicts` in `specs/Logs.antt`); what is proved of `Reader` is
+//! true of the batch. A call makes progress: if its batch has no verdict, it took all octets, and after
 //! the end of the log each line has had its verdict. When a log has ended and all its verdicts are given, octets begin another
 //! log of the same form (see `IsReadFrom`). `fio2070_log_end` makes the octets after the last line end the last line, and keeps a
 //! verdict that is ready (see `HasEnded`).
@@ -72,6 +72,7 @@ pub mod laws;
 mod log;
 mod log_batch;
 mod log_counts;
+mod log_forms;
 mod log_judge;
 mod log_judge_batch;
 mod log_signs;

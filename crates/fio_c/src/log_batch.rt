@@ -42,8 +42,16 @@ pub struct LogVerdict {
     pub has_time: u8,
     /// Who sent the octets of the frames, as the line says: one of `FIO2070_LOG_NO_SIDE` and those after it.
     pub said: u8,
-    /// 0 in each octet that the library writes.
-    pub reserved: [u8; 4],
+    /// The address of its frames, which stands before their messages, if all have one and the same; else 0.
+    pub address: u8,
+    /// The control octet, which stands behind the address; of a line with `foreign` 55, 180 or 181 how many octets of inputs or of outputs
+    /// it has; else 0.
+    pub control: u8,
+    /// How many of these there are: 0, 1 for the address alone, or 2.
+    pub header: u8,
+    /// The type of the message that the line has in place of frames, if this protocol has none of that type; or 55, 180 or 181, if it is of
+    /// a module of another size, with 1 to 32 octets of inputs or of outputs other than 8; else 0.
+    pub foreign: u8,
 }
 
 /// Where octets are written in a log. Places in a line are counted in octets of UTF-8, without colour sequences, NUL

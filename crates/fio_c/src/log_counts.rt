@@ -9,7 +9,8 @@ ghost use Rattle.fio_c.specs.Told.{Told};
 
 use crate::batch_items::{BatchItems, items_of};
 use crate::log_batch::{FRAMES, LOG_FRAMES, LogBatch, LogVerdict};
-use fio_check::LogCounts;
+use crate::log_judge_batch::line_kind_of;
+use fio_check::{LogCounts, LogLineKind};
 
 /// Starts the counts before any frame: each octet is 0.
 #[unsafe(no_mangle)]
@@ -99,16 +100,19 @@ fn count_frame(counts: &mut LogCounts, verdict: &LogVerdict, octets: &[u8]) -> O
     if verdict.kind != FRAMES {
         return None;
     }
-    counts.frame(time_from(verdict.has_time, verdict.time), octets)
+    let time = counts.frame(time_from(verdict.has_time, verdict.time), octets);
+    if line_kind_of(verdict) == LogLineKind::FramesAndMore {
+        counts.lose();
+    }
+    time
 }
 
-/// Takes a line: a frame may be lost at a message that nothing makes sure, damage, a remark that speaks of loss, and a heading.
+/// Takes a line: a frame may be lost where the line is an event to the judge of a log.
 fn count_line(counts: &mut LogCounts, verdict: &LogVerdict)
     ensures { counts.new ≡ counts_with_item counts.old (verdict.now, None) }
 {
-    match (verdict.kind, verdict.reason) {
-        (3 | 4, _) | (5, 3 | 10 | 11) => counts.lose(),
-        _ => {}
+    if line_kind_of(verdict).is_event() {
+        counts.lose();
     }
 }
 

@@ -81,8 +81,8 @@ pub extern "C" fn fio2070_log_judge_lose(judge: &mut FlatLogJudge)
     *judge = log_flat_of(&kept);
 }
 
-/// Takes a line that says a message which nothing confirms, or that is the heading of a part of the log: if a frame is above,
-/// it acts as `fio2070_log_judge_lose`.
+/// Takes a line that says a message which nothing confirms: if a frame is above, or if the log begins with both ends, it acts as
+/// `fio2070_log_judge_lose`.
 #[unsafe(no_mangle)]
 pub extern "C" fn fio2070_log_judge_possible(judge: &mut FlatLogJudge)
     ensures next { log_judge_in judge.new ≡ log_possible (log_judge_in judge.old) }

@@ -1,9 +1,9 @@
 //! The judge of a log, over all that a batch of the reader of logs says.
 ghost use Rattle.std.specs.Prelude.{◌≡◌, ◌==◌, ◌++◌, ◌≤◌, List, Some, None, drop, fold, length, min, not};
 ghost use Rattle.std.specs.List.{sum_by};
-ghost use Rattle.fio_check.specs.LogJudges.{log_below_events, log_judging};
+ghost use Rattle.fio_check.specs.LogJudges.{log_judging};
 ghost use Rattle.fio_c.specs.BatchItems.{frame_count, items_of_content, items_of_told};
-ghost use Rattle.fio_c.specs.LogJudges.{LogReservesZeros, event_of_line, is_sent_frame, log_below_item, log_judge_in, outcome_of_item, outcomes_of_items};
+ghost use Rattle.fio_c.specs.LogJudges.{LogReservesZeros, is_sent_frame, line_kind_of, log_below_item, log_judge_in, outcome_of_item, outcomes_of_items};
 ghost use Rattle.fio_c.specs.Logs.{Content, Holds, content_of};
 ghost use Rattle.fio_c.specs.Told.{Told};
 
@@ -11,7 +11,7 @@ use crate::batch_items::{BatchItems, items_of};
 use crate::judge::{JudgeOutcome, without_breach};
 use crate::log_batch::{FRAMES, LOG_FRAMES, LogBatch, LogVerdict};
 use crate::log_judge::{FlatLogJudge, end_from, log_flat_of, log_judge_from, log_outcome_from};
-use fio_check::LogJudge;
+use fio_check::{LogJudge, LogLineKind};
 use fio_message::types::ANSWER;
 
 /// Judges the frames of a batch that `fio2070_log_read` wrote, in order, writes the outcome of each, and returns their number.
@@ -62,7 +62,7 @@ fn judge_items(
     let mut at = 0;
     'items: for (verdict, octets) in items {
         match octets {
-            None => take_line(judge, verdict.kind, verdict.reason),
+            None => judge.line(line_kind_of(verdict)),
             Some(octets) => {
                 outcomes[at] = judge_frame(judge, as_said, verdict, octets);
                 at += 1;
@@ -86,7 +86,9 @@ fn judge_frame(
         return without_breach(5, 0);
     }
     let said = end_from(verdict.said);
-    log_outcome_from(judge.frame(is_sent_frame(as_said, said, octets), said, octets))
+    let outcome = judge.frame(is_sent_frame(as_said, said, octets), said, octets);
+    judge.below_frame(line_kind_of(verdict));
+    log_outcome_from(outcome)
 }
 
 /// Returns whether the CPU's end sent a frame: by its line, if lines count and this one names the sender, else by its type.
@@ -99,14 +101,20 @@ pub(crate) fn is_sent_frame(as_said: bool, said: Option<bool>, octets: &[u8]) ->
     }
 }
 
-/// Takes a line that gives no frame, by its kind and its reason.
-fn take_line(judge: &mut LogJudge, kind: u8, reason: u8)
-    ensures { log_judging judge.new ≡ log_below_events (log_judging judge.old) (event_of_line kind reason) }
+/// Returns what a line is to the judge, by the kind and the reason of its verdict. What has another kind than those of the reader
+/// may be a frame.
+pub(crate) fn line_kind_of(verdict: &LogVerdict) -> LogLineKind
+    ensures { result ≡ line_kind_of verdict.now }
 {
-    match (kind, reason) {
-        (3, _) | (5, 11) => judge.possible(),
-        (4, _) => judge.lose(),
-        (5, 3 | 10) => judge.miss(),
-        _ => {}
+    match (verdict.kind, verdict.reason) {
+        (FRAMES, 0) => LogLineKind::Frames,
+        (FRAMES, _) => LogLineKind::FramesAndMore,
+        (_, 14) => LogLineKind::BreakingOff,
+        (3, _) => LogLineKind::Possible,
+        (4, 6) => LogLineKind::TooLong,
+        (5, 10) => LogLineKind::Loss,
+        (5, 11) => LogLineKind::Heading,
+        (0 | 2 | 5, _) => LogLineKind::Other,
+        _ => LogLineKind::Damaged,
     }
 }

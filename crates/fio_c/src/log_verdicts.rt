@@ -2,8 +2,9 @@
 ghost use Rattle.std.specs.Prelude.{◌≡◌, ◌+◌, ◌-◌, ◌++◌, ◌≤◌, ◌∷◌, [], List, length, map, true};
 ghost use Rattle.std.specs.List.{All};
 ghost use Rattle.fio_log.specs.Lines.{Text};
-ghost use Rattle.fio_log.specs.Sayings.{spells};
-ghost use Rattle.fio_log.specs.Telling.{AreFew, Telling, frames_of, places_of};
+ghost use Rattle.fio_log.specs.OwnTexts.{spells};
+ghost use Rattle.fio_log.specs.Frames.{AreFew};
+ghost use Rattle.fio_log.specs.Telling.{Telling, frames_of, places_of};
 ghost use Rattle.fio_c.specs.declared.log_batch.TheConstants.{LOG_OCTETS, LOG_VERDICTS, VERDICT_OCTETS};
 ghost use Rattle.fio_c.specs.Logs.{Content, HasNoneDue, HasRoomFirst, HasVerdicts, Holds, flat_place, flat_told, flat_verdict, has_room, kind_number, reason_number, side_number};
 ghost use Rattle.fio_c.specs.Told.{told_by};
@@ -98,7 +99,10 @@ fn told_from(verdict: &LineVerdict, frames: u32, places: u32) -> LogVerdict
         reason: reason_number(verdict.reason),
         has_time: u8::from(verdict.time.is_some()),
         said: side_number(verdict.said),
-        reserved: [0; 4],
+        address: verdict.header.address,
+        control: verdict.header.control,
+        header: verdict.header.count,
+        foreign: verdict.foreign,
     }
 }
 
@@ -124,16 +128,14 @@ fn reason_number(reason: Reason) -> u8
         Reason::None => 0,
         Reason::NoOctets => 1,
         Reason::NoMessage => 2,
-        Reason::ShortMessage => 3,
-        Reason::SeveralMessages => 4,
-        Reason::MayBeLonger => 5,
+        Reason::NoForm => 3,
+        Reason::More => 4,
         Reason::TooLong => 6,
         Reason::BadLine => 7,
-        Reason::Exchanged => 8,
-        Reason::TwoMore => 9,
         Reason::Loss => 10,
         Reason::Heading => 11,
-        Reason::OneLess => 12,
+        Reason::Copy => 13,
+        Reason::Broken => 14,
     }
 }
 

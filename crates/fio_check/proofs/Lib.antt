@@ -31,5 +31,9 @@ pub mod Checkers
 pub mod LinkJudges
 pub mod LinkLaws
 pub mod LinkTranscripts
+pub mod GoingOn
+pub mod Excuses
+pub mod RestartsOnce
+pub mod RestartsFound
 pub mod LogLaws
 pub mod BothFind

@@ -21,7 +21,7 @@ has_outcomes judging (Lost ∷ lines) = has_outcomes (judging_lost judging) line
 -- ---- a place that is lost
 
 -- a judge where the place is lost
-abbrev lost_at : RuleLimits → ContentChecking → Option ℕ → Option ℕ → ℕ → Judging
+abbrev pub lost_at : RuleLimits → ContentChecking → Option ℕ → Option ℕ → ℕ → Judging
 lost_at limits content latest asked polls = record {
   checker = checker_below_breach limits;
   content = content;
@@ -74,12 +74,12 @@ module _ (limits : RuleLimits) (latest asked : Option ℕ) (polls : ℕ) where
       passes_lines (with_loads (max 1 content.kept.facts.excuses) content) lines none
 
   -- the checker of the rules on content below lines that are not judged
-  abbrev content-below : ContentChecking → List LogLine → ContentChecking
+  abbrev pub content-below : ContentChecking → List LogLine → ContentChecking
   content-below content [] = content
   content-below content (Frame at from_cpu octets ∷ lines) = content-below (content-passed content from_cpu octets) lines
   content-below content (Lost ∷ lines) = content-below (with_loads (max 1 content.kept.facts.excuses) content) lines
 
-  below-lost : (content : ContentChecking) (lines : List LogLine) → list_any is_poll_line lines ≡ false
+  pub below-lost : (content : ContentChecking) (lines : List LogLine) → list_any is_poll_line lines ≡ false
       → judging_below (lost_at limits content latest asked polls) lines
       ≡ lost_at limits (content-below content lines) latest asked polls
   below-lost content [] none = refl
@@ -101,7 +101,7 @@ module _ (limits : RuleLimits) (latest asked : Option ℕ) (polls : ℕ) where
   loads-passed content at true octets = loads-by content.kept.facts content.kept.number (command_from true octets)
   loads-passed content at false octets = refl
 
-  loads-below : (content : ContentChecking) (lines : List LogLine)
+  pub loads-below : (content : ContentChecking) (lines : List LogLine)
       → (content-below content lines).kept.facts.excuses ≡ loads_below_lines content.kept.facts.excuses lines
   loads-below content [] = refl
   loads-below content (Frame at from_cpu octets ∷ lines) =
@@ -111,7 +111,7 @@ module _ (limits : RuleLimits) (latest asked : Option ℕ) (polls : ℕ) where
 
 -- ---- the next poll
 
-poll-is : (observation : Observation) → is_some (number_polled observation) ≡ true → (number : ℕ) × (observation ≡ Poll number)
+pub poll-is : (observation : Observation) → is_some (number_polled observation) ≡ true → (number : ℕ) × (observation ≡ Poll number)
 poll-is observation is = grind arith
 
 module _ (limits : RuleLimits) (latest asked : Option ℕ) (polls : ℕ) (content : ContentChecking) where
@@ -122,15 +122,15 @@ module _ (limits : RuleLimits) (latest asked : Option ℕ) (polls : ℕ) (conten
   anew = judging_again here content.kept.facts.excuses
 
   -- the poll keeps all rules
-  poll-kept : (at : LogPlace) (octets : List ℕ) (number : ℕ) → observation_in true octets ≡ Poll number
+  pub poll-kept : (at : LogPlace) (octets : List ℕ) (number : ℕ) → observation_in true octets ≡ Poll number
       → outcome_in here at true octets ≡ Kept
   poll-kept at octets number is = grind (arith, again-finds-nothing)
 
-  poll-kept-anew : (at : LogPlace) (octets : List ℕ) (number : ℕ) → observation_in true octets ≡ Poll number
+  pub poll-kept-anew : (at : LogPlace) (octets : List ℕ) (number : ℕ) → observation_in true octets ≡ Poll number
       → outcome_in anew at true octets ≡ Kept
   poll-kept-anew at octets number is = grind (arith, again-finds-nothing)
 
-  poll-same : (octets : List ℕ) (number : ℕ) → observation_in true octets ≡ Poll number
+  pub poll-same : (octets : List ℕ) (number : ℕ) → observation_in true octets ≡ Poll number
       → judging_kept here true octets ≡ judging_kept anew true octets
   poll-same octets number is = rw (is) refl
 
@@ -139,7 +139,7 @@ module _ (limits : RuleLimits) (latest asked : Option ℕ) (polls : ℕ) (conten
   starts-at at octets below polls = grind (arith, poll-is, poll-kept, poll-kept-anew, poll-same)
 
 -- a judge where the place is lost, by its fields
-is-lost : (judging : Judging) → IsLost judging
+pub is-lost : (judging : Judging) → IsLost judging
     → judging ≡ lost_at judging.checker.limits judging.content judging.latest judging.asked judging.polls
 is-lost judging lost = ap {B = Judging} (λ checker. record judging { checker = checker }) lost
 

@@ -9,16 +9,16 @@ use Rattle.fio_check.specs.declared.outcome.FrameOutcome.TheVariants.{Kept, Brok
 -- ---- a whole transcript
 
 -- a judge whose place is known: above the first command its checker of the rules on content has not begun
-abbrev Aligned : Judging → Type 0
+abbrev pub Aligned : Judging → Type 0
 Aligned judging =
     (judging.checker.skips ≡ Nothing) ⊎ ((judging.checker.skips ≡ ToCommand) × (judging.content.begun ≡ false))
 
-unfolded-here : (judging : Judging) → Aligned judging → content_here judging ≡ judging.content
+pub unfolded-here : (judging : Judging) → Aligned judging → content_here judging ≡ judging.content
 unfolded-here judging (inl nothing) = ap (checking_above judging) nothing
 unfolded-here judging (inr closed) = ap (checking_above judging) closed.0
 
 -- one that passes over nothing
-passes-open : (checker : Checker) (from_cpu : Bool) (observation : Observation) → checker.skips ≡ Nothing
+pub passes-open : (checker : Checker) (from_cpu : Bool) (observation : Observation) → checker.skips ≡ Nothing
     → passes_over checker from_cpu observation ≡ false
 passes-open checker from_cpu observation nothing = grind arith
 
@@ -27,7 +27,7 @@ passes-sent : (checker : Checker) (observation : Observation) → checker.skips 
     → passes_over checker true observation ≡ false
 passes-sent checker observation closed = grind arith
 
-taken-is : (limits : RuleLimits) (checker taken : Checker) (passes : Bool) (breach : Option Breach) → passes ≡ false
+pub taken-is : (limits : RuleLimits) (checker taken : Checker) (passes : Bool) (breach : Option Breach) → passes ≡ false
     → (if passes then None else breach) ≡ None
     → (if passes then checker else (if is_some breach then checker_below_breach limits else taken)) ≡ taken
 taken-is limits checker taken passes breach is none = grind arith
@@ -49,11 +49,11 @@ back-says : (left : Bool) → is_set_anew (if left then Excused Load else Restar
 back-says true = refl
 back-says false = refl
 
-at-checker : (judging : Judging) (stamp : Option ℕ) → (judging_at judging stamp).checker ≡ judging.checker
+pub at-checker : (judging : Judging) (stamp : Option ℕ) → (judging_at judging stamp).checker ≡ judging.checker
 at-checker judging None = refl
 at-checker judging (Some stamp) = refl
 
-at-content : (judging : Judging) (stamp : Option ℕ) → (judging_at judging stamp).content ≡ judging.content
+pub at-content : (judging : Judging) (stamp : Option ℕ) → (judging_at judging stamp).content ≡ judging.content
 at-content judging None = refl
 at-content judging (Some stamp) = refl
 
@@ -155,7 +155,7 @@ module _ (judging : Judging) (number : ℕ) (from_cpu : Bool) (octets : List ℕ
       by false passes false runs = judged-step aligned passes runs (found_by judging.checker from_cpu observed) refl
           (found_in_frame judging.content from_cpu octets) refl other
 
-says : (judging : Judging) (lines : List TranscriptLine) → Aligned judging → RunsOn judging lines
+pub says : (judging : Judging) (lines : List TranscriptLine) → Aligned judging → RunsOn judging lines
     → accused_first judging lines ≡ both_find_first judging.checker judging.content lines
 says judging [] aligned runs = refl
 says judging (line ∷ lines) aligned runs =

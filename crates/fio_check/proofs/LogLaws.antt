@@ -1,14 +1,20 @@
 -- Without late answers the judge of a log is the judge of a link.
 use Rattle.std.proofs.Common.{arith}
-use Rattle.fio_check.proofs.Names.{Bool, Frame, FrameOutcome, Judging, Link, List, LogJudging, LogLine, LogPlace, None, Option, Some, [], ap, append_assoc, ap₂, false, flat_map, if◌then◌else◌, judging_below, log_reached, map, map-append, observation_in, outcome_reached, outcomes_of, place_of, refl, subst, sym, true, ℕ, ◌++◌, ◌∙◌, ◌∷◌, ◌≡◌}
-use Rattle.std.proofs.lemmas.Grind.{flat_map-append}
+use Rattle.fio_check.proofs.Names.{Bool, Breach, Frame, FrameOutcome, Judging, Link, List, LogJudging, LogLine, LogPlace, None, Observation, Option, Some, [], ap, append_assoc, ap₂, false, flat_map, if◌then◌else◌, is_some_and, judging_below, log_reached, map, map-append, observation_in, outcome_reached, outcomes_of, place_of, refl, subst, sym, true, ℕ, ◌++◌, ◌∙◌, ◌∷◌, ◌≡◌}
+use Rattle.std.specs.List.{list_all}
+use Rattle.std.specs.Prelude.{nat_le, nat_lt, ◌+◌, ◌*◌, ◌||◌}
+use Rattle.fio_check.specs.Checkers.{found_by}
 use Rattle.fio_check.specs.LinkJudges.{judging_with_line, outcome_on}
-use Rattle.fio_check.specs.LogJudges.{Found, LogEvent, Lost, Missing, Possible, is_explained, log_below_events, log_lost, log_with_event, one_more, outcome_of_event, outcomes_in_log}
-use Rattle.fio_check.specs.LogLaws.{SaysAsLink, frame_found, frame_on, link_lines, link_lines_of, mark_if}
-use Rattle.fio_check.specs.MissingFrames.{missing_below}
+use Rattle.fio_check.specs.LinkJudges.{Lost as Mark}
+use Rattle.fio_check.specs.LogJudges.{Found, Heading, LogEvent, Lost, Missing, Possible, end_of, is_breach_explained, is_explained, judges_each, log_below_events, log_counting, log_lost, log_with_event, one_more, outcome_of_event, outcomes_in_log, place_by}
+use Rattle.fio_check.specs.LogLaws.{AreLinesOf, AreLinesOfEvent, Around, IsJudgedAsLink, JudgesFramesAlike, around_frame, around_in, around_said, around_with, is_direct, is_found, is_remarked, is_rule_of_loss, line_at, mark_if}
+use Rattle.fio_check.specs.MissingFrames.{do_explain, missing_below}
 use Rattle.fio_check.specs.declared.late_answers.LateAnswers.{LateAnswers}
 use Rattle.fio_check.specs.declared.log_judge.LogOutcome.{LogOutcome}
 use Rattle.fio_check.specs.declared.missing_frames.MissingFrames.{MissingFrames}
+use Rattle.fio_check.specs.declared.missing_frames.MissingFrames.TheVariants.{AbovePoll, Below, Nowhere}
+use Rattle.fio_check.specs.declared.outcome.LogPlace.TheVariants.{Bus, Cpu}
+use Rattle.fio_check.specs.declared.rules.Rule.{Rule}
 
 -- ---- lines and others below them
 
@@ -24,6 +30,22 @@ below_both : (judging : Judging) (lines more : List LogLine) → judging_below j
 below_both judging [] more = refl
 below_both judging (line ∷ lines) more = below_both (judging_with_line judging line) lines more
 
+-- ---- the lines that events are
+
+-- a mark is above a frame if frames that are missing explain what it breaks
+abbrev link_lines_of : LogJudging → LogEvent → List LogLine
+link_lines_of log (Found from_cpu said octets) =
+    mark_if (is_explained log from_cpu (observation_in from_cpu octets))
+    ++ Frame (place_of (log_counting log from_cpu said) said) from_cpu octets ∷ []
+link_lines_of log Lost = Mark ∷ []
+link_lines_of log Possible = mark_if (log.has_frames || judges_each log.link.checker.skips)
+link_lines_of log Heading = mark_if log.has_frames
+link_lines_of log Missing = []
+
+abbrev link_lines : LogJudging → List LogEvent → List LogLine
+link_lines log [] = []
+link_lines log (event ∷ events) = link_lines_of log event ++ link_lines (log_with_event log event) events
+
 -- ---- an event
 
 -- without late answers an event is to the judge of a log what its lines are to the judge of the link
@@ -31,6 +53,8 @@ record IsAsLines (log : LogJudging) (event : LogEvent) (lines : List LogLine) : 
   late : (log_with_event log event).late ≡ None
   link : (log_with_event log event).link ≡ judging_below log.link lines
   outcome : outcome_of_event log event ≡ map Link (outcomes_of log.link lines)
+  place : (log_with_event log event).place ≡ log.place
+  around : around_in (log_with_event log event) ≡ around_with (around_in log) event
 
 -- a judge without late answers
 abbrev kept_by : Judging → Option LogPlace → ℕ → ℕ → Bool → MissingFrames → LogJudging
@@ -44,17 +68,47 @@ kept_by link place agreeing contrary has_frames missing = record {
   missing = missing;
 }
 
+-- what is around the line below a frame, below which frames may be missing here
+abbrev around_of : MissingFrames → Bool → Around
+around_of missing contrary = record { framed = true; remarked = is_remarked missing; direct = is_direct missing; contrary = contrary }
+
+abbrev around_by : Bool → MissingFrames → ℕ → Around
+around_by framed missing contrary =
+    record { framed = framed; remarked = is_remarked missing; direct = is_direct missing; contrary = nat_lt 0 contrary }
+
+around_below : (framed : Bool) (missing : MissingFrames) (contrary : ℕ) (observation : Observation)
+    → around_of (missing_below missing observation) (nat_lt 0 contrary) ≡ around_frame (around_by framed missing contrary) observation
+around_below framed missing contrary observation = grind arith
+
+around_turned : (framed : Bool) (missing : MissingFrames) (contrary : ℕ) (observation : Observation)
+    → around_of (missing_below missing observation) true
+    ≡ (record (around_frame (around_by framed missing contrary) observation) { contrary = true })
+around_turned framed missing contrary observation = grind arith
+
+some_more : (small : Bool) (count : ℕ) → nat_lt 0 (if small then count + 1 else 4294967295) ≡ true
+some_more true count = grind arith
+some_more false count = refl
+
+around_contrary : (framed : Bool) (missing : MissingFrames) (contrary : ℕ) (observation : Observation)
+    → around_of (missing_below missing observation) (nat_lt 0 (one_more contrary))
+    ≡ (record (around_frame (around_by framed missing contrary) observation) { contrary = true })
+around_contrary framed missing contrary observation =
+    ap (around_of (missing_below missing observation)) (some_more (nat_lt contrary 4294967295) contrary)
+    ∙ around_turned framed missing contrary observation
+
 -- what a frame is where a mark may be above it
-record IsAsFrame (log : LogJudging) (reached : LogJudging) (marked : Bool) (from_cpu : Bool) (said : Option Bool) (octets : List ℕ) : Type 0 where
+record IsAsFrame (log : LogJudging) (reached : LogJudging) (marked : Bool) (missing : MissingFrames) (from_cpu : Bool) (said : Option Bool) (octets : List ℕ) : Type 0 where
   late : (log_reached reached from_cpu said octets).late ≡ None
   link : (log_reached reached from_cpu said octets).link ≡ judging_below log.link (mark_if marked ++ Frame (place_of log said) from_cpu octets ∷ [])
   outcome : outcome_reached reached from_cpu said octets ∷ [] ≡ map Link (outcomes_of log.link (mark_if marked ++ Frame (place_of log said) from_cpu octets ∷ []))
+  place : (log_reached reached from_cpu said octets).place ≡ log.place
+  around : around_in (log_reached reached from_cpu said octets) ≡ around_of missing (nat_lt 0 log.contrary)
 
 reached_by : (link : Judging) (place : Option LogPlace) (agreeing contrary : ℕ) (has_frames : Bool) (missing after : MissingFrames) (marked from_cpu : Bool) (said : Option Bool) (octets : List ℕ)
     → let log = kept_by link place agreeing contrary has_frames missing in
-    IsAsFrame log (record (if marked then log_lost log else log) { has_frames = true; missing = after }) marked from_cpu said octets
-reached_by link place agreeing contrary has_frames missing after true from_cpu said octets = record { late = refl; link = refl; outcome = refl }
-reached_by link place agreeing contrary has_frames missing after false from_cpu said octets = record { late = refl; link = refl; outcome = refl }
+    IsAsFrame log (record (if marked then log_lost log else log) { has_frames = true; missing = after }) marked after from_cpu said octets
+reached_by link place agreeing contrary has_frames missing after true from_cpu said octets = record { late = refl; link = refl; outcome = refl; place = refl; around = refl }
+reached_by link place agreeing contrary has_frames missing after false from_cpu said octets = record { late = refl; link = refl; outcome = refl; place = refl; around = refl }
 
 found_as : (link : Judging) (place : Option LogPlace) (agreeing contrary : ℕ) (has_frames : Bool) (missing : MissingFrames) (from_cpu : Bool) (said : Option Bool) (octets : List ℕ)
     → let log = kept_by link place agreeing contrary has_frames missing in
@@ -63,39 +117,60 @@ found_as link place agreeing contrary has_frames missing from_cpu None octets =
     let log = kept_by link place agreeing contrary has_frames missing in
     let observation = observation_in from_cpu octets in
     let one = reached_by link place agreeing contrary has_frames missing (missing_below missing observation) (is_explained log from_cpu observation) from_cpu None octets in
-    record { late = one.late; link = one.link; outcome = one.outcome }
+    record { late = one.late; link = one.link; outcome = one.outcome; place = one.place; around = one.around ∙ around_below has_frames missing contrary observation }
 found_as link place agreeing contrary has_frames missing true (Some true) octets =
     let log = kept_by link place agreeing contrary has_frames missing in
     let observation = observation_in true octets in
     let one = reached_by link place (one_more agreeing) contrary has_frames missing (missing_below missing observation) (is_explained log true observation) true (Some true) octets in
-    record { late = one.late; link = one.link; outcome = one.outcome }
+    record { late = one.late; link = one.link; outcome = one.outcome; place = one.place; around = one.around ∙ around_below has_frames missing contrary observation }
 found_as link place agreeing contrary has_frames missing false (Some false) octets =
     let log = kept_by link place agreeing contrary has_frames missing in
     let observation = observation_in false octets in
     let one = reached_by link place (one_more agreeing) contrary has_frames missing (missing_below missing observation) (is_explained log false observation) false (Some false) octets in
-    record { late = one.late; link = one.link; outcome = one.outcome }
+    record { late = one.late; link = one.link; outcome = one.outcome; place = one.place; around = one.around ∙ around_below has_frames missing contrary observation }
 found_as link place agreeing contrary has_frames missing true (Some false) octets =
     let log = kept_by link place agreeing contrary has_frames missing in
     let observation = observation_in true octets in
     let one = reached_by link place agreeing (one_more contrary) has_frames missing (missing_below missing observation) (is_explained log true observation) true (Some false) octets in
-    record { late = one.late; link = one.link; outcome = one.outcome }
+    record { late = one.late; link = one.link; outcome = one.outcome; place = one.place; around = one.around ∙ around_contrary has_frames missing contrary observation }
 found_as link place agreeing contrary has_frames missing false (Some true) octets =
     let log = kept_by link place agreeing contrary has_frames missing in
     let observation = observation_in false octets in
     let one = reached_by link place agreeing (one_more contrary) has_frames missing (missing_below missing observation) (is_explained log false observation) false (Some true) octets in
-    record { late = one.late; link = one.link; outcome = one.outcome }
+    record { late = one.late; link = one.link; outcome = one.outcome; place = one.place; around = one.around ∙ around_contrary has_frames missing contrary observation }
+
+-- a line at which the place is lost, or not, is a mark, or nothing
+record IsAsMark (log : LogJudging) (marked : Bool) : Type 0 where
+  late : (if marked then log_lost log else log).late ≡ None
+  link : (if marked then log_lost log else log).link ≡ judging_below log.link (mark_if marked)
+  outcome : map Link (outcomes_of log.link (mark_if marked)) ≡ []
+  place : (if marked then log_lost log else log).place ≡ log.place
+  around : around_in (if marked then log_lost log else log) ≡ around_in log
+
+mark_as : (link : Judging) (place : Option LogPlace) (agreeing contrary : ℕ) (has_frames : Bool) (missing : MissingFrames) (marked : Bool)
+    → IsAsMark (kept_by link place agreeing contrary has_frames missing) marked
+mark_as link place agreeing contrary has_frames missing true = record { late = refl; link = refl; outcome = refl; place = refl; around = refl }
+mark_as link place agreeing contrary has_frames missing false = record { late = refl; link = refl; outcome = refl; place = refl; around = refl }
 
 possible_as : (link : Judging) (place : Option LogPlace) (agreeing contrary : ℕ) (has_frames : Bool) (missing : MissingFrames)
     → let log = kept_by link place agreeing contrary has_frames missing in IsAsLines log Possible (link_lines_of log Possible)
-possible_as link place agreeing contrary true missing = record { late = refl; link = refl; outcome = refl }
-possible_as link place agreeing contrary false missing = record { late = refl; link = refl; outcome = refl }
+possible_as link place agreeing contrary has_frames missing =
+    let one = mark_as link place agreeing contrary has_frames missing (has_frames || judges_each link.checker.skips) in
+    record { late = one.late; link = one.link; outcome = sym one.outcome; place = one.place; around = one.around }
+
+heading_as : (link : Judging) (place : Option LogPlace) (agreeing contrary : ℕ) (has_frames : Bool) (missing : MissingFrames)
+    → let log = kept_by link place agreeing contrary has_frames missing in IsAsLines log Heading (link_lines_of log Heading)
+heading_as link place agreeing contrary has_frames missing =
+    let one = mark_as link place agreeing contrary has_frames missing has_frames in
+    record { late = one.late; link = one.link; outcome = sym one.outcome; place = one.place; around = one.around }
 
 event_as : (link : Judging) (place : Option LogPlace) (agreeing contrary : ℕ) (has_frames : Bool) (missing : MissingFrames) (event : LogEvent)
     → let log = kept_by link place agreeing contrary has_frames missing in IsAsLines log event (link_lines_of log event)
 event_as link place agreeing contrary has_frames missing (Found from_cpu said octets) = found_as link place agreeing contrary has_frames missing from_cpu said octets
-event_as link place agreeing contrary has_frames missing Lost = record { late = refl; link = refl; outcome = refl }
+event_as link place agreeing contrary has_frames missing Lost = record { late = refl; link = refl; outcome = refl; place = refl; around = refl }
 event_as link place agreeing contrary has_frames missing Possible = possible_as link place agreeing contrary has_frames missing
-event_as link place agreeing contrary has_frames missing Missing = record { late = refl; link = refl; outcome = refl }
+event_as link place agreeing contrary has_frames missing Heading = heading_as link place agreeing contrary has_frames missing
+event_as link place agreeing contrary has_frames missing Missing = record { late = refl; link = refl; outcome = refl; place = refl; around = refl }
 
 each_as : (log : LogJudging) (event : LogEvent) → log.late ≡ None → IsAsLines log event (link_lines_of log event)
 each_as log event none =
@@ -125,26 +200,135 @@ below_as log (event ∷ events) none =
     let one = each_as log event none in
     below_as after events one.late ∙ ap (λ (judging : Judging). judging_below judging more) one.link ∙ sym (below_both log.link lines more)
 
--- ---- frames
+-- ---- the lines are those of the events
 
--- a mark has no frame
-marked_frames : (marked : Bool) (lines : List LogLine) → flat_map frame_on (mark_if marked ++ lines) ≡ flat_map frame_on lines
-marked_frames true lines = refl
-marked_frames false lines = refl
+rule_of_loss : (missing : MissingFrames) (rule : Rule) → do_explain missing rule ≡ true → is_rule_of_loss rule ≡ true
+rule_of_loss missing rule explained = grind arith
 
-mark_frames : (marked : Bool) → flat_map frame_on (mark_if marked) ≡ []
-mark_frames true = refl
-mark_frames false = refl
+rule_below : (rule : Rule) → do_explain Below rule ≡ is_rule_of_loss rule
+rule_below rule = grind arith
 
-event_frames : (log : LogJudging) (event : LogEvent) → flat_map frame_on (link_lines_of log event) ≡ frame_found event
-event_frames log event = grind (arith, mark_frames, marked_frames)
+abbrev breaks : Option Breach → Bool
+breaks found = is_some_and found (λ breach. is_rule_of_loss breach.rule)
 
-frames_as : (log : LogJudging) (events : List LogEvent) → flat_map frame_on (link_lines log events) ≡ flat_map frame_found events
-frames_as log [] = refl
-frames_as log (event ∷ events) =
+-- what is explained is below a remark, and a breach of such a rule
+explained_only : (missing : MissingFrames) (found : Option Breach) → is_breach_explained missing found ≡ true
+    → (is_remarked missing ≡ true) × (breaks found ≡ true)
+explained_only Nowhere found explained = absurd (cc)
+explained_only Below None explained = absurd (cc)
+explained_only AbovePoll None explained = absurd (cc)
+explained_only Below (Some breach) explained = (refl, rule_of_loss Below breach.rule explained)
+explained_only AbovePoll (Some breach) explained = (refl, rule_of_loss AbovePoll breach.rule explained)
+
+explained_surely : (missing : MissingFrames) (found : Option Breach) → is_direct missing ≡ true → breaks found ≡ true
+    → is_breach_explained missing found ≡ true
+explained_surely Nowhere found direct breaks_it = absurd (cc)
+explained_surely AbovePoll found direct breaks_it = absurd (cc)
+explained_surely Below None direct breaks_it = absurd (cc)
+explained_surely Below (Some breach) direct breaks_it = rule_below breach.rule ∙ breaks_it
+
+counting_place : (log : LogJudging) (from_cpu : Bool) (said : Option Bool) → (log_counting log from_cpu said).place ≡ log.place
+counting_place log from_cpu said = grind arith
+
+known_place : (log : LogJudging) (from_cpu : Bool) (said : Option Bool) (given : LogPlace) → log.place ≡ Some given
+    → place_of (log_counting log from_cpu said) said ≡ given
+known_place log from_cpu said given known =
+    ap (λ place. place_by (log_counting log from_cpu said) place said) (counting_place log from_cpu said ∙ known)
+
+unnamed_place : (log : LogJudging) (from_cpu : Bool) (said : Option Bool) → log.place ≡ None → said ≡ None
+    → place_of (log_counting log from_cpu said) said ≡ Bus
+unnamed_place log from_cpu None none unnamed = ap (λ (place : Option LogPlace). place_by log place None) none
+unnamed_place log from_cpu (Some by_cpu) none unnamed = absurd (cc)
+
+zero_of : (count : ℕ) → nat_lt 0 count ≡ false → count ≡ 0
+zero_of count none = grind arith
+
+within_all : (agreeing : ℕ) → (if nat_le (4 * 0) agreeing then Cpu else Bus) ≡ Cpu
+within_all agreeing = grind arith
+
+at_cpu : (log : LogJudging) → nat_lt 0 log.contrary ≡ false → end_of log ≡ Cpu
+at_cpu log none =
+    ap (λ (contrary : ℕ). if nat_le (4 * contrary) log.agreeing then Cpu else Bus) (zero_of log.contrary none) ∙ within_all log.agreeing
+
+right_place : (log : LogJudging) (from_cpu : Bool) (said : Option Bool) → log.place ≡ None → said ≡ Some from_cpu
+    → nat_lt 0 log.contrary ≡ false → place_of (log_counting log from_cpu said) said ≡ Cpu
+right_place log true (Some true) none named right =
+    let counted : LogJudging = record log { agreeing = one_more log.agreeing } in
+    ap (λ (place : Option LogPlace). place_by counted place (Some true)) none ∙ at_cpu counted right
+right_place log false (Some false) none named right =
+    let counted : LogJudging = record log { agreeing = one_more log.agreeing } in
+    ap (λ (place : Option LogPlace). place_by counted place (Some false)) none ∙ at_cpu counted right
+right_place log true (Some false) none named right = absurd (cc)
+right_place log false (Some true) none named right = absurd (cc)
+right_place log from_cpu None none named right = absurd (cc)
+
+event_lines : (log : LogJudging) (event : LogEvent) → AreLinesOfEvent log.place (around_in log) log.link event (link_lines_of log event)
+event_lines log (Found from_cpu said octets) = record {
+  marked = is_explained log from_cpu (observation_in from_cpu octets);
+  at = place_of (log_counting log from_cpu said) said;
+  are = refl;
+  known = known_place log from_cpu said;
+  unnamed = unnamed_place log from_cpu said;
+  right = right_place log from_cpu said;
+  only = explained_only log.missing (found_by log.link.checker from_cpu (observation_in from_cpu octets));
+  surely = explained_surely log.missing (found_by log.link.checker from_cpu (observation_in from_cpu octets));
+}
+event_lines log Lost = refl
+event_lines log Possible = refl
+event_lines log Heading = refl
+event_lines log Missing = refl
+
+lines_are : (log : LogJudging) (events : List LogEvent) → log.late ≡ None
+    → AreLinesOf log.place (around_in log) log.link events (link_lines log events)
+lines_are log [] none = refl
+lines_are log (event ∷ events) none =
+    let own = link_lines_of log event in
     let after = log_with_event log event in
-    flat_map-append frame_on (link_lines_of log event) (link_lines after events)
-    ∙ ap₂ (λ (first last : List (Bool × List ℕ)). first ++ last) (event_frames log event) (frames_as after events)
+    let more = link_lines after events in
+    let one = each_as log event none in
+    let below = lines_are after events one.late in
+    let placed = subst (λ (place : Option LogPlace). AreLinesOf place (around_in after) after.link events more) one.place below in
+    let around = subst (λ (around : Around). AreLinesOf log.place around after.link events more) one.around placed in
+    let linked = subst (λ (link : Judging). AreLinesOf log.place (around_with (around_in log) event) link events more) one.link around in
+    (own, more, refl, event_lines log event, linked)
 
-pub says_as_link : (log : LogJudging) (events : List LogEvent) → SaysAsLink log events
-says_as_link log events = record { outcomes = outcomes_as log events; below = below_as log events; frames = frames_as log events }
+pub as_link : (log : LogJudging) (events : List LogEvent) → log.late ≡ None → IsJudgedAsLink (around_in log) log events
+as_link log events none =
+    record { lines = link_lines log events; are = lines_are log events none; outcomes = outcomes_as log events none; below = below_as log events none }
+
+-- ---- frames alone
+
+nowhere_is : (missing : MissingFrames) → is_remarked missing ≡ false → missing ≡ Nowhere
+nowhere_is missing none = grind arith
+
+around_quiet : (around : Around) (observation : Observation) → around.remarked ≡ false → (around_frame around observation).remarked ≡ false
+around_quiet around observation none = grind arith
+
+said_quiet : (around : Around) (said : Option Bool) (from_cpu : Bool) → (around_said around said from_cpu).remarked ≡ around.remarked
+said_quiet around said from_cpu = grind arith
+
+unmarked : (log : LogJudging) (from_cpu : Bool) (observation : Observation) → log.missing ≡ Nowhere → is_explained log from_cpu observation ≡ false
+unmarked log from_cpu observation nowhere =
+    ap (λ missing. is_breach_explained missing (found_by log.link.checker from_cpu observation)) nowhere
+
+frames_only : (log : LogJudging) (at : LogPlace) (events : List LogEvent) → log.late ≡ None → log.missing ≡ Nowhere → log.place ≡ Some at
+    → list_all is_found events ≡ true → link_lines log events ≡ flat_map (line_at at) events
+frames_only log at [] none nowhere given all = refl
+frames_only log at (Found from_cpu said octets ∷ events) none nowhere given all =
+    let event : LogEvent = Found from_cpu said octets in
+    let after = log_with_event log event in
+    let one = each_as log event none in
+    let quiet = said_quiet (around_frame (around_in log) (observation_in from_cpu octets)) said from_cpu
+    ∙ around_quiet (around_in log) (observation_in from_cpu octets) (ap is_remarked nowhere) in
+    let still = nowhere_is after.missing (ap (λ (around : Around). around.remarked) one.around ∙ quiet) in
+    ap₂ (λ (marked : Bool) (there : LogPlace). (mark_if marked ++ Frame there from_cpu octets ∷ []) ++ link_lines after events)
+    (unmarked log from_cpu (observation_in from_cpu octets) nowhere) (known_place log from_cpu said at given)
+    ∙ ap (λ (lines : List LogLine). Frame at from_cpu octets ∷ lines) (frames_only after at events one.late still (one.place ∙ given) all)
+frames_only log at (Lost ∷ events) none nowhere given all = absurd (cc)
+frames_only log at (Possible ∷ events) none nowhere given all = absurd (cc)
+frames_only log at (Heading ∷ events) none nowhere given all = absurd (cc)
+frames_only log at (Missing ∷ events) none nowhere given all = absurd (cc)
+
+pub frames_alike : (log : LogJudging) (at : LogPlace) (events : List LogEvent) → JudgesFramesAlike log at events
+frames_alike log at events none nowhere given all =
+    outcomes_as log events none ∙ ap (λ (lines : List LogLine). map Link (outcomes_of log.link lines)) (frames_only log at events none nowhere given all)

@@ -25,6 +25,7 @@ pub mod LinkLaws
 pub mod LateAnswers
 pub mod MissingFrames
 pub mod LogJudges
+pub mod LineKinds
 pub mod LogLaws
 pub mod LogSigns
 pub mod LogCounts

@@ -2,7 +2,7 @@
 --
 -- It is the judge of a link that also finds out where the log was taken, loses the place at lines that may have held a frame,
 -- and can leave out late answers.
-use Rattle.std.specs.Prelude.{ℕ, ◌+◌, nat_le, ◌*◌, ◌&&◌, Bool, List, [], ◌∷◌, ◌++◌, true, false, not, nat_lt, Option, Some, None, option_map, if◌then◌else◌}
+use Rattle.std.specs.Prelude.{ℕ, ◌+◌, nat_le, ◌*◌, ◌&&◌, ◌||◌, Bool, List, [], ◌∷◌, ◌++◌, true, false, not, nat_lt, Option, Some, None, option_map, if◌then◌else◌}
 use Rattle.fio_check.specs.Checkers.{checker_with, found_by, passes_over}
 use Rattle.fio_check.specs.LateAnswers.{late_above, late_with, lateness_of}
 use Rattle.fio_check.specs.LinkJudges.{Judging, checking_again, judging_anywhere, judging_begun, judging_lost, judging_with, loads_left, outcome_found, outcome_in, unjudged_by}
@@ -11,6 +11,8 @@ use Rattle.fio_check.specs.MissingFrames.{do_explain, missing_below}
 use Rattle.fio_check.specs.Observations.{observation_in}
 use Rattle.fio_check.specs.Places.{is_some_and}
 use Rattle.fio_check.specs.declared.checker.Breach.{Breach}
+use Rattle.fio_check.specs.declared.checker.Skips.{Skips}
+use Rattle.fio_check.specs.declared.checker.Skips.TheVariants.{Nothing}
 use Rattle.fio_check.specs.declared.late_answers.LateAnswers.{LateAnswers}
 use Rattle.fio_check.specs.declared.late_answers.Lateness.{Lateness}
 use Rattle.fio_check.specs.declared.late_answers.Lateness.TheVariants.{InTime, LateButTaken}
@@ -94,9 +96,19 @@ unsettled late = record late { settled = false }
 abbrev pub log_lost : LogJudging → LogJudging
 log_lost log = record log { link = judging_lost log.link; late = option_map unsettled log.late }
 
--- the judge after a line that says a message which nothing confirms, or is a heading: if a frame is above, the place is lost
+-- whether a checker judges each frame from its first one on, as it does where a log begins with both ends
+abbrev pub judges_each : Skips → Bool
+judges_each Nothing = true
+judges_each skips = false
+
+-- the judge after a line that says a message which nothing confirms: if a frame is above, or if frames are judged from the first one
+-- on, the place is lost
 abbrev pub log_possible : LogJudging → LogJudging
-log_possible log = if log.has_frames then log_lost log else log
+log_possible log = if log.has_frames || judges_each log.link.checker.skips then log_lost log else log
+
+-- the judge after a heading: if a frame is above, the place is lost
+abbrev pub log_heading : LogJudging → LogJudging
+log_heading log = if log.has_frames then log_lost log else log
 
 -- the judge after a line without octets that speaks of loss
 abbrev pub log_missing : LogJudging → LogJudging
@@ -286,12 +298,13 @@ log_with log from_cpu said octets =
 -- ---- all lines
 
 -- what a reader finds in a log, in order: a frame, with whether the CPU sent it and whom its line names as the sender, if it
--- names one; a line that may have held a frame; a line that says a message which nothing confirms, or a heading; a line that
--- speaks of loss
+-- names one; a line that may have held a frame; a line that says a message which nothing confirms; the heading of a part of the log;
+-- a line that speaks of loss
 pub data LogEvent : Type 0 where
   Found : (from_cpu : Bool) → (said : Option Bool) → (octets : List ℕ) → LogEvent
   Lost : LogEvent
   Possible : LogEvent
+  Heading : LogEvent
   Missing : LogEvent
 
 -- the judge with an event more
@@ -299,6 +312,7 @@ abbrev pub log_with_event : LogJudging → LogEvent → LogJudging
 log_with_event log (Found from_cpu said octets) = log_with log from_cpu said octets
 log_with_event log Lost = log_lost log
 log_with_event log Possible = log_possible log
+log_with_event log Heading = log_heading log
 log_with_event log Missing = log_missing log
 
 -- the judge below events

@@ -5,7 +5,7 @@ use Rattle.fio_check.specs.declared.missing_frames.MissingFrames.TheVariants.{Ab
 use Rattle.fio_check.specs.declared.observation.Observation.{Observation}
 use Rattle.fio_check.specs.declared.observation.Observation.TheVariants.{Block, Poll}
 use Rattle.fio_check.specs.declared.rules.Rule.{Rule}
-use Rattle.fio_check.specs.declared.rules.Rule.TheVariants.{Advance, Number, Pair, Same}
+use Rattle.fio_check.specs.declared.rules.Rule.TheVariants.{Advance, Number, Pair, Refusal, Same}
 
 -- where frames may be missing below a frame that says this: up to the next block answer
 abbrev pub missing_below : MissingFrames → Observation → MissingFrames
@@ -22,6 +22,7 @@ do_explain Below Pair = true
 do_explain Below Number = true
 do_explain Below Advance = true
 do_explain Below Same = true
+do_explain Below Refusal = true
 do_explain Below rule = false
 -- Above the latest poll the first poll for the same block is missing: the block may be sent again.
 do_explain AbovePoll Same = true

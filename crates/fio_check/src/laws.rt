@@ -1,5 +1,5 @@
 //! Laws of the definitions that the contracts cite. Each function states one in its contract, and does nothing.
-ghost use Rattle.std.specs.Prelude.{◌≡◌, ℕ, Bool, List, option_map};
+ghost use Rattle.std.specs.Prelude.{◌≡◌, ℕ, Bool, List, None, Option, option_map};
 ghost use Rattle.fio_check.specs.Checkers.{BeginsAnywhere, GoesOn, verdict_of_checker};
 ghost use Rattle.fio_check.specs.ContentCheckers.{ContentChecking, checking_at_start, fault_found, found_first};
 ghost use Rattle.fio_check.specs.ContentEvents.{LineEvent};
@@ -10,13 +10,15 @@ ghost use Rattle.fio_check.specs.Finding.{FindsDoubled, FindsDropped, FindsSwapp
 ghost use Rattle.fio_check.specs.Laws.{HasOneVerdict, IsTheLatest, KeepsFacts};
 ghost use Rattle.fio_check.specs.Lines.{TranscriptLine};
 ghost use Rattle.fio_check.specs.LinkJudges.{Judging, LogLine};
-ghost use Rattle.fio_check.specs.LinkLaws.{FindFirst, HasOutcomes, LinkGoesOn, LosesPlace, SaysTheSame};
-ghost use Rattle.fio_check.specs.LogJudges.{LogEvent, LogJudging};
-ghost use Rattle.fio_check.specs.LogLaws.{SaysAsLink};
+ghost use Rattle.fio_check.specs.LinkLaws.{ExcusesWhatIsShown, FindFirst, FindsRestart, GoesOnAsCheckers, HasOutcomes, LinkGoesOn, LosesPlace, SaysTheSame};
+ghost use Rattle.fio_check.specs.LogJudges.{LogEvent, LogJudging, late_starting, log_starting};
+ghost use Rattle.fio_check.specs.LogLaws.{IsJudgedAsLink, JudgesFramesAlike, around_in, nothing_around};
 ghost use Rattle.fio_check.specs.Observations.{observation_at};
 ghost use Rattle.fio_check.specs.Verdicts.{verdict_on};
 ghost use Rattle.fio_check.specs.declared.checker.Checker.{Checker};
 ghost use Rattle.fio_check.specs.declared.limits.RuleLimits.{RuleLimits};
+ghost use Rattle.fio_check.specs.declared.log_judge.LogStart.{LogStart};
+ghost use Rattle.fio_check.specs.declared.outcome.LogPlace.{LogPlace};
 
 /// The latest poll above a line is the latest that is sent above it, and so are the latest block
 /// answer and the latest of both.
@@ -130,8 +132,33 @@ pub fn checkers_find_side_by_side()
     ensures { (checker : Checker) (content : ContentChecking) (lines : List TranscriptLine) → FindFirst checker content lines }
 {}
 
-/// Without late answers the judge of a log gives each frame the outcome of the judge of a link, to which it passes the frames,
-/// each with its place, and the marks where lines are lost. So the laws of the judge of a link are laws of logs.
+/// Below a lost line, a restart, a load that took effect and a breach of a rule of transcripts, from the next poll on, the judge
+/// accuses first what the two checkers find first that begin there.
+#[tactic(auto, using(crate::proofs::GoingOn::goes_on_as_checkers))]
+pub fn judges_go_on_as_checkers()
+    ensures { (judging : Judging) (line : LogLine) (above : List LogLine) → GoesOnAsCheckers judging line above }
+{}
+
+/// A stamp that is set back where no load of the counter may take effect is a restart of the module, and none is found below it
+/// while stamps rise, but by the answer to a watchdog.
+#[tactic(auto, using(crate::proofs::RestartsFound::finds_restart))]
+pub fn judges_find_restarts()
+    ensures { (judging : Judging) (at : LogPlace) (octets : List ℕ) (between : List LogLine) → FindsRestart judging at octets between }
+{}
+
+/// The judge of a link excuses a frame only by what shows it: a restart or a load by an earlier stamp than one above, a restart also
+/// by the answer to a watchdog, and a poll that is sent again by the number of the latest one.
+#[tactic(auto, using(crate::proofs::Excuses::excuses_what_is_shown))]
+pub fn judges_excuse_what_is_shown()
+    ensures { (judging : Judging) (at : LogPlace) (from_cpu : Bool) (octets : List ℕ) → ExcusesWhatIsShown judging at from_cpu octets }
+{}
+
+/// Without late answers the judge of a log gives each frame the outcome of the judge of a link, of the frames and of marks that are
+/// those of the events: from the first event of a log on, and below whatever the judge took. So the laws of the judge of a link are
+/// laws of logs.
 pub fn logs_are_judged_as_links()
-    ensures { (log : LogJudging) (events : List LogEvent) → SaysAsLink log events }
+    ensures whole { (limits : RuleLimits) (place : Option LogPlace) (start : LogStart) (events : List LogEvent)
+        → late_starting start ≡ None → IsJudgedAsLink nothing_around (log_starting limits place start) events }
+    ensures below { (log : LogJudging) (events : List LogEvent) → log.late ≡ None → IsJudgedAsLink (around_in log) log events }
+    ensures frames { (log : LogJudging) (at : LogPlace) (events : List LogEvent) → JudgesFramesAlike log at events }
 {}

@@ -39,10 +39,12 @@
 //! begins with both ends or later (`content_checkers_find_the_fault`).
 //!
 //! `LinkJudge` says of each frame of a log, in which lines may be lost, the outcome that `outcome_in` defines (`outcome` and
-//! `next` of `LinkJudge::frame`). `LogJudge` says of each frame that a reader finds the outcome that `outcome_in_log` defines,
+//! `next` of `LinkJudge::frame`). It excuses a frame only by what shows it (`judges_excuse_what_is_shown`), says of a stamp that is
+//! set back that the module was restarted (`judges_find_restarts`), and goes on below a lost place as both checkers do
+//! (`judges_go_on_as_checkers`). `LogJudge` says of each frame that a reader finds the outcome that `outcome_in_log` defines,
 //! by what the log says of the lines between the frames too (`outcome` and `next` of `LogJudge::frame`; the clauses of
-//! `LogJudge::lose`, `LogJudge::possible` and `LogJudge::miss`). Without late answers it is the judge of a link, of the frames
-//! at the places that it finds, with a mark where it loses its place (`logs_are_judged_as_links`). So what is proved of that
+//! `LogJudge::line`, `LogJudge::below_frame` and of the calls that they make). Without late answers it is the judge of a link, of the frames
+//! with marks that the events of the log decide (`logs_are_judged_as_links`). So what is proved of that
 //! judge holds of this one, if its premises hold with these marks.
 //!
 //! `LogCounts` counts of each frame what `counts_with` says, and returns how long the module took for an answer (`next` and
@@ -70,6 +72,7 @@ mod late_answers;
 pub mod laws;
 mod limits;
 mod line;
+mod line_kind;
 mod link_frames;
 mod link_judge;
 mod log_counts;
@@ -91,6 +94,7 @@ pub use facts::Facts;
 pub use late_answers::{LateAnswers, Lateness};
 pub use limits::RuleLimits;
 pub use line::Line;
+pub use line_kind::LogLineKind;
 pub use link_judge::LinkJudge;
 pub use log_counts::LogCounts;
 pub use log_judge::{LogJudge, LogOutcome, LogStart};

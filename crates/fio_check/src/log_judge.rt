@@ -2,10 +2,11 @@
 //! between them.
 ghost use Rattle.std.specs.Prelude.{◌≡◌};
 ghost use Rattle.fio_check.specs.LinkKept.{judging};
-ghost use Rattle.fio_check.specs.LogJudges.{end_of, is_excused_late, is_explained, is_of_late, judging_in_time, log_counting, log_forgetting, log_judging, log_kept_late, log_lost, log_missing, log_possible, log_reaching, log_starting, log_with, log_with_late, outcome_in_log, outcome_in_time, outcome_kept_late, outcome_late, place_of};
+ghost use Rattle.fio_check.specs.LogJudges.{end_of, is_excused_late, is_explained, is_of_late, judging_in_time, log_counting, log_forgetting, log_heading, log_judging, log_kept_late, log_lost, log_missing, log_possible, log_reaching, log_starting, log_with, log_with_late, outcome_in_log, outcome_in_time, outcome_kept_late, outcome_late, place_of};
 ghost use Rattle.fio_check.specs.Observations.{observation_in};
 ghost use Rattle.fio_check.specs.declared.log_judge.LogOutcome.TheVariants.{Late};
 
+use crate::checker::Skips;
 use crate::late_answers::{LateAnswers, Lateness};
 use crate::limits::RuleLimits;
 use crate::link_judge::LinkJudge;
@@ -109,10 +110,19 @@ impl LogJudge {
         }
     }
 
-    /// Takes a line that says a message which nothing confirms, or that is the heading of another part of the log: if a frame
-    /// is above, nothing is judged until the next poll.
+    /// Takes a line that says a message which nothing confirms: if a frame is above, or if frames are judged from the first one on,
+    /// nothing is judged until the next poll.
     pub fn possible(&mut self)
         ensures { log_judging self.new ≡ log_possible (log_judging self.old) }
+    {
+        if self.has_frames || matches!(self.link.checker.skips, Skips::Nothing) {
+            self.lose();
+        }
+    }
+
+    /// Takes the heading of a log or of a part of one: if a frame is above, nothing is judged until the next poll.
+    pub fn heading(&mut self)
+        ensures { log_judging self.new ≡ log_heading (log_judging self.old) }
     {
         if self.has_frames {
             self.lose();

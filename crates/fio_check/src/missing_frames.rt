@@ -35,7 +35,10 @@ impl MissingFrames {
         match self {
             MissingFrames::Nowhere => false,
             MissingFrames::Below => {
-                matches!(rule, Rule::Pair | Rule::Number | Rule::Advance | Rule::Same)
+                matches!(
+                    rule,
+                    Rule::Pair | Rule::Number | Rule::Advance | Rule::Same | Rule::Refusal
+                )
             }
             MissingFrames::AbovePoll => matches!(rule, Rule::Same),
         }

@@ -4,7 +4,7 @@ use Rattle.std.specs.Prelude.{drop, ◌==◌}
 use Rattle.std.proofs.lemmas.Bool.{cases_Bool, eqb-true}
 use Rattle.std.proofs.lemmas.Bool.Decides.{nat_tests}
 use Rattle.fio_form.specs.Reading.{ends_in_front, is_empty}
-use Rattle.fio_form.specs.declared.form.Digits.{Digits}
+use Rattle.fio_form.specs.declared.form.LineForm.{LineForm}
 use Rattle.fio_form.specs.declared.form.Piece.{Piece}
 
 pub empty_drop : (count : ℕ) (text : List ℕ) → count ≤ length text → (count == length text) ≡ is_empty (drop count text)
@@ -18,6 +18,6 @@ empty_drop (suc count) (x ∷ text) h =
     ] in
     same ∙ empty_drop count text (omega arith)
 
-pub ends_at : (digits : Digits) (values : List ℕ) (front : List Piece) → 0 < length front → ends_in_front digits values front [] ≡ true
-ends_at digits values [] h = absurd (omega arith)
-ends_at digits values (piece ∷ front) h = refl
+pub ends_at : (form : LineForm) (line : List ℕ) (front : List Piece) → 0 < length front → ends_in_front form line front [] ≡ true
+ends_at form line [] h = absurd (omega arith)
+ends_at form line (piece ∷ front) h = refl

@@ -5,7 +5,7 @@ use Rattle.std.specs.List.{AllByRecursion}
 use Rattle.std.proofs.lemmas.Bool.{cases_Bool}
 use Rattle.std.proofs.lemmas.Bool.Decides.{nat_tests}
 use Rattle.fio_form.specs.Forms.{hex_value}
-use Rattle.fio_form.specs.Octets.{fixed_left, fixed_value, makes_longer, next_fixed, next_in}
+use Rattle.fio_form.specs.Octets.{fixed_left, fixed_value, longer_in, next_fixed, next_in}
 use Rattle.fio_form.specs.Writing.{value_in_base}
 use Rattle.fio_form.specs.declared.form.Digits.{Digits}
 use Rattle.fio_form.specs.declared.octets.Begun.{Begun}
@@ -37,13 +37,13 @@ pub fixed_read : (digits : Digits) (base width : ℕ) → IsFixedBy digits base 
     → value_in_base base (fixed_value begun) text < 256 → read_one digits begun (text ++ rest) ≡ At (value_in_base base (fixed_value begun) text) rest
 fixed_read digits base width same up begun [] rest some size all small = absurd (omega (arith, some))
 fixed_read digits base width same up begun (x ∷ []) rest some size all small =
-    rw (same begun x (makes_longer digits rest)) (rw (not_large base x all.0) (rw (not_many (base * fixed_value begun + hex_value x) small) (rw (not_more (fixed_left width begun) (sym size)) refl)))
+    rw (same begun x (longer_in digits begun rest)) (rw (not_large base x all.0) (rw (not_many (base * fixed_value begun + hex_value x) small) (rw (not_more (fixed_left width begun) (sym size)) refl)))
 fixed_read digits base width same up begun (x ∷ (y ∷ text)) rest some size all small =
     let value = base * fixed_value begun + hex_value x in
     let most = grows base up value (y ∷ text) in
     let more : 1 < fixed_left width begun = omega (arith, size) in
     let then_ = fixed_read digits base width same up (Fixed value (fixed_left width begun - 1)) (y ∷ text) rest (omega arith) (omega (arith, size)) all.1 small in
-    rw (same begun x (makes_longer digits (y ∷ (text ++ rest)))) (rw (not_large base x all.0) (rw (not_many value (omega (arith, most, small))) (rw (more_left (fixed_left width begun) more) then_)))
+    rw (same begun x (longer_in digits begun (y ∷ (text ++ rest)))) (rw (not_large base x all.0) (rw (not_many value (omega (arith, most, small))) (rw (more_left (fixed_left width begun) more) then_)))
 
 -- ---- What is read is written
 
@@ -71,9 +71,9 @@ pub fixed_or_not : (digits : Digits) (base width : ℕ) → IsFixedBy digits bas
     → (read_one digits begun text ≡ Missing) ⊎ FixedText base (fixed_value begun) (fixed_left width begun) text
 fixed_or_not digits base width same begun [] some = inl refl
 fixed_or_not digits base width same begun (x ∷ text) some = elim (cases_Bool (nat_le base (hex_value x))) [
-  | inl large ↦ inl (rw (same begun x (makes_longer digits text)) (rw large refl))
+  | inl large ↦ inl (rw (same begun x (longer_in digits begun text)) (rw large refl))
   | inr fits ↦ elim (cases_Bool (nat_lt 255 (base * fixed_value begun + hex_value x))) [
-    | inl many ↦ inl (rw (same begun x (makes_longer digits text)) (rw fits (rw many refl)))
+    | inl many ↦ inl (rw (same begun x (longer_in digits begun text)) (rw fits (rw many refl)))
     | inr few ↦ elim (cases_Bool (nat_lt 1 (fixed_left width begun))) [
       | inr last ↦ inr (record {
         written = x ∷ [];
@@ -86,7 +86,7 @@ fixed_or_not digits base width same begun (x ∷ text) some = elim (cases_Bool (
       | inl more ↦ (
           let left = some_more (fixed_left width begun) more in
           elim (fixed_or_not digits base width same (Fixed (base * fixed_value begun + hex_value x) (fixed_left width begun - 1)) text (omega (arith, left))) [
-            | inl none ↦ inl (rw (same begun x (makes_longer digits text)) (rw fits (rw few (rw more none))))
+            | inl none ↦ inl (rw (same begun x (longer_in digits begun text)) (rw fits (rw few (rw more none))))
             | inr one ↦ inr (record {
               written = x ∷ one.written;
               rest = one.rest;

@@ -1,87 +1,15 @@
 -- The front that is written is the one that is read.
-use Rattle.std.proofs.Common.{◌≡◌, ◌≢◌, ℕ, Some, None, true, false, Bool, List, [], ◌∷◌, ◌++◌, refl, sym, ap, ◌∙◌, append_assoc, eq-eqb, inl, inr, arith}
+use Rattle.std.proofs.Common.{◌≡◌, ◌≢◌, ℕ, Some, None, true, false, Bool, List, [], ◌∷◌, ◌++◌, refl, sym, ap, ◌∙◌, append_assoc, eq-eqb, inl, inr}
 use Rattle.std.specs.Prelude.{not, ◌==◌, ◌&&◌, ◌⊎◌}
 use Rattle.std.specs.List.{AllByRecursion}
-use Rattle.std.proofs.lemmas.Bool.{and_parts, not-true, cases_Bool, false≢true, eqb-true}
-use Rattle.std.proofs.lemmas.Bool.Decides.{nat_tests}
+use Rattle.std.proofs.lemmas.Bool.{and_parts, not-true, cases_Bool, eqb-true}
 use Rattle.fio_form.specs.Forms.{is_space_or_tab, is_blanks, is_decimal, is_hex, is_last, is_numeric, is_part, is_quotation, is_shut, are_shut}
 use Rattle.fio_form.specs.Fronts.{after_digits, after_front, after_piece, has_value, past, taken_parts}
 use Rattle.fio_form.specs.Writing.{AreSome, IsPadded, IsPiece, IsQuote, AreFrontTexts, joined}
 use Rattle.fio_form.specs.declared.form.Digits.{Digits}
 use Rattle.fio_form.specs.declared.form.Piece.{Piece}
 use Rattle.fio_form.specs.declared.form.Piece.TheVariants.{Character, Decimal, Hexadecimal, Blanks, Padded, Quote, Value}
-
--- ---- Characters
-
-pub decimal_hex : (x : ℕ) → is_decimal x ≡ true → is_hex x ≡ true
-decimal_hex x is = grind (arith, nat_tests)
-
-pub hex_not_blank : (x : ℕ) → is_hex x ≡ true → is_space_or_tab x ≡ false
-hex_not_blank x is = elim (cases_Bool (is_space_or_tab x)) [
-  | inl blank ↦ absurd (false≢true (blank_not x blank ∙ is))
-  | inr other ↦ other
-]
-  where
-    blank_not : (x : ℕ) → is_space_or_tab x ≡ true → false ≡ is_hex x
-    blank_not x blank = elim (cases_Bool (x == 32)) [
-      | inl space ↦ rw (eqb-true x 32 space) refl
-      | inr other ↦ (let tab : (x == 9) ≡ true = rw other at blank in rw (eqb-true x 9 tab) refl)
-    ]
-
--- what a piece without digits has none part of
-pub digit_apart : (piece : Piece) (x : ℕ) → not (is_numeric piece) ≡ true → is_hex x ≡ true → is_part piece x ≡ false
-digit_apart (Character mark) x none is = refl
-digit_apart Decimal x none is = absurd (false≢true none)
-digit_apart Hexadecimal x none is = absurd (false≢true none)
-digit_apart Blanks x none is = hex_not_blank x is
-digit_apart Padded x none is = absurd (false≢true none)
-digit_apart Quote x none is = refl
-digit_apart Value x none is = absurd (false≢true none)
-
-blank_apart : (piece : Piece) (x : ℕ) → not (is_blanks piece) ≡ true → is_space_or_tab x ≡ true → is_part piece x ≡ false
-blank_apart (Character mark) x none is = refl
-blank_apart Decimal x none is = elim (cases_Bool (is_decimal x)) [
-  | inl digit ↦ absurd (false≢true (sym (hex_not_blank x (decimal_hex x digit)) ∙ is))
-  | inr other ↦ other
-]
-blank_apart Hexadecimal x none is = elim (cases_Bool (is_hex x)) [
-  | inl digit ↦ absurd (false≢true (sym (hex_not_blank x digit) ∙ is))
-  | inr other ↦ other
-]
-blank_apart Blanks x none is = absurd (false≢true none)
-blank_apart Padded x none is = elim (cases_Bool (is_hex x)) [
-  | inl digit ↦ absurd (false≢true (sym (hex_not_blank x digit) ∙ is))
-  | inr other ↦ other
-]
-blank_apart Quote x none is = refl
-blank_apart Value x none is = elim (cases_Bool (is_hex x)) [
-  | inl digit ↦ absurd (false≢true (sym (hex_not_blank x digit) ∙ is))
-  | inr other ↦ other
-]
-
-double_apart : (piece : Piece) → is_part piece 34 ≡ false
-double_apart (Character mark) = refl
-double_apart Decimal = refl
-double_apart Hexadecimal = refl
-double_apart Blanks = refl
-double_apart Padded = refl
-double_apart Quote = refl
-double_apart Value = refl
-
-single_apart : (piece : Piece) → is_part piece 39 ≡ false
-single_apart (Character mark) = refl
-single_apart Decimal = refl
-single_apart Hexadecimal = refl
-single_apart Blanks = refl
-single_apart Padded = refl
-single_apart Quote = refl
-single_apart Value = refl
-
-quote_apart : (piece : Piece) (x : ℕ) → is_quotation x ≡ true → is_part piece x ≡ false
-quote_apart piece x is = elim (cases_Bool (x == 34)) [
-  | inl double ↦ rw (eqb-true x 34 double) (double_apart piece)
-  | inr other ↦ (let single : (x == 39) ≡ true = rw other at is in rw (eqb-true x 39 single) (single_apart piece))
-]
+use Rattle.fio_form.proofs.Characters.{blank_apart, decimal_hex, digit_apart, hex_not_blank, quote_apart}
 
 -- ---- What is written is read
 

@@ -1,12 +1,18 @@
 -- Lines and logs by several forms.
 use Rattle.std.proofs.Common.{◌≡◌, ◌≢◌, ℕ, Some, None, true, false, Bool, List, [], ◌∷◌, ◌++◌, length, refl, sym, ap, ◌∙◌, inl, inr}
-use Rattle.std.specs.Prelude.{Option, nat_lt, ◌+◌, ◌-◌, ◌&&◌, ◌||◌, map, ◌⊎◌}
+use Rattle.std.specs.Prelude.{Option, nat_le, nat_lt, ◌+◌, ◌-◌, ◌&&◌, ◌||◌, map, ◌⊎◌}
 use Rattle.std.specs.List.{AllByRecursion}
 use Rattle.std.proofs.lemmas.Bool.{cases_Bool, false≢true}
-use Rattle.fio_form.specs.Reading.{LineSaid, Frame, Damaged, Other, octets_between, ends_in_form, is_message, said_by_octets, octets_by, read_from, read_line, said_by}
-use Rattle.fio_form.specs.Writing.{AreLines, Has, IsKept, IsLine, IsOther, AreOctetsIn, IsWrittenLine, IsWrittenBy, frame_or_other}
+use Rattle.fio_form.specs.Messages.{is_message}
+use Rattle.fio_form.specs.Reading.{LineSaid, Frame, Damaged, Other, ends_in_form, is_bare, octets_between, octets_by, read_from, read_line, said_by_form, said_by_octets, said_in_octets, said_whole, said_wrapped}
+use Rattle.fio_form.specs.Wholes.{held_of, whole_of}
+use Rattle.fio_form.specs.declared.octets.TheConstants.{OCTETS}
+use Rattle.fio_form.specs.declared.reading.Whole.{Whole}
+use Rattle.fio_form.specs.declared.reading.Whole.TheVariants as wholes
+use Rattle.fio_form.specs.Writing.{AreLines, AreOctetsIn, Has, IsBareLine, IsKept, IsKeptBare, IsKeptWrapped, IsLine, IsOther, IsWrappedLine, IsWrittenBy, IsWrittenLine, frame_or_other}
 use Rattle.fio_form.specs.declared.form.LineForm.{LineForm}
-use Rattle.fio_form.proofs.Lines.{cut_of, message_cut, run_of, run_read, run_some, written_of}
+use Rattle.fio_form.proofs.Lines.{as_one, as_other, run_of, run_read, run_some, the_one, the_other}
+use Rattle.fio_form.proofs.Saying.{cut_of, message_cut, said_bare, written_of}
 
 -- ---- One form
 
@@ -33,7 +39,7 @@ no_octets form line not_ = elim (found_or_not form line) [
   | inr found ↦ absurd (not_ (record { octets = found.octets; run = found.run }))
 ]
 
-said_some : (form : LineForm) (octets : List ℕ) (rest : LineSaid) → octets ≢ [] → said_by form octets rest ≡ said_by_octets form.before form.after octets
+said_some : (form : LineForm) (octets : List ℕ) (rest : LineSaid) → octets ≢ [] → said_by_form form octets rest ≡ said_in_octets form octets
 said_some form [] rest some = absurd (some refl)
 said_some form (octet ∷ octets) rest some = refl
 
@@ -43,24 +49,58 @@ message_not_other before after octets h = elim (cases_Bool (nat_lt (before + aft
   | inr few ↦ (let there = rw few at h in cc)
 ]
 
+damaged_not_other : Damaged ≡ Other → ⊥
+damaged_not_other h = cc
+
+frame_not_other : (message : List ℕ) → Frame message ≡ Other → ⊥
+frame_not_other message h = cc
+
+whole_not_other : (whole : Whole) (octets : List ℕ) → said_whole whole octets ≢ Other
+whole_not_other (wholes.Message start end) octets h = frame_not_other (octets_between start end octets) h
+whole_not_other (wholes.Any start end) octets h = frame_not_other (octets_between start end octets) h
+whole_not_other wholes.Lacking octets h = damaged_not_other h
+whole_not_other wholes.Idle octets h = damaged_not_other h
+whole_not_other wholes.Damaged octets h = damaged_not_other h
+
+wrapped_not_other : (form : LineForm) (octets : List ℕ) → said_wrapped form octets ≢ Other
+wrapped_not_other form octets h = elim (cases_Bool (nat_le OCTETS (length octets))) [
+  | inl many ↦ damaged_not_other (rw many at h)
+  | inr few ↦ whole_not_other (whole_of form octets) (held_of form octets) (rw few at h)
+]
+
+octets_not_other : (form : LineForm) (octets : List ℕ) → said_in_octets form octets ≢ Other
+octets_not_other form octets h = elim (cases_Bool (is_bare form)) [
+  | inl bare ↦ message_not_other form.before form.after octets (sym (said_bare form octets bare) ∙ h)
+  | inr not_ ↦ wrapped_not_other form octets (rw not_ at h)
+]
+
 -- what the first form that has the line reads
 found_read : (above : List LineForm) (form : LineForm) (below : List LineForm) (cut : Bool) (octets line : List ℕ) → AllByRecursion (λ other. Has other line → ⊥) above
-    → octets_by form line ≡ octets → octets ≢ [] → read_from (above ++ form ∷ below) cut line ≡ said_by_octets form.before form.after octets
+    → octets_by form line ≡ octets → octets ≢ [] → read_from (above ++ form ∷ below) cut line ≡ said_in_octets form octets
 found_read [] form below cut octets line first is some =
-    ap (λ o. said_by form o (read_from below (cut || ends_in_form form line) line)) is
+    ap (λ o. said_by_form form o (read_from below (cut || ends_in_form form line) line)) is
     ∙ said_some form octets (read_from below (cut || ends_in_form form line) line) some
 found_read (other ∷ above) form below cut octets line first is some =
-    ap (λ o. said_by other o (read_from (above ++ form ∷ below) (cut || ends_in_form other line) line)) (no_octets other line first.0)
+    ap (λ o. said_by_form other o (read_from (above ++ form ∷ below) (cut || ends_in_form other line) line)) (no_octets other line first.0)
     ∙ found_read above form below (cut || ends_in_form other line) octets line first.1 is some
 
 -- ---- What is written is read
 
 written_read : (above : List LineForm) (form : LineForm) (below : List LineForm) (message line : List ℕ) → AllByRecursion (λ other. Has other line → ⊥) above → IsWrittenLine form message line
     → read_line (above ++ form ∷ below) line ≡ Frame message
-written_read above form below message line first is =
-    let all = is.header ++ (message ++ is.check) in
-    found_read above form below false all line first (run_read form all line is.run) (run_some form all line is.run)
-    ∙ rw (sym is.before, sym is.after) (message_cut is.header message is.check is.encodes)
+written_read above form below message line first is = elim (cases_Bool (is_bare form)) [
+  | inl bare ↦ bare_read bare (the_one (is_bare form) (IsBareLine form message line) (IsWrappedLine form message line) bare is)
+  | inr not_ ↦ wrapped_read (the_other (is_bare form) (IsBareLine form message line) (IsWrappedLine form message line) not_ is)
+]
+  where
+    bare_read : is_bare form ≡ true → IsBareLine form message line → read_line (above ++ form ∷ below) line ≡ Frame message
+    bare_read bare is =
+        let all = is.header ++ (message ++ is.check) in
+        found_read above form below false all line first (run_read form all line is.run) (run_some form all line is.run)
+        ∙ (said_bare form all bare ∙ rw (sym is.before, sym is.after) (message_cut is.header message is.check is.encodes))
+
+    wrapped_read : IsWrappedLine form message line → read_line (above ++ form ∷ below) line ≡ Frame message
+    wrapped_read is = found_read above form below false is.octets line first (run_read form is.octets line is.run) (run_some form is.octets line is.run) ∙ is.said
 
 pub read_back : (forms : List LineForm) (message line : List ℕ) → IsWrittenBy forms message line → read_line forms line ≡ Frame message
 read_back forms message line is =
@@ -104,9 +144,6 @@ written_back forms message line said = written_from forms false message line sai
 
 -- ---- Other lines
 
-damaged_not_other : Damaged ≡ Other → ⊥
-damaged_not_other h = cc
-
 or_false : (a b : Bool) → (a || b) ≡ false → (a ≡ false) × (b ≡ false)
 or_false true b h = absurd (false≢true (sym h))
 or_false false b h = (refl, h)
@@ -119,7 +156,7 @@ other_of (form ∷ forms) cut line said = elim (found_or_not form line) [
       let more = other_of forms (cut || ends_in_form form line) line (rw none at said) in
       let parts = or_false cut (ends_in_form form line) more.0 in
       (parts.0, ((has_not form line none, parts.1), more.1)))
-  | inr found ↦ absurd (message_not_other form.before form.after found.octets (sym (found_read [] form forms cut found.octets line tt found.is found.some) ∙ said))
+  | inr found ↦ absurd (octets_not_other form found.octets (sym (found_read [] form forms cut found.octets line tt found.is found.some) ∙ said))
 ]
 
 pub is_other : (forms : List LineForm) (line : List ℕ) → read_line forms line ≡ Other → IsOther forms line
@@ -145,14 +182,31 @@ log_read forms (line ∷ lines) (message ∷ messages) are =
 
 -- ---- The octets
 
-kept : (form : LineForm) (octets : List ℕ) (said : LineSaid) → said ≡ said_by_octets form.before form.after octets → (said ≡ Damaged) ⊎ IsKept form octets said
-kept form octets said is = elim (cases_Bool (nat_lt (form.before + form.after) (length octets) && is_message (octets_between form.before (length octets - form.after) octets))) [
+kept_bare : (form : LineForm) (octets : List ℕ) (said : LineSaid) → said ≡ said_by_octets form.before form.after octets → (said ≡ Damaged) ⊎ IsKeptBare form octets said
+kept_bare form octets said is = elim (cases_Bool (nat_lt (form.before + form.after) (length octets) && is_message (octets_between form.before (length octets - form.after) octets))) [
   | inl more ↦ (
       let message = octets_between form.before (length octets - form.after) octets in
       let frame : said_by_octets form.before form.after octets ≡ Frame message = rw more refl in
       let cut = cut_of form.before form.after message octets frame in
       inr (record { header = cut.header; message = message; check = cut.check; whole = cut.whole; before = cut.skipped; after = cut.dropped; frame = is ∙ frame }))
   | inr few ↦ inl (is ∙ rw few refl)
+]
+
+kept_wrapped : (form : LineForm) (octets : List ℕ) (said all : LineSaid) → said ≡ all → said_in_octets form octets ≡ all → all ≢ Other → (said ≡ Damaged) ⊎ IsKeptWrapped form octets said
+kept_wrapped form octets said (Frame message) is same some = inr (record { message = message; is = same; frame = is })
+kept_wrapped form octets said Damaged is same some = inl is
+kept_wrapped form octets said Other is same some = absurd (some refl)
+
+kept : (form : LineForm) (octets : List ℕ) (said : LineSaid) → said ≡ said_in_octets form octets → (said ≡ Damaged) ⊎ IsKept form octets said
+kept form octets said is = elim (cases_Bool (is_bare form)) [
+  | inl bare ↦ elim (kept_bare form octets said (is ∙ said_bare form octets bare)) [
+    | inl damaged ↦ inl damaged
+    | inr all ↦ inr (as_one (is_bare form) (IsKeptBare form octets said) (IsKeptWrapped form octets said) bare all)
+  ]
+  | inr not_ ↦ elim (kept_wrapped form octets said (said_in_octets form octets) is refl (octets_not_other form octets)) [
+    | inl damaged ↦ inl damaged
+    | inr all ↦ inr (as_other (is_bare form) (IsKeptBare form octets said) (IsKeptWrapped form octets said) not_ all)
+  ]
 ]
 
 pub all_kept : (above : List LineForm) (form : LineForm) (below : List LineForm) (octets line : List ℕ) → AllByRecursion (λ other. Has other line → ⊥) above → AreOctetsIn form octets line

@@ -1,11 +1,11 @@
 -- Octets that are decimal numbers: what is written is read.
-use Rattle.std.proofs.Common.{◌≡◌, ◌<◌, ◌≤◌, ◌+◌, ◌-◌, ◌*◌, ℕ, Bool, true, false, List, [], ◌∷◌, ◌++◌, refl, ap, ◌∙◌, arith, inl, inr}
+use Rattle.std.proofs.Common.{◌≡◌, ◌<◌, ◌≤◌, ◌+◌, ◌-◌, ◌*◌, ℕ, true, false, List, [], ◌∷◌, ◌++◌, refl, ap, ◌∙◌, arith, inl, inr}
 use Rattle.std.specs.Prelude.{◌==◌, ◌⊎◌, nat_lt}
 use Rattle.std.specs.List.{AllByRecursion}
 use Rattle.std.proofs.lemmas.Bool.{cases_Bool}
 use Rattle.std.proofs.lemmas.Bool.Decides.{nat_tests}
 use Rattle.fio_form.specs.Forms.{is_decimal, is_more}
-use Rattle.fio_form.specs.Octets.{makes_longer, negative_by, next_in, next_negative, next_unsigned, number_by}
+use Rattle.fio_form.specs.Octets.{longer_in, makes_longer, negative_by, next_in, next_negative, next_unsigned, number_by}
 use Rattle.fio_form.specs.Writing.{decimal_value}
 use Rattle.fio_form.specs.declared.form.Digits.{Digits}
 use Rattle.fio_form.specs.declared.octets.Begun.TheVariants.{Number, Negative}
@@ -17,10 +17,10 @@ grows value (digit ∷ text) = omega (arith, grows (10 * value + (digit - 48)) t
 
 -- what characters do after a digit
 abbrev pub AreNumbers : Digits → Type 0
-AreNumbers digits = (value x : ℕ) (longer : Bool) → next_in digits (Number value) x longer ≡ next_unsigned value x longer
+AreNumbers digits = (value x : ℕ) (text : List ℕ) → next_in digits (Number value) x (longer_in digits (Number value) text) ≡ next_unsigned value x (makes_longer digits text)
 
 abbrev pub AreNegatives : Digits → Type 0
-AreNegatives digits = (value x : ℕ) (longer : Bool) → next_in digits (Negative value) x longer ≡ next_negative value x longer
+AreNegatives digits = (value x : ℕ) (text : List ℕ) → next_in digits (Negative value) x (longer_in digits (Negative value) text) ≡ next_negative value x (makes_longer digits text)
 
 abbrev pub AreDecimal : Digits → Type 0
 AreDecimal digits = (x : ℕ) → is_more digits x ≡ is_decimal x
@@ -40,7 +40,7 @@ pub number_read : (digits : Digits) → AreNumbers digits → AreDecimal digits 
 number_read digits same decimal value [] rest all small apart = rw apart refl
 number_read digits same decimal value (d ∷ text) rest all small apart =
     let more = grows (10 * value + (d - 48)) text in
-    rw (decimal d) (rw (all.0) (rw (same value d (makes_longer digits (text ++ rest))) (rw (all.0) (rw (few 255 (10 * value + (d - 48)) (omega (arith, more, small)))
+    rw (decimal d) (rw (all.0) (rw (same value d (text ++ rest)) (rw (all.0) (rw (few 255 (10 * value + (d - 48)) (omega (arith, more, small)))
     (number_read digits same decimal (10 * value + (d - 48)) text rest all.1 small apart)))))
 
 pub negative_read : (digits : Digits) → AreNegatives digits → AreDecimal digits → (value : ℕ) (text rest : List ℕ) → AllByRecursion (λ digit. is_decimal digit ≡ true) text
@@ -50,7 +50,7 @@ negative_read digits same decimal value [] rest all some small apart =
     rw apart (rw not_zero refl)
 negative_read digits same decimal value (d ∷ text) rest all some small apart =
     let more = grows (10 * value + (d - 48)) text in
-    rw (decimal d) (rw (all.0) (rw (same value d (makes_longer digits (text ++ rest))) (rw (all.0) (rw (few 128 (10 * value + (d - 48)) (omega (arith, more, small)))
+    rw (decimal d) (rw (all.0) (rw (same value d (text ++ rest)) (rw (all.0) (rw (few 128 (10 * value + (d - 48)) (omega (arith, more, small)))
     (negative_read digits same decimal (10 * value + (d - 48)) text rest all.1 some small apart)))))
 
 -- ---- What is read is written
@@ -72,11 +72,11 @@ number_or_not digits same decimal value [] small = inr (record { written = []; r
 number_or_not digits same decimal value (x ∷ text) small = elim (cases_Bool (is_decimal x)) [
   | inr other ↦ inr (record { written = []; rest = x ∷ text; all = tt; small = small; apart = decimal x ∙ other; whole = refl })
   | inl digit ↦ elim (cases_Bool (nat_lt 255 (10 * value + (x - 48)))) [
-    | inl many ↦ inl (rw (decimal x) (rw digit (rw (same value x (makes_longer digits text)) (rw digit (rw many refl)))))
+    | inl many ↦ inl (rw (decimal x) (rw digit (rw (same value x text) (rw digit (rw many refl)))))
     | inr fits ↦ (
         let next : 10 * value + (x - 48) < 256 = omega (arith, is_few 255 (10 * value + (x - 48)) fits) in
         elim (number_or_not digits same decimal (10 * value + (x - 48)) text next) [
-          | inl none ↦ inl (rw (decimal x) (rw digit (rw (same value x (makes_longer digits text)) (rw digit (rw fits none)))))
+          | inl none ↦ inl (rw (decimal x) (rw digit (rw (same value x text) (rw digit (rw fits none)))))
           | inr one ↦ inr (record { written = x ∷ one.written; rest = one.rest; all = (digit, one.all); small = one.small; apart = one.apart; whole = ap (λ t. x ∷ t) one.whole })
         ])
   ]
@@ -102,15 +102,15 @@ negative_or_not digits same decimal value [] small = elim (cases_Bool (value == 
 ]
 negative_or_not digits same decimal value (x ∷ text) small = elim (cases_Bool (is_decimal x)) [
   | inr other ↦ elim (cases_Bool (value == 0)) [
-    | inl zero ↦ inl (rw (decimal x) (rw other (rw zero (rw (same value x (makes_longer digits text)) (rw other refl)))))
+    | inl zero ↦ inl (rw (decimal x) (rw other (rw zero (rw (same value x text) (rw other refl)))))
     | inr some ↦ inr (record { written = []; rest = x ∷ text; all = tt; some = above value some; small = small; apart = decimal x ∙ other; whole = refl })
   ]
   | inl digit ↦ elim (cases_Bool (nat_lt 128 (10 * value + (x - 48)))) [
-    | inl many ↦ inl (rw (decimal x) (rw digit (rw (same value x (makes_longer digits text)) (rw digit (rw many refl)))))
+    | inl many ↦ inl (rw (decimal x) (rw digit (rw (same value x text) (rw digit (rw many refl)))))
     | inr fits ↦ (
         let next : 10 * value + (x - 48) < 129 = omega (arith, is_few 128 (10 * value + (x - 48)) fits) in
         elim (negative_or_not digits same decimal (10 * value + (x - 48)) text next) [
-          | inl none ↦ inl (rw (decimal x) (rw digit (rw (same value x (makes_longer digits text)) (rw digit (rw fits none)))))
+          | inl none ↦ inl (rw (decimal x) (rw digit (rw (same value x text) (rw digit (rw fits none)))))
           | inr one ↦ inr (record { written = x ∷ one.written; rest = one.rest; all = (digit, one.all); some = one.some; small = one.small; apart = one.apart; whole = ap (λ t. x ∷ t) one.whole })
         ])
   ]

@@ -1,11 +1,11 @@
 -- An octet that is written is the one that is read.
-use Rattle.std.proofs.Common.{◌≡◌, ◌≢◌, ℕ, ◌+◌, ◌-◌, ◌*◌, ◌<◌, ◌≤◌, true, false, Bool, List, [], ◌∷◌, ◌++◌, length, refl, sym, ap, ◌∙◌, append_assoc, inl, inr, arith}
+use Rattle.std.proofs.Common.{◌≡◌, ◌≢◌, ℕ, ◌+◌, ◌-◌, ◌*◌, ◌<◌, ◌≤◌, true, false, List, [], ◌∷◌, ◌++◌, length, refl, sym, ap, ◌∙◌, append_assoc, inl, inr, arith}
 use Rattle.std.specs.Prelude.{not, nat_lt, ◌==◌, ◌⊎◌}
 use Rattle.std.specs.List.{AllByRecursion}
 use Rattle.std.proofs.lemmas.Bool.{and_parts, cases_Bool, eqb-true, false≢true}
 use Rattle.std.proofs.lemmas.Bool.Decides.{nat_tests}
-use Rattle.fio_form.specs.Forms.{hex_value, is_blanks, is_decimal, is_fixed, is_hex, is_last, is_numeric, is_part}
-use Rattle.fio_form.specs.Octets.{makes_longer, next_in, next_negative, next_unsigned, next_steps, octets_from}
+use Rattle.fio_form.specs.Forms.{has_texts, hex_value, is_blanks, is_decimal, is_fixed, is_hex, is_last, is_numeric, is_part}
+use Rattle.fio_form.specs.Octets.{longer_in, makes_longer, next_in, next_negative, next_unsigned, octets_from, steps_at}
 use Rattle.fio_form.specs.Writing.{BeginsOctet, IsDecimalText, IsFixedText, IsNegativeText, IsNumberText, IsOctetText, decimal_value, value_in_base}
 use Rattle.fio_form.specs.declared.form.Digits.{Digits}
 use Rattle.fio_form.specs.declared.form.Digits.TheVariants as digits
@@ -14,11 +14,12 @@ use Rattle.fio_form.specs.declared.form.Step.TheVariants.{Octet}
 use Rattle.fio_form.specs.declared.form.Piece.{Piece}
 use Rattle.fio_form.specs.declared.form.Piece.TheVariants.{Character, Decimal, Hexadecimal, Blanks, Padded, Quote, Value}
 use Rattle.fio_form.specs.declared.octets.Begun.{Begun}
-use Rattle.fio_form.specs.declared.octets.Begun.TheVariants.{Nothing, Fixed, Number, Negative}
-use Rattle.fio_form.proofs.Fronts.{begins_part, decimal_hex, digit_apart, not_empty}
+use Rattle.fio_form.specs.declared.octets.Begun.TheVariants.{Nothing, Number, Negative}
+use Rattle.fio_form.proofs.Characters.{decimal_hex, digit_apart}
+use Rattle.fio_form.proofs.Fronts.{begins_part, not_empty}
 use Rattle.fio_form.proofs.FixedTexts.{IsFixedBy, fixed_or_not, fixed_read}
-use Rattle.fio_form.proofs.NumberTexts.{AreDecimal, AreNumbers, grows, negative_or_not, negative_read, number_or_not, number_read}
-use Rattle.fio_form.proofs.OneOctet.{At, Missing, after_found, fold_one, goes_on, read_one}
+use Rattle.fio_form.proofs.NumberTexts.{AreDecimal, AreNegatives, AreNumbers, grows, negative_or_not, negative_read, number_or_not, number_read}
+use Rattle.fio_form.proofs.OneOctet.{At, Missing, after_found, fold_one, go_between, go_on, read_one}
 
 -- ---- What is written is read
 
@@ -32,7 +33,24 @@ few most value small = grind (arith, nat_tests)
 
 -- what a first digit does
 abbrev IsFirst : Digits → Type 0
-IsFirst digits = (x : ℕ) (longer : Bool) → is_decimal x ≡ true → next_in digits Nothing x longer ≡ next_unsigned 0 x longer
+IsFirst digits = (x : ℕ) (text : List ℕ) → is_decimal x ≡ true → next_in digits Nothing x (longer_in digits Nothing text) ≡ next_unsigned 0 x (makes_longer digits text)
+
+longer_decimal : (begun : Begun) (text : List ℕ) → longer_in digits.Decimal begun text ≡ makes_longer digits.Decimal text
+longer_decimal begun [] = refl
+longer_decimal begun (x ∷ text) = refl
+
+longer_columns : (begun : Begun) (text : List ℕ) → longer_in digits.Columns begun text ≡ makes_longer digits.Columns text
+longer_columns begun [] = refl
+longer_columns begun (x ∷ text) = refl
+
+decimal_numbers : AreNumbers digits.Decimal
+decimal_numbers value x text = ap (next_unsigned value x) (longer_decimal (Number value) text)
+
+column_numbers : AreNumbers digits.Columns
+column_numbers value x text = ap (next_unsigned value x) (longer_columns (Number value) text)
+
+decimal_negatives : AreNegatives digits.Decimal
+decimal_negatives value x text = ap (next_negative value x) (longer_decimal (Negative value) text)
 
 number_one : (digits : Digits) → IsFirst digits → AreNumbers digits → AreDecimal digits → (octet : ℕ) (text rest : List ℕ) → IsNumberText octet text → makes_longer digits rest ≡ false
     → read_one digits Nothing (text ++ rest) ≡ At octet rest
@@ -40,7 +58,7 @@ number_one digits first same decimal octet [] rest is apart = absurd (is.0.0 ref
 number_one digits first same decimal octet (d ∷ text) rest is apart =
     let more = grows (10 * 0 + (d - 48)) text in
     let small : decimal_value (10 * 0 + (d - 48)) text < 256 = omega (arith, is.1, is.2) in
-    rw (first d (makes_longer digits (text ++ rest)) is.0.1.0) (rw (is.0.1.0) (rw (few 255 (10 * 0 + (d - 48)) (omega (arith, more, small)))
+    rw (first d (text ++ rest) is.0.1.0) (rw (is.0.1.0) (rw (few 255 (10 * 0 + (d - 48)) (omega (arith, more, small)))
     (number_read digits same decimal (10 * 0 + (d - 48)) text rest is.0.1.1 small apart ∙ ap (λ o. At o rest) (sym is.1))))
 
 negative_one : (octet : ℕ) (text rest : List ℕ) → IsNegativeText octet text → makes_longer digits.Decimal rest ≡ false → read_one digits.Decimal (Negative 0) (text ++ rest) ≡ At octet rest
@@ -48,8 +66,8 @@ negative_one octet [] rest is apart = absurd (is.0.0 refl)
 negative_one octet (d ∷ text) rest is apart =
     let more = grows (10 * 0 + (d - 48)) text in
     let small : decimal_value (10 * 0 + (d - 48)) text < 129 = is.3 in
-    rw (is.0.1.0) (rw (few 128 (10 * 0 + (d - 48)) (omega (arith, more, small)))
-    (negative_read digits.Decimal (λ value x longer. refl) (λ x. refl) (10 * 0 + (d - 48)) text rest is.0.1.1 is.2 small apart ∙ ap (λ o. At o rest) (sym is.1)))
+    rw (is.0.1.0) (rw (few 128 (10 * 0 + (d - 48)) (omega (arith, more, small))) (rw (longer_decimal (Negative 0) (text ++ rest))
+    (negative_read digits.Decimal decimal_negatives (λ x. refl) (10 * 0 + (d - 48)) text rest is.0.1.1 is.2 small apart ∙ ap (λ o. At o rest) (sym is.1))))
 
 not_sign : (x : ℕ) → is_decimal x ≡ true → (x == 45) ≡ false
 not_sign x digit = grind (arith, nat_tests)
@@ -58,21 +76,21 @@ not_blank : (x : ℕ) → is_decimal x ≡ true → (x == 32) ≡ false
 not_blank x digit = grind (arith, nat_tests)
 
 decimal_first : IsFirst digits.Decimal
-decimal_first x longer digit = rw (not_sign x digit) refl
+decimal_first x text digit = rw (not_sign x digit) (ap (next_unsigned 0 x) (longer_decimal Nothing text))
 
 column_first : IsFirst digits.Columns
-column_first x longer digit = rw (not_blank x digit) refl
+column_first x text digit = rw (not_blank x digit) (ap (next_unsigned 0 x) (longer_columns Nothing text))
 
 decimal_one : (octet : ℕ) (text rest : List ℕ) → IsDecimalText octet text → makes_longer digits.Decimal rest ≡ false → read_one digits.Decimal Nothing (text ++ rest) ≡ At octet rest
 decimal_one octet [] rest is apart = absurd is
 decimal_one octet (x ∷ text) rest is apart = elim is [
-  | inl number ↦ number_one digits.Decimal decimal_first (λ value x longer. refl) (λ x. refl) octet (x ∷ text) rest number apart
+  | inl number ↦ number_one digits.Decimal decimal_first decimal_numbers (λ x. refl) octet (x ∷ text) rest number apart
   | inr negative ↦ rw (negative.0) (negative_one octet text rest negative.1 apart)
 ]
 
 blanks_one : (octet : ℕ) (blanks number rest : List ℕ) → AllByRecursion (λ blank. blank ≡ 32) blanks → IsNumberText octet number → makes_longer digits.Columns rest ≡ false
     → read_one digits.Columns Nothing (blanks ++ (number ++ rest)) ≡ At octet rest
-blanks_one octet [] number rest all is apart = number_one digits.Columns column_first (λ value x longer. refl) (λ x. refl) octet number rest is apart
+blanks_one octet [] number rest all is apart = number_one digits.Columns column_first column_numbers (λ x. refl) octet number rest is apart
 blanks_one octet (blank ∷ blanks) number rest all is apart = rw (all.0) (blanks_one octet blanks number rest all.1 is apart)
 
 pub octet_one : (digits : Digits) (octet : ℕ) (text rest : List ℕ) → IsOctetText digits octet text → makes_longer digits rest ≡ false
@@ -84,13 +102,18 @@ octet_one digits.Decimal octet text rest is apart = decimal_one octet text rest 
 octet_one digits.Columns octet text rest is apart =
     ap (λ t. read_one digits.Columns Nothing (t ++ rest)) is.whole
     ∙ (ap (read_one digits.Columns Nothing) (append_assoc is.blanks is.number rest) ∙ blanks_one octet is.blanks is.number rest is.all is.is apart)
+octet_one digits.Short octet text rest is apart = absurd is
+octet_one digits.Prefixed octet text rest is apart = absurd is
+octet_one (digits.Text quote) octet text rest is apart = absurd is
+octet_one digits.Cells octet text rest is apart = absurd is
+octet_one digits.Sextets octet text rest is apart = absurd is
 
 pub octet_read : (digits : Digits) (cycle steps : List Step) (octet : ℕ) (text done rest : List ℕ) → IsOctetText digits octet text → makes_longer digits rest ≡ false
     → octets_from digits cycle (Octet ∷ steps) Nothing done (text ++ rest)
-    ≡ octets_from digits cycle (next_steps cycle steps) Nothing (done ++ octet ∷ []) rest
+    ≡ octets_from digits cycle (steps_at cycle steps rest) Nothing (done ++ octet ∷ []) rest
 octet_read digits cycle steps octet text done rest is apart =
     fold_one digits cycle steps Nothing done (text ++ rest)
-    ∙ ap (λ found. after_found found done (λ last rest. octets_from digits cycle (next_steps cycle steps) Nothing (done ++ last ∷ []) rest)) (octet_one digits octet text rest is apart)
+    ∙ ap (λ found. after_found found done (go_on digits cycle steps done) (go_between digits cycle steps done)) (octet_one digits octet text rest is apart)
 
 -- ---- What an octet begins with
 
@@ -145,12 +168,22 @@ octet_begins digits.Decimal octet text rest is piece last = decimal_begins octet
 octet_begins digits.Columns octet text rest is piece last =
     let parts = and_parts (not (is_numeric piece)) (not (is_blanks piece)) last in
     ap (λ t. begins_part piece (t ++ rest)) is.whole ∙ column_begins octet is.blanks is.number rest is.all is.is piece parts.0 parts.1
+octet_begins digits.Short octet text rest is piece last = absurd is
+octet_begins digits.Prefixed octet text rest is piece last = absurd is
+octet_begins (digits.Text quote) octet text rest is piece last = absurd is
+octet_begins digits.Cells octet text rest is piece last = absurd is
+octet_begins digits.Sextets octet text rest is piece last = absurd is
 
 some_text : (text : List ℕ) → text ≢ [] → 0 < length text
 some_text [] some = absurd (some refl)
 some_text (x ∷ text) some = omega arith
 
 pub octet_some : (digits : Digits) (octet : ℕ) (text : List ℕ) → IsOctetText digits octet text → 0 < length text
+octet_some digits.Short octet text is = absurd is
+octet_some digits.Prefixed octet text is = absurd is
+octet_some (digits.Text quote) octet text is = absurd is
+octet_some digits.Cells octet text is = absurd is
+octet_some digits.Sextets octet text is = absurd is
 octet_some digits.Pairs octet text is = omega (arith, is.0)
 octet_some digits.Octal octet text is = omega (arith, is.0)
 octet_some digits.Binary octet text is = omega (arith, is.0)
@@ -192,7 +225,7 @@ number_found : (digits : Digits) → IsFirst digits → AreNumbers digits → Ar
 number_found digits first same decimal is_text x text digit =
     let fits = few 255 (10 * 0 + (x - 48)) (omega (arith, digit_few x digit)) in
     elim (number_or_not digits same decimal (10 * 0 + (x - 48)) text (omega (arith, digit_few x digit))) [
-      | inl none ↦ inl (rw (first x (makes_longer digits text) digit) (rw digit (rw fits none)))
+      | inl none ↦ inl (rw (first x text digit) (rw digit (rw fits none)))
       | inr one ↦ inr (record {
         octet = decimal_value 0 (x ∷ one.written);
         written = x ∷ one.written;
@@ -209,8 +242,8 @@ negative_found sign (x ∷ text) same = elim (cases_Bool (is_decimal x)) [
   | inr other ↦ inl (rw other refl)
   | inl digit ↦ (
       let fits = few 128 (10 * 0 + (x - 48)) (omega (arith, digit_few x digit)) in
-      elim (negative_or_not digits.Decimal (λ value x longer. refl) (λ x. refl) (10 * 0 + (x - 48)) text (omega (arith, digit_few x digit))) [
-        | inl none ↦ inl (rw digit (rw fits none))
+      elim (negative_or_not digits.Decimal decimal_negatives (λ x. refl) (10 * 0 + (x - 48)) text (omega (arith, digit_few x digit))) [
+        | inl none ↦ inl (rw digit (rw fits (rw (longer_decimal (Negative 0) text) none)))
         | inr one ↦ inr (record {
           octet = 256 - decimal_value 0 (x ∷ one.written);
           written = sign ∷ (x ∷ one.written);
@@ -230,7 +263,7 @@ decimal_found (x ∷ text) = elim (cases_Bool (x == 45)) [
     | inr one ↦ inr one
   ]
   | inr plain ↦ elim (cases_Bool (is_decimal x)) [
-    | inl digit ↦ number_found digits.Decimal decimal_first (λ value x longer. refl) (λ x. refl) (λ octet d text is. inl is) x text digit
+    | inl digit ↦ number_found digits.Decimal decimal_first decimal_numbers (λ x. refl) (λ octet d text is. inl is) x text digit
     | inr other ↦ inl (rw plain (rw other refl))
   ]
 ]
@@ -250,59 +283,20 @@ column_found (x ∷ text) = elim (cases_Bool (x == 32)) [
     })
   ]
   | inr plain ↦ elim (cases_Bool (is_decimal x)) [
-    | inl digit ↦ number_found digits.Columns column_first (λ value x longer. refl) (λ x. refl)
+    | inl digit ↦ number_found digits.Columns column_first column_numbers (λ x. refl)
         (λ octet d text is. record { blanks = []; number = d ∷ text; all = tt; is = is; whole = refl }) x text digit
     | inr other ↦ inl (rw plain (rw other refl))
   ]
 ]
 
-pub octet_or_not : (digits : Digits) (text : List ℕ) → (read_one digits Nothing text ≡ Missing) ⊎ BeginsOctet digits [] text
-octet_or_not digits.Pairs text = fixed_found digits.Pairs 16 2 (λ begun x longer. refl) refl (omega arith) (λ octet text is. is) text
-octet_or_not digits.Octal text = fixed_found digits.Octal 8 3 (λ begun x longer. refl) refl (omega arith) (λ octet text is. is) text
-octet_or_not digits.Binary text = fixed_found digits.Binary 2 8 (λ begun x longer. refl) refl (omega arith) (λ octet text is. is) text
-octet_or_not digits.Decimal text = decimal_found text
-octet_or_not digits.Columns text = column_found text
-
--- ---- A digit that more come after goes on without them
-
-number_same : (value x : ℕ) (longer : Bool) → goes_on (next_unsigned value x longer) ≡ goes_on (next_unsigned value x false)
-number_same value x false = refl
-number_same value x true = elim (cases_Bool (is_decimal x)) [
-  | inr other ↦ rw other refl
-  | inl digit ↦ elim (cases_Bool (nat_lt 255 (10 * value + (x - 48)))) [
-    | inl many ↦ rw digit (rw many refl)
-    | inr fits ↦ rw digit (rw fits refl)
-  ]
-]
-
-negative_same : (value x : ℕ) (longer : Bool) → goes_on (next_negative value x longer) ≡ goes_on (next_negative value x false)
-negative_same value x false = refl
-negative_same value x true = elim (cases_Bool (is_decimal x)) [
-  | inr other ↦ rw other refl
-  | inl digit ↦ elim (cases_Bool (nat_lt 128 (10 * value + (x - 48)))) [
-    | inl many ↦ rw digit (rw many refl)
-    | inr fits ↦ elim (cases_Bool (10 * value + (x - 48) == 0)) [
-      | inl zero ↦ rw digit (rw fits (rw zero refl))
-      | inr some ↦ rw digit (rw fits (rw some refl))
-    ]
-  ]
-]
-
-pub goes_same : (digits : Digits) (begun : Begun) (x : ℕ) (longer : Bool) → goes_on (next_in digits begun x longer) ≡ goes_on (next_in digits begun x false)
-goes_same digits.Pairs begun x longer = refl
-goes_same digits.Octal begun x longer = refl
-goes_same digits.Binary begun x longer = refl
-goes_same digits.Decimal Nothing x longer = elim (cases_Bool (x == 45)) [
-  | inl sign ↦ rw sign refl
-  | inr plain ↦ rw plain (number_same 0 x longer)
-]
-goes_same digits.Decimal (Number value) x longer = number_same value x longer
-goes_same digits.Decimal (Negative value) x longer = negative_same value x longer
-goes_same digits.Decimal (Fixed value left) x longer = refl
-goes_same digits.Columns Nothing x longer = elim (cases_Bool (x == 32)) [
-  | inl blank ↦ rw blank refl
-  | inr plain ↦ rw plain (number_same 0 x longer)
-]
-goes_same digits.Columns (Number value) x longer = number_same value x longer
-goes_same digits.Columns (Negative value) x longer = refl
-goes_same digits.Columns (Fixed value left) x longer = refl
+pub octet_or_not : (digits : Digits) → has_texts digits ≡ true → (text : List ℕ) → (read_one digits Nothing text ≡ Missing) ⊎ BeginsOctet digits [] text
+octet_or_not digits.Pairs has text = fixed_found digits.Pairs 16 2 (λ begun x longer. refl) refl (omega arith) (λ octet text is. is) text
+octet_or_not digits.Octal has text = fixed_found digits.Octal 8 3 (λ begun x longer. refl) refl (omega arith) (λ octet text is. is) text
+octet_or_not digits.Binary has text = fixed_found digits.Binary 2 8 (λ begun x longer. refl) refl (omega arith) (λ octet text is. is) text
+octet_or_not digits.Decimal has text = decimal_found text
+octet_or_not digits.Columns has text = column_found text
+octet_or_not digits.Short has text = absurd (false≢true has)
+octet_or_not digits.Prefixed has text = absurd (false≢true has)
+octet_or_not (digits.Text quote) has text = absurd (false≢true has)
+octet_or_not digits.Cells has text = absurd (false≢true has)
+octet_or_not digits.Sextets has text = absurd (false≢true has)

@@ -1,50 +1,75 @@
 -- Steps through a cycle.
-use Rattle.std.proofs.Common.{◌≡◌, ◌<◌, ◌≤◌, ◌+◌, ℕ, List, [], ◌∷◌, ◌++◌, length, refl, arith, inl, inr}
-use Rattle.std.specs.Prelude.{◌==◌}
+use Rattle.std.proofs.Common.{◌≡◌, ◌<◌, ℕ, List, [], ◌∷◌, ◌++◌, length, sym, ap, ◌∙◌, append_assoc, arith, inl, inr}
+use Rattle.std.specs.Prelude.{◌==◌, take}
 use Rattle.std.proofs.lemmas.Bool.{cases_Bool}
-use Rattle.std.proofs.lemmas.List.{length-append}
-use Rattle.fio_form.specs.Octets.{next_steps, next_in, octets_from, by_next, makes_longer}
+use Rattle.std.proofs.lemmas.List.{append-nil, length-append, take_at}
+use Rattle.fio_form.specs.Octets.{steps_at, next_in, octets_from, by_next, longer_in}
 use Rattle.fio_form.specs.declared.form.Digits.{Digits}
 use Rattle.fio_form.specs.declared.form.Step.{Step}
-use Rattle.fio_form.specs.declared.form.Step.TheVariants.{Octet, Mark}
+use Rattle.fio_form.specs.declared.form.Step.TheVariants.{Octet, Mark, MaybeBlank}
 use Rattle.fio_form.specs.declared.octets.Begun.{Begun}
 use Rattle.fio_form.specs.declared.octets.Begun.TheVariants.{Nothing}
 use Rattle.fio_form.specs.declared.octets.NextDigit.{NextDigit}
-use Rattle.fio_form.specs.declared.octets.NextDigit.TheVariants.{More, Last, Stop}
-
--- if steps are left, they are next
-pub some_left : (cycle steps : List Step) → 0 < length steps → next_steps cycle steps ≡ steps
-some_left cycle [] some = absurd (omega arith)
-some_left cycle (step ∷ steps) some = refl
+use Rattle.fio_form.specs.declared.octets.NextDigit.TheVariants.{More, Last, Emit, Stop}
 
 -- ---- What is read goes on from the octets before it
 
-one_more : {n : ℕ} (octets : List ℕ) (value : ℕ) → length (octets ++ value ∷ []) ≤ n → length octets + 1 ≤ n
-one_more octets value h = omega (arith, h, length-append octets (value ∷ []))
+-- octets that go on with more
+pub record Extends (octets all : List ℕ) : Type 0 where
+  pub more : List ℕ
+  pub is : all ≡ octets ++ more
 
-by_longer : (next : NextDigit) (octets : List ℕ) (more : Begun → List ℕ) (last : ℕ → List ℕ)
-    → ((begun : Begun) → length octets ≤ length (more begun)) → ((value : ℕ) → length octets + 1 ≤ length (last value))
-    → length octets ≤ length (by_next next octets more last)
-by_longer (More begun) octets more last a b = a begun
-by_longer (Last value) octets more last a b = omega (arith, b value)
-by_longer Stop octets more last a b = omega arith
+same : (octets : List ℕ) → Extends octets octets
+same octets = record { more = []; is = sym (append-nil octets) }
 
-pub longer : (digits : Digits) (cycle steps : List Step) (begun : Begun) (octets text : List ℕ)
-    → length octets ≤ length (octets_from digits cycle steps begun octets text)
-longer digits cycle steps begun octets [] = omega arith
-longer digits cycle [] begun octets (x ∷ text) = omega arith
-longer digits cycle (Mark mark ∷ steps) begun octets (x ∷ text) = elim (cases_Bool (x == mark)) [
-  | inl same ↦ rw same (longer digits cycle (next_steps cycle steps) Nothing octets text)
-  | inr other ↦ rw other (omega arith)
+one_before : (octets : List ℕ) (value : ℕ) (all : List ℕ) → Extends (octets ++ value ∷ []) all → Extends octets all
+one_before octets value all on = record { more = value ∷ on.more; is = on.is ∙ append_assoc octets (value ∷ []) on.more }
+
+by_extended : (next : NextDigit) (octets : List ℕ) (more : Begun → List ℕ) (last : ℕ → List ℕ) (emit : ℕ → Begun → List ℕ)
+    → ((begun : Begun) → Extends octets (more begun)) → ((value : ℕ) → Extends (octets ++ value ∷ []) (last value))
+    → ((value : ℕ) (begun : Begun) → Extends (octets ++ value ∷ []) (emit value begun)) → Extends octets (by_next next octets more last emit)
+by_extended (More begun) octets more last emit a b c = a begun
+by_extended (Last value) octets more last emit a b c = one_before octets value (last value) (b value)
+by_extended (Emit value begun) octets more last emit a b c = one_before octets value (emit value begun) (c value begun)
+by_extended Stop octets more last emit a b c = same octets
+
+pub extends : (digits : Digits) (cycle steps : List Step) (begun : Begun) (octets text : List ℕ) → Extends octets (octets_from digits cycle steps begun octets text)
+extends digits cycle steps begun octets [] = same octets
+extends digits cycle [] begun octets (x ∷ text) = same octets
+extends digits cycle (Mark mark ∷ steps) begun octets (x ∷ text) = elim (cases_Bool (x == mark)) [
+  | inl is ↦ rw is (extends digits cycle (steps_at cycle steps text) Nothing octets text)
+  | inr other ↦ rw other (same octets)
 ]
-longer digits cycle (Octet ∷ steps) begun octets (x ∷ text) = by_longer (next_in digits begun x (makes_longer digits text)) octets
+extends digits cycle (MaybeBlank ∷ steps) begun octets (x ∷ text) = elim (cases_Bool (x == 32)) [
+  | inl is ↦ rw is (extends digits cycle (steps_at cycle steps text) Nothing octets text)
+  | inr other ↦ rw other (same octets)
+]
+extends digits cycle (Octet ∷ steps) begun octets (x ∷ text) = by_extended (next_in digits begun x (longer_in digits begun text)) octets
     (λ more. octets_from digits cycle (Octet ∷ steps) more octets text)
-    (λ last. octets_from digits cycle (next_steps cycle steps) Nothing (octets ++ last ∷ []) text)
-    (λ more. longer digits cycle (Octet ∷ steps) more octets text)
-    (λ last. one_more octets last (longer digits cycle (next_steps cycle steps) Nothing (octets ++ last ∷ []) text))
+    (λ last. octets_from digits cycle (steps_at cycle steps text) Nothing (octets ++ last ∷ []) text)
+    (λ last more. octets_from digits cycle (Octet ∷ steps) more (octets ++ last ∷ []) text)
+    (λ more. extends digits cycle (Octet ∷ steps) more octets text)
+    (λ last. extends digits cycle (steps_at cycle steps text) Nothing (octets ++ last ∷ []) text)
+    (λ last more. extends digits cycle (Octet ∷ steps) more (octets ++ last ∷ []) text)
+
+pub taken : {n : ℕ} (octets all : List ℕ) → Extends octets all → length octets ≡ n → octets ≡ take n all
+taken {n} octets all on full = sym (ap (take n) on.is ∙ take_at octets on.more n full)
+
+pub more_left : (octets : List ℕ) (value : ℕ) (all : List ℕ) → Extends (octets ++ value ∷ []) all → length octets < length all
+more_left octets value all on = omega (arith, ap length on.is, length-append (octets ++ value ∷ []) on.more, length-append octets (value ∷ []))
+
+pub some_octets : (value : ℕ) (all : List ℕ) → Extends (value ∷ []) all → all ≡ [] → ⊥
+some_octets value all on none = omega (arith, more_left [] value all on, ap length none)
 
 -- where an octet is complete, there is one more
-pub more_by_last : (digits : Digits) (cycle steps : List Step) (begun : Begun) (last x : ℕ) (octets text : List ℕ) → next_in digits begun x (makes_longer digits text) ≡ Last last
-    → length octets < length (octets_from digits cycle (Octet ∷ steps) begun octets (x ∷ text))
-more_by_last digits cycle steps begun last x octets text is =
-    rw is (omega (arith, one_more octets last (longer digits cycle (next_steps cycle steps) Nothing (octets ++ last ∷ []) text)))
+pub ended : (digits : Digits) (cycle steps : List Step) (begun : Begun) (last x : ℕ) (octets text : List ℕ) → next_in digits begun x (longer_in digits begun text) ≡ Last last
+    → Extends (octets ++ last ∷ []) (octets_from digits cycle (Octet ∷ steps) begun octets (x ∷ text))
+ended digits cycle steps begun last x octets text is = rw is (extends digits cycle (steps_at cycle steps text) Nothing (octets ++ last ∷ []) text)
+
+pub emitted : (digits : Digits) (cycle steps : List Step) (begun : Begun) (last x : ℕ) (more : Begun) (octets text : List ℕ) → next_in digits begun x (longer_in digits begun text) ≡ Emit last more
+    → Extends (octets ++ last ∷ []) (octets_from digits cycle (Octet ∷ steps) begun octets (x ∷ text))
+emitted digits cycle steps begun last x more octets text is = rw is (extends digits cycle (Octet ∷ steps) more (octets ++ last ∷ []) text)
+
+-- octets of which there are as many as have room are the first ones
+pub filled : {n : ℕ} (octets : List ℕ) (value : ℕ) (all : List ℕ) → Extends (octets ++ value ∷ []) all → length octets ≡ n → octets ≡ take n all
+filled octets value all on full = taken octets all (one_before octets value all on) full

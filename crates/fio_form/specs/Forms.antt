@@ -5,7 +5,7 @@ use Rattle.fio_form.specs.declared.form.Piece.TheVariants.{Character, Decimal, H
 use Rattle.fio_form.specs.declared.form.Digits.{Digits}
 use Rattle.fio_form.specs.declared.form.Digits.TheVariants as digits
 use Rattle.fio_form.specs.declared.form.Step.{Step}
-use Rattle.fio_form.specs.declared.form.Step.TheVariants.{Octet, Mark}
+use Rattle.fio_form.specs.declared.form.Step.TheVariants.{Octet, Mark, MaybeBlank}
 
 -- whether a character is a decimal digit
 abbrev pub is_decimal : ℕ → Bool
@@ -48,6 +48,11 @@ is_fixed digits.Octal = true
 is_fixed digits.Binary = true
 is_fixed digits.Decimal = false
 is_fixed digits.Columns = false
+is_fixed digits.Short = false
+is_fixed digits.Prefixed = false
+is_fixed (digits.Text quote) = false
+is_fixed digits.Cells = false
+is_fixed digits.Sextets = false
 
 -- whether there may be blanks before an octet, in its column
 abbrev pub is_padded : Digits → Bool
@@ -56,6 +61,24 @@ is_padded digits.Pairs = false
 is_padded digits.Octal = false
 is_padded digits.Binary = false
 is_padded digits.Decimal = false
+is_padded digits.Short = false
+is_padded digits.Prefixed = false
+is_padded (digits.Text quote) = false
+is_padded digits.Cells = false
+is_padded digits.Sextets = false
+
+-- whether octets are a text up to the quote that stands before the first one
+abbrev pub is_quoted : Digits → Bool
+is_quoted digits.Pairs = false
+is_quoted digits.Short = false
+is_quoted digits.Prefixed = false
+is_quoted digits.Decimal = false
+is_quoted digits.Columns = false
+is_quoted digits.Octal = false
+is_quoted digits.Binary = false
+is_quoted (digits.Text quote) = quote == 0
+is_quoted digits.Cells = false
+is_quoted digits.Sextets = false
 
 -- whether a character is one more digit of an octet that has no fixed number of them
 abbrev pub is_more : Digits → ℕ → Bool
@@ -106,24 +129,54 @@ are_shut digits (piece ∷ front) = is_shut digits piece front && are_shut digit
 
 -- ---- The cycle
 
--- whether steps end with an octet, if the step above is one or not
-abbrev pub ends_with_octet : Bool → List Step → Bool
-ends_with_octet above [] = above
-ends_with_octet above (Octet ∷ steps) = ends_with_octet true steps
-ends_with_octet above (Mark mark ∷ steps) = ends_with_octet false steps
+-- whether steps begin with an octet
+abbrev pub begins_with_octet : List Step → Bool
+begins_with_octet [] = false
+begins_with_octet (Octet ∷ steps) = true
+begins_with_octet (Mark mark ∷ steps) = false
+begins_with_octet (MaybeBlank ∷ steps) = false
 
--- whether there is a mark before each octet, and the first one after an octet is no decimal digit; `inside`: a mark is above
+-- whether what is between octets is the same each time: there is no blank that may be missing
+abbrev pub are_certain : List Step → Bool
+are_certain [] = true
+are_certain (Octet ∷ steps) = are_certain steps
+are_certain (Mark mark ∷ steps) = are_certain steps
+are_certain (MaybeBlank ∷ steps) = false
+
+-- whether there is a mark after each octet, of which the first one is no decimal digit; `inside`: a mark is above
 abbrev pub are_apart : Bool → List Step → Bool
-are_apart inside [] = true
+are_apart inside [] = inside
 are_apart inside (Octet ∷ steps) = inside && are_apart false steps
 are_apart inside (Mark mark ∷ steps) = (inside || not (is_decimal mark)) && are_apart true steps
+are_apart inside (MaybeBlank ∷ steps) = false
 
 -- whether octets can be told apart: always, if each has a fixed number of digits
 abbrev pub are_separate : Digits → List Step → Bool
-are_separate digits cycle = is_fixed digits || are_apart false cycle
+are_separate digits cycle = is_fixed digits || are_apart true cycle
 
 -- ---- The form
 
--- whether these are a front and a cycle of a form
+-- whether the texts of an octet are defined by themselves, and not only by what each character does
+abbrev pub has_texts : Digits → Bool
+has_texts digits.Pairs = true
+has_texts digits.Octal = true
+has_texts digits.Binary = true
+has_texts digits.Decimal = true
+has_texts digits.Columns = true
+has_texts digits.Short = false
+has_texts digits.Prefixed = false
+has_texts (digits.Text quote) = false
+has_texts digits.Cells = false
+has_texts digits.Sextets = false
+
+-- whether the lines of a form are defined by the texts of its octets and of what is between them
+abbrev pub has_spelling : Digits → List Step → Bool
+has_spelling digits cycle = has_texts digits && are_certain cycle
+
+-- whether a text of such a form can be read in one way only
+abbrev pub is_clear : List Piece → Digits → List Step → Bool
+is_clear front digits cycle = are_shut digits front && are_separate digits cycle
+
+-- whether a form may have this front, these digits and this cycle
 abbrev pub is_form : List Piece → Digits → List Step → Bool
-is_form front digits cycle = are_shut digits front && (ends_with_octet false cycle && are_separate digits cycle)
+is_form front digits cycle = begins_with_octet cycle && (not (has_spelling digits cycle) || is_clear front digits cycle)

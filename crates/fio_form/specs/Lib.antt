@@ -1,5 +1,11 @@
 pub mod Forms
+pub mod Copies
 pub mod Fronts
+pub mod Texts
 pub mod Octets
+pub mod Messages
+pub mod Wholes
+pub mod Bare
 pub mod Reading
+pub mod Said
 pub mod Writing

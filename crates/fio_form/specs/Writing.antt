@@ -1,10 +1,11 @@
 -- What a logger of a form writes.
-use Rattle.std.specs.Prelude.{ℕ, ◌+◌, ◌-◌, ◌*◌, ◌<◌, ◌≡◌, ◌≢◌, ◌⊎◌, Bool, true, false, nat_lt, List, [], ◌∷◌, ◌++◌, Option, Some, None, length, map}
+use Rattle.std.specs.Prelude.{ℕ, ◌+◌, ◌-◌, ◌*◌, ◌<◌, ◌≡◌, ◌≢◌, ◌⊎◌, Bool, true, false, not, ◌&&◌, nat_lt, List, [], ◌∷◌, ◌++◌, Option, Some, None, length, map}
 use Rattle.std.specs.List.{AllByRecursion}
-use Rattle.fio_form.specs.Forms.{hex_value, is_space_or_tab, is_decimal, is_hex, is_quotation}
+use Rattle.fio_form.specs.Forms.{has_spelling, hex_value, is_space_or_tab, is_decimal, is_hex, is_quotation}
 use Rattle.fio_form.specs.Fronts.{has_value}
 use Rattle.fio_form.specs.Octets.{makes_longer}
-use Rattle.fio_form.specs.Reading.{LineSaid, Frame, Other, ends_in_form, is_message}
+use Rattle.fio_form.specs.Messages.{is_message}
+use Rattle.fio_form.specs.Reading.{LineSaid, Frame, Other, ends_in_form, is_bare, octets_by, said_in_octets}
 use Rattle.fio_form.specs.declared.form.LineForm.{LineForm}
 use Rattle.fio_form.specs.declared.form.Piece.{Piece}
 use Rattle.fio_form.specs.declared.form.Piece.TheVariants.{Character, Decimal, Hexadecimal, Blanks, Padded, Quote, Value}
@@ -50,7 +51,7 @@ AreFrontTexts values [] (text ∷ texts) = ⊥
 AreFrontTexts values (piece ∷ front) [] = ⊥
 AreFrontTexts values (piece ∷ front) (text ∷ texts) = IsPiece values piece text × AreFrontTexts values front texts
 
--- these texts, one after the other
+-- some texts, one after the other
 abbrev pub joined : List (List ℕ) → List ℕ
 joined [] = []
 joined (text ∷ texts) = text ++ joined texts
@@ -100,6 +101,11 @@ IsOctetText digits.Octal octet text = IsFixedText 8 3 octet text
 IsOctetText digits.Binary octet text = IsFixedText 2 8 octet text
 IsOctetText digits.Decimal octet text = IsDecimalText octet text
 IsOctetText digits.Columns octet text = IsColumnText octet text
+IsOctetText digits.Short octet text = ⊥
+IsOctetText digits.Prefixed octet text = ⊥
+IsOctetText (digits.Text quote) octet text = ⊥
+IsOctetText digits.Cells octet text = ⊥
+IsOctetText digits.Sextets octet text = ⊥
 
 -- a text for each octet
 abbrev pub AreOctetTexts : Digits → List ℕ → List (List ℕ) → Type 0
@@ -108,10 +114,11 @@ AreOctetTexts digits [] (text ∷ texts) = ⊥
 AreOctetTexts digits (octet ∷ octets) [] = ⊥
 AreOctetTexts digits (octet ∷ octets) (text ∷ texts) = IsOctetText digits octet text × AreOctetTexts digits octets texts
 
--- What is before each octet but the first, in turn: the others, then `first`, and again. As `", 0x"`; or seven times one blank, and two.
+-- What is after each octet and before the next one, in turn: `first`, the others, and again. As `", 0x"`; or seven times one
+-- blank, and two.
 abbrev pub cycle_of : List (List ℕ) → List Step
 cycle_of [] = []
-cycle_of (gap ∷ gaps) = map Mark gap ++ Octet ∷ cycle_of gaps
+cycle_of (gap ∷ gaps) = Octet ∷ (map Mark gap ++ cycle_of gaps)
 
 -- octets after others, by the gaps that are left
 abbrev pub more_text : List ℕ → List (List ℕ) → List (List ℕ) → List (List ℕ) → List ℕ
@@ -137,9 +144,20 @@ pub record BeginsOctet (digits : Digits) (gap text : List ℕ) : Type 0 where
 
 -- ---- The line
 
+-- Whether lines of a form are defined by what is written: a text for each octet and for what is between them. Else (literals,
+-- cells, base64 and short hexadecimal numbers; a blank that may be missing; a front that may begin anywhere; words whose octets
+-- are exchanged) they are defined by what each character does.
+abbrev pub is_spelled : LineForm → Bool
+is_spelled form = has_spelling form.digits form.cycle.items && (not form.is_anywhere && not form.is_swapped)
+
+-- one of two, by a test
+abbrev pub OneOf : Bool → Type 0 → Type 0 → Type 0
+OneOf true A B = A
+OneOf false A B = B
+
 -- These are the octets that a form has in a line: the line is a text for each piece of the front, a text for each octet with
 -- the gaps between them in turn, and a tail that does not go on with a gap and an octet.
-pub record AreOctetsIn (form : LineForm) (octets line : List ℕ) : Type 0 where
+pub record AreSpelledIn (form : LineForm) (octets line : List ℕ) : Type 0 where
   pub front : List (List ℕ)
   pub first : List ℕ
   pub others : List (List ℕ)
@@ -149,9 +167,18 @@ pub record AreOctetsIn (form : LineForm) (octets line : List ℕ) : Type 0 where
   pub pieces : AreFrontTexts form.values.items form.front.items front
   pub gaps : form.cycle.items ≡ cycle_of (first ∷ others)
   pub spelled : AreOctetTexts form.digits octets (initial ∷ texts)
-  pub ends : BeginsOctet form.digits (next_gap first others others texts) tail → ⊥
+  pub ends : BeginsOctet form.digits (next_gap first others [] texts) tail → ⊥
   pub apart : makes_longer form.digits tail ≡ false
-  pub whole : line ≡ joined front ++ (initial ++ (more_text first others others texts ++ tail))
+  pub whole : line ≡ joined front ++ (initial ++ (more_text first others [] texts ++ tail))
+
+-- These are the octets that a form has in a line, by what each character does.
+pub record AreFoundIn (form : LineForm) (octets line : List ℕ) : Type 0 where
+  pub some : octets ≢ []
+  pub is : octets_by form line ≡ octets
+
+-- these are the octets that a form has in a line
+abbrev pub AreOctetsIn : LineForm → List ℕ → List ℕ → Type 0
+AreOctetsIn form octets line = OneOf (is_spelled form) (AreSpelledIn form octets line) (AreFoundIn form octets line)
 
 -- a form has a line: it has octets there
 pub record Has (form : LineForm) (line : List ℕ) : Type 0 where
@@ -160,13 +187,23 @@ pub record Has (form : LineForm) (line : List ℕ) : Type 0 where
 
 -- A logger of a form writes a line of a message: its octets are some that are before the message by the form, the message, and
 -- some after it.
-pub record IsWrittenLine (form : LineForm) (message line : List ℕ) : Type 0 where
+pub record IsBareLine (form : LineForm) (message line : List ℕ) : Type 0 where
   pub header : List ℕ
   pub check : List ℕ
   pub run : AreOctetsIn form (header ++ (message ++ check)) line
   pub before : length header ≡ form.before
   pub after : length check ≡ form.after
   pub encodes : is_message message ≡ true
+
+-- The octets of a line are a frame of the wire, or words with a 0 too many, and say this message.
+pub record IsWrappedLine (form : LineForm) (message line : List ℕ) : Type 0 where
+  pub octets : List ℕ
+  pub run : AreOctetsIn form octets line
+  pub said : said_in_octets form octets ≡ Frame message
+
+-- a logger of a form writes a line of a message
+abbrev pub IsWrittenLine : LineForm → List ℕ → List ℕ → Type 0
+IsWrittenLine form message line = OneOf (is_bare form) (IsBareLine form message line) (IsWrappedLine form message line)
 
 -- the first of some forms that has the line writes it of a message
 pub record IsWrittenBy (forms : List LineForm) (message line : List ℕ) : Type 0 where
@@ -195,13 +232,13 @@ AreLines forms [] (message ∷ messages) = ⊥
 AreLines forms (line ∷ lines) [] = ⊥
 AreLines forms (line ∷ lines) (message ∷ messages) = IsLine forms line message × AreLines forms lines messages
 
--- what such a line says
+-- what a line says that is written of a message, or of nothing
 abbrev pub frame_or_other : Option (List ℕ) → LineSaid
 frame_or_other None = Other
 frame_or_other (Some message) = Frame message
 
 -- the octets that a form has in a line are those before its message, the message and those after it
-pub record IsKept (form : LineForm) (octets : List ℕ) (said : LineSaid) : Type 0 where
+pub record IsKeptBare (form : LineForm) (octets : List ℕ) (said : LineSaid) : Type 0 where
   pub header : List ℕ
   pub message : List ℕ
   pub check : List ℕ
@@ -209,3 +246,13 @@ pub record IsKept (form : LineForm) (octets : List ℕ) (said : LineSaid) : Type
   pub before : length header ≡ form.before
   pub after : length check ≡ form.after
   pub frame : said ≡ Frame message
+
+-- the octets that a form has in a line are a frame of the wire with this message, or its words
+pub record IsKeptWrapped (form : LineForm) (octets : List ℕ) (said : LineSaid) : Type 0 where
+  pub message : List ℕ
+  pub is : said_in_octets form octets ≡ Frame message
+  pub frame : said ≡ Frame message
+
+-- the octets that a form has in a line are in the frame that it says, before the message or after it
+abbrev pub IsKept : LineForm → List ℕ → LineSaid → Type 0
+IsKept form octets said = OneOf (is_bare form) (IsKeptBare form octets said) (IsKeptWrapped form octets said)

@@ -1,10 +1,7 @@
 //! Forms: how some lines of a log write the octets of messages.
-ghost use Rattle.std.specs.Prelude.{◌≡◌, ◌<◌, ◌⊎◌, true, false, [], IfSome, IfNone, length};
+ghost use Rattle.std.specs.Prelude.{◌≡◌, true};
 ghost use Rattle.fio_form.specs.Forms.{is_form};
-ghost use Rattle.fio_form.specs.declared.form.LineRows.TheVariants.{One};
-ghost use Rattle.fio_form.specs.declared.form.TheConstants.{CYCLE_STEPS, FRONT_PIECES};
 
-use crate::wholeness::is_form;
 use arrayvec::ArrayVec;
 
 /// The most pieces of a front.
@@ -42,6 +39,12 @@ pub enum Digits {
     /// Two hexadecimal digits: `0c`.
     #[default]
     Pairs,
+    /// A hexadecimal number without zeros before it, as `printf("%x")` has it: `c`; an octet above 127 may have 32 bits with a
+    /// sign: `ffffffb6`. No letter or digit stands behind it.
+    Short,
+    /// `0x` and a hexadecimal number of one or two digits, or `0` alone, as `printf("%#x")` has it: `0xc`. No letter or digit
+    /// stands behind it.
+    Prefixed,
     /// A decimal number: `12`; an octet above 127 may be one below 0: `-74`.
     Decimal,
     /// A decimal number with blanks before it or not, at the right end of its column: ` 12`.
@@ -50,6 +53,14 @@ pub enum Digits {
     Octal,
     /// Eight binary digits: `00001100`.
     Binary,
+    /// A character of a literal or an escape: `<`, `\x0c`, `\f`, `\14`, `\u000c`, up to this quote; a line feed: to the end of the
+    /// line; 0: to the quote that stands before the first one. An octal escape of one digit has no 8 or 9 behind it, as
+    /// the decimal number of `\182` would.
+    Text(u8),
+    /// A character, an escape of one letter, or three octal digits, at the right end of four columns, as `od -c` has them.
+    Cells,
+    /// A character of base64, which are four for three octets.
+    Sextets,
 }
 
 /// A step of the *cycle*: what is written of some octets and between them, after which it begins again. A cycle begins with
@@ -69,6 +80,8 @@ pub enum Step {
     Octet,
     /// This character between two octets.
     Mark(u8),
+    /// A blank or nothing.
+    MaybeBlank,
 }
 
 /// How a message continues in the lines after its first one.
@@ -77,14 +90,25 @@ pub enum LineRows {
     /// It does not: a message is one line.
     #[default]
     One,
-    /// Each row has the form's front, whose first number is that of the row above and the number of octets of that row.
-    Offset,
+    /// Each row has the form's front, of which a number is the offset of its first octet: it grows by the octets of the row
+    /// above. All rows but the last have this width. Of a dump that begins at 0, a row with another offset that goes on with
+    /// none above begins no message.
+    Offset {
+        number: u8,
+        base: u8,
+        width: u8,
+        begins_at_zero: bool,
+    },
     /// Each row has the form's front, and each but the last has this number of octets.
     Wrapped(u8),
     /// Each row but the first is nothing but octets, with blanks around them.
     Bare,
     /// Each row has the form's front and any number of octets.
     Pieces,
+    /// The octets of all lines of such forms are one stream, which is divided into messages.
+    Stream,
+    /// The octets of all lines of such forms are one stream of frames between flags.
+    Flags,
 }
 
 /// How some lines of a log are written: the front, then octets in a notation, of which some before and after are no part of
@@ -99,44 +123,19 @@ pub struct LineForm {
     pub(crate) cycle: ArrayVec<Step, CYCLE_STEPS>,
     /// The values of each `Piece::Value` of the front.
     pub values: ArrayVec<u32, FRONT_VALUES>,
+    /// Whether the front may begin anywhere in the line: then the first place counts behind which an octet is.
+    pub is_anywhere: bool,
     /// The number of octets before the message: an address, a packet's header.
     pub before: u8,
     /// The number of octets after the message: a check.
     pub after: u8,
+    /// Whether the octets behind those before the message are a frame of the wire, with its flags or without.
+    pub is_framed: bool,
     /// How a message continues in further lines.
     pub rows: LineRows,
+    /// Whether the octets are written as words of 16 bits, the lower octet last, of which the last one may have a 0 too many.
+    pub is_swapped: bool,
+    /// Whether each message repeats the one above it.
+    pub is_echo: bool,
     ghost whole: { is_form front.items digits cycle.items ≡ true },
-}
-
-impl LineForm {
-    /// Returns the form of lines with this front and these octets: messages of one line, with no octets before and after
-    /// them, and no values. `None` if it is no form: a piece of the front does not end where the next one begins, the cycle
-    /// does not end with an octet, numbers of no fixed width have no mark between them; or if there are too many pieces or steps.
-    pub fn new(front: &[Piece], digits: Digits, cycle: &[Step]) -> Option<LineForm>
-        ensures front { IfSome result (λ form. form.front.items ≡ front.now) }
-        ensures digits { IfSome result (λ form. form.digits ≡ digits) }
-        ensures cycle { IfSome result (λ form. form.cycle.items ≡ cycle.now) }
-        ensures rest { IfSome result (λ form. (form.values.items ≡ []) × (form.before ≡ 0) × (form.after ≡ 0) × (form.rows ≡ One)) }
-        ensures none { IfNone result ((is_form front.now digits cycle.now ≡ false)
-            ⊎ (FRONT_PIECES < length front.now) ⊎ (CYCLE_STEPS < length cycle.now)) }
-    {
-        if !is_form(front, digits, cycle) {
-            return None;
-        }
-        let Ok(front) = ArrayVec::try_from(front) else {
-            return None;
-        };
-        let Ok(cycle) = ArrayVec::try_from(cycle) else {
-            return None;
-        };
-        Some(LineForm {
-            front,
-            digits,
-            cycle,
-            values: ArrayVec::new(),
-            before: 0,
-            after: 0,
-            rows: LineRows::One,
-        })
-    }
 }

@@ -1,26 +1,34 @@
 //! The front of a line.
-ghost use Rattle.std.specs.Prelude.{◌≡◌, ◌<◌, ◌≤◌, Some, None, [], true, false, IfSome, IfNone, drop, take, length};
-ghost use Rattle.fio_form.specs.Forms.{hex_value, is_space_or_tab, is_decimal, is_part};
+ghost use Rattle.std.specs.Prelude.{◌≡◌, ◌<◌, ◌≤◌, ◌-◌, Some, None, [], true, false, IfSome, IfNone, drop, take, length};
+ghost use Rattle.fio_form.specs.Forms.{hex_value, is_space_or_tab, is_decimal, is_hex, is_numeric, is_part};
 ghost use Rattle.fio_form.specs.Fronts.{after_digits, after_front, after_piece, has_value, is_piece, past, past_piece, taken_parts, value_of};
 ghost use Rattle.fio_form.specs.declared.form.Piece.TheVariants.{Blanks};
 ghost use Rattle.fio_form.specs.Reading.{is_empty};
 ghost use Rattle.fio_form.specs.declared.front.TheConstants.{VALUE_DIGITS};
 
-use crate::form::Piece;
+use crate::form::{LineForm, Piece};
 
 /// The most digits of a number that has one of a form's values.
 pub(crate) const VALUE_DIGITS: usize = 8;
 
 /// Returns whether a character is a decimal digit.
-pub(crate) fn is_decimal(character: u8) -> bool
+pub fn is_decimal(character: u8) -> bool
     ensures { result ≡ is_decimal character }
 {
     matches!(character, b'0'..=b'9')
 }
 
+/// Returns whether a character is a space or a tab.
+pub fn is_space_or_tab(character: u8) -> bool
+    ensures { result ≡ is_space_or_tab character }
+{
+    matches!(character, b' ' | b'\t')
+}
+
 /// Returns the value of a hexadecimal digit; 16 for any other character.
-pub(crate) fn hex_value(character: u8) -> u8
-    ensures { result ≡ hex_value character }
+pub fn hex_value(character: u8) -> u8
+    ensures value { result ≡ hex_value character }
+    ensures most { result ≤ 16 }
 {
     match character {
         b'0'..=b'9' => character - 48,
@@ -30,8 +38,15 @@ pub(crate) fn hex_value(character: u8) -> u8
     }
 }
 
+/// Returns whether a character is a hexadecimal digit.
+pub fn is_hex(character: u8) -> bool
+    ensures { result ≡ is_hex character }
+{
+    hex_value(character) != 16
+}
+
 /// Returns the number that hexadecimal digits are.
-fn value_of(digits: &[u8]) -> u32
+fn hex_number(digits: &[u8]) -> u32
     requires { length digits.now ≤ VALUE_DIGITS }
     ensures { result ≡ value_of 0 digits.now }
 {
@@ -48,7 +63,7 @@ fn value_of(digits: &[u8]) -> u32
 fn has_value(values: &[u32], digits: &[u8]) -> bool
     ensures { result ≡ has_value values.now digits.now }
 {
-    digits.len() <= VALUE_DIGITS && values.contains(&value_of(digits))
+    digits.len() <= VALUE_DIGITS && values.contains(&hex_number(digits))
 }
 
 /// Returns the length of the digits that a text begins with.
@@ -57,7 +72,7 @@ fn digits_in(text: &[u8]) -> Option<usize>
     ensures within { IfSome result (λ count. count ≤ length text.now) }
     ensures none { IfNone result (after_digits text.now ≡ None) }
 {
-    if text.is_empty() || hex_value(text[0]) == 16 {
+    if text.is_empty() || !is_hex(text[0]) {
         return None;
     }
     Some(Piece::Hexadecimal.count_in(text))
@@ -77,20 +92,30 @@ fn padded_in(text: &[u8]) -> Option<usize>
 }
 
 impl Piece {
+    /// Returns whether the piece is a number.
+    pub fn is_numeric(self) -> bool
+        ensures { result ≡ is_numeric self }
+    {
+        matches!(
+            self,
+            Piece::Decimal | Piece::Hexadecimal | Piece::Padded | Piece::Value
+        )
+    }
+
     /// Returns whether a character can be one of several of this piece.
-    pub(crate) fn is_part(self, character: u8) -> bool
+    pub fn is_part(self, character: u8) -> bool
         ensures { result ≡ is_part self character }
     {
         match self {
             Piece::Character(_) | Piece::Quote => false,
             Piece::Decimal => is_decimal(character),
-            Piece::Hexadecimal | Piece::Padded | Piece::Value => hex_value(character) != 16,
-            Piece::Blanks => matches!(character, b' ' | b'\t'),
+            Piece::Hexadecimal | Piece::Padded | Piece::Value => is_hex(character),
+            Piece::Blanks => is_space_or_tab(character),
         }
     }
 
     /// Returns how many characters of this piece a text begins with.
-    fn count_in(self, text: &[u8]) -> usize
+    pub(crate) fn count_in(self, text: &[u8]) -> usize
         ensures taken_parts { taken_parts self text.now ≡ take result text.now }
         ensures past { past self text.now ≡ drop result text.now }
         ensures within { result ≤ length text.now }
@@ -150,20 +175,107 @@ impl Piece {
     }
 }
 
-/// Returns where the front ends that a line begins with.
-pub(crate) fn front_in(values: &[u32], front: &[Piece], line: &[u8]) -> Option<usize>
-    ensures some { IfSome result (λ place. after_front values.now front.now line.now ≡ Some (drop place line.now)) }
-    ensures within { IfSome result (λ place. place ≤ length line.now) }
-    ensures none { IfNone result (after_front values.now front.now line.now ≡ None) }
+/// Returns where the characters of a piece end that a text has from a place on.
+fn end_of(piece: Piece, text: &[u8], place: usize) -> usize
+    requires { place ≤ length text.now }
+    ensures past { drop result text.now ≡ past piece (drop place text.now) }
+    ensures within { (place ≤ result) × (result ≤ length text.now) }
+{
+    let mut end = place;
+    'characters: while end < text.len() && piece.is_part(text[end]) {
+        end += 1;
+    }
+    end
+}
+
+/// Returns where the hexadecimal digits end that a text has from a place on, if it has some.
+fn digits_end(text: &[u8], place: usize) -> Option<usize>
+    requires { place ≤ length text.now }
+    ensures some { IfSome result (λ end. after_digits (drop place text.now) ≡ Some (drop end text.now)) }
+    ensures within { IfSome result (λ end. end ≤ length text.now) }
+    ensures none { IfNone result (after_digits (drop place text.now) ≡ None) }
+{
+    if place == text.len() || !is_hex(text[place]) {
+        return None;
+    }
+    Some(end_of(Piece::Hexadecimal, text, place + 1))
+}
+
+/// Returns where a piece ends that a text has at a place. Those that most fronts have are read without a call of `length_in`.
+fn piece_end(piece: Piece, values: &[u32], text: &[u8], place: usize) -> Option<usize>
+    requires { place ≤ length text.now }
+    ensures some { IfSome result (λ end. after_piece values.now piece (drop place text.now) ≡ Some (drop end text.now)) }
+    ensures within { IfSome result (λ end. end ≤ length text.now) }
+    ensures none { IfNone result (after_piece values.now piece (drop place text.now) ≡ None) }
+{
+    if place == text.len() {
+        return None;
+    }
+    match piece {
+        Piece::Character(character) => if text[place] == character {
+            Some(place + 1)
+        } else {
+            None
+        },
+        Piece::Hexadecimal => digits_end(text, place),
+        Piece::Padded => digits_end(text, end_of(Piece::Blanks, text, place)),
+        Piece::Blanks if is_space_or_tab(text[place]) => Some(end_of(piece, text, place + 1)),
+        Piece::Blanks => None,
+        piece => match piece.length_in(values, &text[place..]) {
+            Some(count) => Some(place + count),
+            None => None,
+        },
+    }
+}
+
+/// Returns where pieces end that a text begins with.
+fn after_pieces(values: &[u32], pieces: &[Piece], text: &[u8]) -> Option<usize>
+    ensures some { IfSome result (λ place. after_front values.now pieces.now text.now ≡ Some (drop place text.now)) }
+    ensures within { IfSome result (λ place. place ≤ length text.now) }
+    ensures none { IfNone result (after_front values.now pieces.now text.now ≡ None) }
 {
     let mut place = 0;
     let mut at = 0;
-    'pieces: while at < front.len() {
-        match front[at].length_in(values, &line[place..]) {
-            Some(count) => place += count,
+    'pieces: while at < pieces.len() {
+        match piece_end(pieces[at], values, text, place) {
+            Some(end) => place = end,
             None => return None,
         }
         at += 1;
     }
     Some(place)
+}
+
+/// Returns where the front of a form ends that a text begins with.
+pub fn front_in(form: &LineForm, text: &[u8]) -> Option<usize>
+    ensures some { IfSome result (λ place. after_front form.now.values.items form.now.front.items text.now ≡ Some (drop place text.now)) }
+    ensures within { IfSome result (λ place. place ≤ length text.now) }
+    ensures none { IfNone result (after_front form.now.values.items form.now.front.items text.now ≡ None) }
+{
+    after_pieces(&form.values, &form.front, text)
+}
+
+/// Returns the pieces of a front from one on up to another.
+fn pieces_of(front: &[Piece], from: usize, to: usize) -> &[Piece]
+    ensures { result.now ≡ take (to - from) (drop from front.now) }
+{
+    if to <= from {
+        return &front[..0];
+    }
+    if front.len() <= from {
+        return &front[..0];
+    }
+    if to < front.len() {
+        return &front[from..to];
+    }
+    &front[from..]
+}
+
+/// Returns where the pieces of a front end, from one on up to another, that a text begins with.
+pub fn pieces_in(form: &LineForm, from: usize, to: usize, text: &[u8]) -> Option<usize>
+    ensures some { IfSome result (λ place. after_front form.now.values.items (take (to - from) (drop from form.now.front.items)) text.now ≡ Some (drop place text.now)) }
+    ensures within { IfSome result (λ place. place ≤ length text.now) }
+    ensures none { IfNone result (after_front form.now.values.items (take (to - from) (drop from form.now.front.items)) text.now ≡ None) }
+{
+    after_pieces(&form.values, pieces_of(&form.front, from, to), text)
 }

@@ -1,8 +1,10 @@
 //! Laws of the definitions that the contracts cite: each function states one in its contract and does nothing.
-ghost use Rattle.std.specs.Prelude.{◌≡◌, ◌≢◌, ◌∷◌, ◌++◌, ◌⊎◌, ℕ, [], List, Option, true, false, map};
+ghost use Rattle.std.specs.Prelude.{◌≡◌, ◌≢◌, ◌<◌, length, ◌∷◌, ◌++◌, ◌⊎◌, ℕ, [], List, Option, true, false, map};
 ghost use Rattle.std.specs.List.{AllByRecursion};
 ghost use Rattle.fio_form.specs.declared.form.LineForm.{LineForm};
-ghost use Rattle.fio_form.specs.Reading.{Damaged, Frame, Other, read_line};
+ghost use Rattle.fio_form.specs.Reading.{Damaged, Frame, Other, read_line, said_in_octets, said_whole};
+ghost use Rattle.fio_form.specs.Wholes.{held_of, whole_of};
+ghost use Rattle.fio_form.specs.declared.octets.TheConstants.{OCTETS};
 ghost use Rattle.fio_form.specs.Writing.{AreLines, Has, IsKept, IsOther, AreOctetsIn, IsWrittenBy, frame_or_other};
 
 /// What a logger of a form writes is read back: a line that is written of a message by the first form that has it says exactly
@@ -43,8 +45,14 @@ pub fn octets_are_in_the_frame_or_the_line_is_damaged()
 {}
 
 /// A line that is cut is not taken for another one: what is left of a line that a form has, unless it is nothing, is a frame or
-/// damaged.
+/// damaged. Of a form whose front may begin anywhere, what is left may have no beginning of it.
 pub fn a_cut_line_is_not_another()
     ensures { (above : List LineForm) (form : LineForm) (below : List LineForm) (line rest : List ℕ)
-        → Has form (line ++ rest) → line ≢ [] → read_line (above ++ form ∷ below) line ≢ Other }
+        → form.is_anywhere ≡ false → Has form (line ++ rest) → line ≢ [] → read_line (above ++ form ∷ below) line ≢ Other }
+{}
+
+/// What octets are by `whole_of` is what a line says of which a form has these octets, if they are fewer than there is room for.
+#[tactic(auto, using(crate::proofs::Telling::told))]
+pub fn a_whole_is_what_a_line_says()
+    ensures { (form : LineForm) (octets : List ℕ) → length octets < OCTETS → said_whole (whole_of form octets) (held_of form octets) ≡ said_in_octets form octets }
 {}

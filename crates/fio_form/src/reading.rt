@@ -1,121 +1,162 @@
-//! What lines say by forms.
-ghost use Rattle.std.specs.Prelude.{◌≡◌, ◌≢◌, ◌≤◌, ◌<◌, ◌+◌, Some, None, [], ◌∷◌, true, false, IfSome, IfNone, drop, length};
-ghost use Rattle.fio_form.specs.Reading.{LineSaid, ends_in_front, ends_in_form, is_message, said_by_octets, octets_by, read_from, read_line, said_by, said_as};
+//! The octets that a form has in a line.
+ghost use Rattle.std.specs.Prelude.{◌≡◌, ◌≢◌, ◌+◌, ◌≤◌, ◌<◌, Some, None, [], true, false, IfSome, IfNone, drop, take, length};
+ghost use Rattle.fio_form.specs.Fronts.{after_front};
+ghost use Rattle.fio_form.specs.Bare.{tail_in};
+ghost use Rattle.fio_form.specs.Octets.{run_in};
+ghost use Rattle.fio_form.specs.Reading.{digits_at, front_text, in_words, octets_found, octets_here, swapped};
 ghost use Rattle.fio_form.specs.declared.octets.TheConstants.{OCTETS};
 
-use crate::form::{Digits, LineForm, Piece};
+use crate::form::{Digits, LineForm, Step};
 use crate::front::front_in;
-use crate::octets::{Octets, ends_in_octet, run_in};
-use fio_message::{read_answer, read_command};
+use crate::octets::{Octets, run_in};
 
-/// What a line says.
+/// Where a form has octets in a line.
 #[derive(Clone, Copy, Debug, PartialEq, Eq)]
-pub enum Read {
-    /// A message: the octets from one place up to another.
-    Frame { start: usize, end: usize },
-    /// A form has the line, but it says no message; or the line ends within the front of a form.
+pub struct Found {
+    /// Where its front begins.
+    pub front: usize,
+    /// Where the first octet begins.
+    pub start: usize,
+    /// Where the last one ends.
+    pub end: usize,
+}
+
+/// What the octets of a form are.
+#[derive(Clone, Copy, Debug, PartialEq, Eq)]
+pub enum Whole {
+    /// A message, from one place up to another.
+    Message { start: usize, end: usize },
+    /// A message whose length nothing tells.
+    Any { start: usize, end: usize },
+    /// The beginning of a message.
+    Lacking,
+    /// Those before and after a message, and none.
+    Idle,
+    /// None of these.
     Damaged,
-    /// No form has the line.
-    Other,
 }
 
-/// Returns whether octets encode one message.
-fn is_message(octets: &[u8]) -> bool
-    ensures { result ≡ is_message octets.now }
+/// Returns how an octet is written that begins at a place: of a text up to the quote before it, up to this quote.
+pub(crate) fn digits_at(digits: Digits, line: &[u8], start: usize) -> Digits
+    requires { start ≤ length line.now }
+    ensures { result ≡ digits_at digits line.now (drop start line.now) }
 {
-    if matches!(octets, [128..=255, ..]) {
-        read_answer(octets).is_ok()
+    if digits == Digits::Text(0) && start > 0 {
+        Digits::Text(line[start - 1])
     } else {
-        read_command(octets).is_ok()
+        digits
     }
 }
 
-/// Returns what octets say of which so many before and after the message are no part of it.
-pub(crate) fn message_in(before: u8, after: u8, octets: &[u8]) -> Read
-    ensures { said_as result octets.now ≡ said_by_octets before after octets.now }
+/// Exchanges the octets of each word of 16 bits.
+pub fn swap(octets: &mut Octets)
+    ensures words { octets.new.items ≡ in_words octets.old.items }
+    ensures size { length octets.new.items ≡ length octets.old.items }
 {
-    let start = usize::from(before);
-    let last = usize::from(after);
-    if octets.len() <= start + last || !is_message(&octets[start..octets.len() - last]) {
-        return Read::Damaged;
-    }
-    Read::Frame {
-        start,
-        end: octets.len() - last,
-    }
-}
-
-/// Returns whether a text ends within a front or its first octet.
-fn ends_in_front(digits: Digits, values: &[u32], front: &[Piece], text: &[u8]) -> bool
-    ensures { result ≡ ends_in_front digits values.now front.now text.now }
-{
-    let mut place = 0;
+    let count = octets.len();
+    let mut words = Octets::new();
     let mut at = 0;
-    'pieces: while at < front.len() {
-        if place >= text.len() {
-            return true;
-        }
-        let rest = &text[place..];
-        match front[at].length_in(values, rest) {
-            Some(count) => place += count,
-            None => return front[at].is_all(rest),
-        }
-        at += 1;
+    'words: while at + 1 < count {
+        words.push(octets[at + 1]);
+        words.push(octets[at]);
+        at += 2;
     }
-    ends_in_octet(digits, &text[place..])
+    if at < count {
+        words.push(octets[at]);
+    }
+    *octets = words;
 }
 
-/// Returns whether a line is a beginning of those of a form that ends before the first octet is whole.
-fn ends_in_form(form: &LineForm, line: &[u8]) -> bool
-    ensures { result ≡ ends_in_form form.now line.now }
+/// Reads the octets that a text begins with, as many as `octets` has room for; returns where the last one ends, 0 if there are
+/// too many.
+pub(crate) fn octets_in(digits: Digits, cycle: &[Step], text: &[u8], octets: &mut Octets) -> usize
+    ensures octets { octets.new.items ≡ take OCTETS (run_in digits cycle.now text.now) }
+    ensures rest { drop result text.now ≡ tail_in digits cycle.now text.now }
+    ensures within { result ≤ length text.now }
 {
-    !line.is_empty() && ends_in_front(form.digits, &form.values, &form.front, line)
-}
-
-/// Reads the octets that a form has in a line, none if it does not have the line, and returns whether there was room.
-pub(crate) fn octets_by(form: &LineForm, line: &[u8], octets: &mut Octets) -> bool
-    ensures room { result ≡ true → octets_by form.now line.now ≡ octets.new.items }
-    ensures full { result ≡ false → OCTETS < length (octets_by form.now line.now) }
-{
-    match front_in(&form.values, &form.front, line) {
-        Some(place) => run_in(form.digits, &form.cycle, &line[place..], octets),
-        None => {
-            octets.clear();
-            true
-        }
+    match run_in(digits, cycle, text, octets) {
+        Some(end) => end,
+        None => 0,
     }
 }
 
-/// Reads a line by one form; `None` if the form does not have the line. Writes its octets to `octets`.
-#[tactic(auto, using(crate::proofs::MessageSize::too_many_said))]
-pub(crate) fn read_by(form: &LineForm, line: &[u8], octets: &mut Octets) -> Option<Read>
-    ensures some { IfSome result (λ read. (rest : LineSaid) → said_by form.now (octets_by form.now line.now) rest ≡ said_as read octets.new.items) }
-    ensures none { IfNone result (octets_by form.now line.now ≡ []) }
+/// Reads the octets that a form has in a line, if its front begins at this place.
+#[tactic(auto, unfolding(crate::specs::Reading::swapped))]
+fn find_at(form: &LineForm, line: &[u8], front: usize, octets: &mut Octets) -> Option<Found>
+    requires { front ≤ length line.now }
+    ensures at { IfSome result (λ found. found.front ≡ front) }
+    ensures places { IfSome result (λ found. (found.front ≤ found.start) × (found.start ≤ found.end) × (found.end ≤ length line.now)) }
+    ensures start { IfSome result (λ found. after_front form.now.values.items form.now.front.items (drop front line.now) ≡ Some (drop found.start line.now)) }
+    ensures octets { IfSome result (λ found. octets.new.items ≡ swapped form.now.is_swapped (take OCTETS (octets_here form.now line.now (drop front line.now)))) }
+    ensures some { IfSome result (λ found. octets_here form.now line.now (drop front line.now) ≢ []) }
+    ensures end { IfSome result (λ found. drop found.end line.now
+        ≡ tail_in (digits_at form.now.digits line.now (drop found.start line.now)) form.now.cycle.items (drop found.start line.now)) }
+    ensures none { IfNone result (octets_here form.now line.now (drop front line.now) ≡ []) }
 {
-    let (before, after) = (form.before, form.after);
-    if !octets_by(form, line, octets) {
-        return Some(Read::Damaged);
-    }
+    let Some(count) = front_in(form, &line[front..]) else {
+        return None;
+    };
+    let start = front + count;
+    let digits = digits_at(form.digits, line, start);
+    let end = octets_in(digits, &form.cycle, &line[start..], octets);
     if octets.is_empty() {
         return None;
     }
-    Some(message_in(before, after, octets))
+    if form.is_swapped {
+        swap(octets);
+    }
+    Some(Found {
+        front,
+        start,
+        end: start + end,
+    })
 }
 
-/// Reads a line by forms: by the first one whose front the line begins with, and which has at least one octet there. Writes
-/// its octets to `octets`.
-pub fn read_line(forms: &[LineForm], line: &[u8], octets: &mut Octets) -> Read
-    ensures { said_as result octets.new.items ≡ read_line forms.now line.now }
+/// Reads the octets that a form has in a line, at the first place where it has some.
+#[tactic(auto, unfolding(crate::specs::Reading::front_text, crate::specs::Reading::octets_found))]
+fn find_here(form: &LineForm, line: &[u8], octets: &mut Octets) -> Option<Found>
+    ensures places { IfSome result (λ found. (found.front ≤ found.start) × (found.start ≤ found.end) × (found.end ≤ length line.now)) }
+    ensures front { IfSome result (λ found. drop found.front line.now ≡ front_text form.now line.now) }
+    ensures start { IfSome result (λ found. after_front form.now.values.items form.now.front.items (drop found.front line.now) ≡ Some (drop found.start line.now)) }
+    ensures octets { IfSome result (λ found. octets.new.items ≡ swapped form.now.is_swapped (take OCTETS (octets_here form.now line.now (drop found.front line.now)))) }
+    ensures some { IfSome result (λ found. octets_here form.now line.now (drop found.front line.now) ≢ []) }
+    ensures end { IfSome result (λ found. drop found.end line.now
+        ≡ tail_in (digits_at form.now.digits line.now (drop found.start line.now)) form.now.cycle.items (drop found.start line.now)) }
+    ensures none { IfNone result (octets_found form.now line.now ≡ []) }
+    ensures empty { IfNone result (octets.new.items ≡ []) }
 {
-    let mut cut = false;
-    let mut at = 0;
-    'forms: while at < forms.len() {
-        let form = &forms[at];
-        if let Some(read) = read_by(form, line, octets) {
-            return read;
+    if !form.is_anywhere {
+        let found = find_at(form, line, 0, octets);
+        if found.is_none() {
+            octets.clear();
         }
-        cut = cut || ends_in_form(form, line);
-        at += 1;
+        return found;
     }
-    if cut { Read::Damaged } else { Read::Other }
+    let mut front = 0;
+    'fronts: while front < line.len() {
+        if let Some(found) = find_at(form, line, front, octets) {
+            return Some(found);
+        }
+        front += 1;
+    }
+    octets.clear();
+    None
+}
+
+/// Reads the octets that a form has in a line. If there is no room for all, some are left out.
+pub fn find(form: &LineForm, line: &[u8], octets: &mut Octets) -> Option<Found>
+    ensures places { IfSome result (λ found. (found.front ≤ found.start) × (found.start ≤ found.end) × (found.end ≤ length line.now)) }
+    ensures front { IfSome result (λ found. drop found.front line.now ≡ front_text form.now line.now) }
+    ensures start { IfSome result (λ found. after_front form.now.values.items form.now.front.items (drop found.front line.now) ≡ Some (drop found.start line.now)) }
+    ensures octets { IfSome result (λ found. octets.new.items ≡ swapped form.now.is_swapped (take OCTETS (octets_found form.now line.now))) }
+    ensures some { IfSome result (λ found. octets_found form.now line.now ≢ []) }
+    ensures end { IfSome result (λ found. drop found.end line.now
+        ≡ tail_in (digits_at form.now.digits line.now (drop found.start line.now)) form.now.cycle.items (drop found.start line.now)) }
+    ensures none { IfNone result (octets_found form.now line.now ≡ []) }
+    ensures empty { IfNone result (octets.new.items ≡ []) }
+{
+    match find_here(form, line, octets) {
+        Some(found) => Some(found),
+        None => None,
+    }
 }

@@ -6,8 +6,7 @@ use Rattle.fio_message.specs.Answers.{answer_length}
 use Rattle.fio_message.specs.Commands.{command_length}
 use Rattle.fio_message.specs.Decoding.{answer_in, command_in, message_in}
 use Rattle.fio_message.specs.Reading.{answer_at, command_at}
-use Rattle.fio_log.specs.OwnTexts.{IsFrameInRoom, own_frame, spells_from}
-use Rattle.fio_log.specs.Sayings.{is_answer, octets_kept_as, spells}
+use Rattle.fio_log.specs.OwnTexts.{IsFrameInRoom, is_answer, own_frame, spells, spells_from}
 use Rattle.fio_log.specs.declared.own_texts.OwnForm.{OwnForm}
 
 pub frame_read : (form : OwnForm) (line room : List ℕ) (from_cpu : Option Bool) (found : Option (List ℕ)) (count : ℕ)
@@ -51,9 +50,3 @@ spelled_short octets is = elim (leb_tells (length octets) 773) [
       let no : false ≡ true = sym (too_long-spells None octets (omega (arith, above.1))) ∙ is in
       absurd (cc)
 ]
-
--- a message is kept as its octets
-pub kept_as_spelled : (octets : List ℕ) → spells octets ≡ true → octets_kept_as octets ≡ octets
-unfolding message_in
-kept_as_spelled [] is = absurd (cc)
-kept_as_spelled (code ∷ octets) is = refl

@@ -7,8 +7,7 @@ use Rattle.fio_message.specs.Decoding.{answer_in, command_in, message_in}
 use Rattle.fio_message.specs.Reading.{answer_at, command_at}
 use Rattle.fio_message.specs.declared.limits.TheConstants.{BODY_OCTETS}
 use Rattle.fio_message.proofs.KnownTypes.{answer_codes, command_codes}
-use Rattle.fio_log.specs.OwnTexts.{IsOwnFrame, spells_from}
-use Rattle.fio_log.specs.Sayings.{spells}
+use Rattle.fio_log.specs.OwnTexts.{IsOwnFrame, spells, spells_from}
 use Rattle.fio_log.specs.OwnVerdicts.{own_form_of}
 use Rattle.fio_log.specs.declared.own_texts.OwnForm.{OwnForm}
 use Rattle.fio_log.specs.declared.own_texts.OwnForm.TheVariants as texts

@@ -1,5 +1,5 @@
--- Characters of words, and the octets of hexadecimal digits.
-use Rattle.std.specs.Prelude.{ℕ, ◌+◌, ◌-◌, ◌*◌, ◌&&◌, ◌||◌, ◌==◌, Bool, nat_le, if◌then◌else◌, List, [], ◌∷◌, Option, Some, None, option_map, option_and_then}
+-- Characters of words and of numbers.
+use Rattle.std.specs.Prelude.{ℕ, ◌-◌, ◌&&◌, ◌||◌, ◌==◌, Bool, nat_le, if◌then◌else◌, Option, Some, None}
 
 -- whether a character is between a first and a last one, both included
 abbrev pub is_between : ℕ → ℕ → ℕ → Bool
@@ -13,20 +13,9 @@ digit_of character =
     else if is_between 97 102 character then Some (character - 87)
     else None
 
--- the octet of two digits, or of one alone
-abbrev pub octet_of_digits : List ℕ → Option ℕ
-octet_of_digits (digit ∷ []) = digit_of digit
-octet_of_digits (high ∷ low ∷ []) = option_and_then (λ h. option_map (λ l. h * 16 + l) (digit_of low)) (digit_of high)
-octet_of_digits other = None
-
 -- Whether a character belongs to words: letters, digits and `_` of ASCII, and the octets of all other letters and
 -- signs, which are 128 or more.
 abbrev pub is_letter : ℕ → Bool
 is_letter character =
     is_between 48 57 character || is_between 65 90 character || is_between 97 122 character || character == 95
     || nat_le 128 character
-
--- whether a character may be between two words of a run: a blank, a tab, or one of `,-:;`
-abbrev pub is_separator : ℕ → Bool
-is_separator character =
-    character == 32 || character == 9 || character == 44 || character == 45 || character == 58 || character == 59

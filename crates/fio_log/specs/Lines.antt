@@ -1,8 +1,8 @@
--- Lines of a log, octet by octet, without byte order marks, NUL and colour sequences; a no-break space is a blank.
+-- Lines of a log, octet by octet, without byte order marks, NULs by themselves and colour sequences; a no-break space is a blank.
 use Rattle.std.specs.Prelude.{◌≡◌, ℕ, ◌==◌, ◌||◌, Bool, true, false, nat_lt, if◌then◌else◌, List, [], ◌∷◌, ◌++◌, length, fold}
 use Rattle.fio_log.specs.Digits.{is_between}
 use Rattle.fio_log.specs.declared.lines.Held.{Held}
-use Rattle.fio_log.specs.declared.lines.Held.TheVariants.{Nothing, Escape, Colour, NoBreak, Mark, SecondMark}
+use Rattle.fio_log.specs.declared.lines.Held.TheVariants.{Nothing, Nul, Escape, Colour, NoBreak, Mark, SecondMark}
 use Rattle.fio_log.specs.declared.lines.LineEnding.{LineEnding}
 use Rattle.fio_log.specs.declared.lines.LineEnding.TheVariants.{Open, Feed, Return}
 use Rattle.fio_log.specs.declared.lines.TheConstants.{LINE_OCTETS}
@@ -30,15 +30,17 @@ with_all text octets = fold pushed text octets
 -- The octets that begin what may be taken out: ESC is 27, a no-break space is 194 160, a byte order mark is 239 187 191.
 abbrev pub held_octets : Held → List ℕ
 held_octets Nothing = []
+held_octets Nul = []
 held_octets Escape = 27 ∷ []
 held_octets Colour = []
 held_octets NoBreak = 194 ∷ []
 held_octets Mark = 239 ∷ []
 held_octets SecondMark = 239 ∷ 187 ∷ []
 
--- whether an octet continues what is held; `[` is 91
+-- whether an octet continues what is held; `[` is 91, and a NUL goes on with others
 abbrev pub goes_on_held : Held → ℕ → Bool
 goes_on_held Nothing octet = false
+goes_on_held Nul octet = octet == 0
 goes_on_held Escape octet = octet == 91
 goes_on_held Colour octet = true
 goes_on_held NoBreak octet = octet == 160
@@ -48,21 +50,24 @@ goes_on_held SecondMark octet = octet == 191
 -- what is held after that octet: a colour sequence ends with a letter
 abbrev pub held_next : Held → ℕ → Held
 held_next Nothing octet = Nothing
+held_next Nul octet = Nul
 held_next Escape octet = Colour
 held_next Colour octet = if is_between 65 90 octet || is_between 97 122 octet then Nothing else Colour
 held_next NoBreak octet = Nothing
 held_next Mark octet = SecondMark
 held_next SecondMark octet = Nothing
 
--- what the line gets in place of what is held, if an octet continues it: a blank for a no-break space
+-- what the line gets in place of what is held, if an octet continues it: a blank for a no-break space, and each NUL behind a NUL
 abbrev pub held_text : Held → List ℕ
+held_text Nul = 0 ∷ []
 held_text NoBreak = 32 ∷ []
 held_text other = []
 
 -- what an octet by itself begins
 abbrev pub held_first : ℕ → Held
 held_first octet =
-    if octet == 27 then Escape else (if octet == 194 then NoBreak else (if octet == 239 then Mark else Nothing))
+    if octet == 0 then Nul
+    else (if octet == 27 then Escape else (if octet == 194 then NoBreak else (if octet == 239 then Mark else Nothing)))
 
 -- whether an octet is printable: it adds itself to a line, does not end it, and begins nothing that may be taken out
 abbrev pub is_plain : ℕ → Bool
@@ -127,9 +132,10 @@ abbrev pub is_whole : LineEnding → Bool
 is_whole Open = false
 is_whole other = true
 
--- the last line of a text: it ends here if it is open and has octets, and stays as it is if it is whole
+-- the last line of a text: it ends here if it is open and has octets, of which a NUL is none, and stays as it is if it is whole
 abbrev pub finished_by : LineEnding → List ℕ → Held → Making → Making
 finished_by Open [] Nothing making = no_line
+finished_by Open [] Nul making = no_line
 finished_by Open octets held making = ended making Feed
 finished_by other octets held making = making
 

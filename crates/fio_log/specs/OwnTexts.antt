@@ -1,16 +1,23 @@
 -- Lines of the texts that the program's own tools read: of frames, as `show` reads them, and of transcripts, as `check` does.
-use Rattle.std.specs.Prelude.{◌≡◌, ℕ, ◌≤◌, Bool, true, false, codes, if◌then◌else◌, List, length, Option, Some, None, is_some, option_map, option_and_then, take}
+use Rattle.std.specs.Prelude.{◌≡◌, ℕ, ◌≤◌, Bool, true, false, codes, nat_lt, slice_index, if◌then◌else◌, List, length, Option, Some, None, is_some, option_map, option_and_then, take}
 use Rattle.std.specs.Option.{option_or}
 use Rattle.fio_message.specs.declared.limits.TheConstants.{FRAME_OCTETS}
 use Rattle.fio_message.specs.Decoding.{answer_in, command_in}
 use Rattle.fio_text.specs.Hexadecimal.{octets_in}
 use Rattle.fio_text.specs.Lines.{is_skipped}
 use Rattle.fio_text.specs.Words.{after_prefix}
-use Rattle.fio_log.specs.Sayings.{spells}
 use Rattle.fio_log.specs.declared.own_texts.OwnForm.{OwnForm}
 use Rattle.fio_log.specs.declared.own_texts.OwnForm.TheVariants.{Frames, Transcript}
 use Rattle.fio_log.specs.declared.own_texts.OwnLine.{OwnLine}
 use Rattle.fio_log.specs.declared.own_texts.OwnLine.TheVariants.{Skipped, Bad, Faulty, Frame}
+
+-- whether octets are an answer, by their first octet
+abbrev pub is_answer : List ℕ → Bool
+is_answer octets = nat_lt 127 (slice_index octets 0)
+
+-- whether octets encode a message: the decoder of its direction accepts them
+abbrev pub spells : List ℕ → Bool
+spells octets = if is_answer octets then is_some (answer_in octets) else is_some (command_in octets)
 
 -- whether the CPU sent a word, if the text says that, and the octets of the word
 abbrev pub own_frame_with : Option Bool → List ℕ → Option (Option Bool × List ℕ)

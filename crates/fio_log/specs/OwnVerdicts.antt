@@ -1,14 +1,13 @@
 -- The verdict on a line of the texts that the program's own tools read: by what the line is, read by order.
-use Rattle.std.specs.Prelude.{◌≡◌, ℕ, Bool, true, false, List, [], ◌∷◌, Option, Some, None, map, take}
-use Rattle.fio_log.specs.Frames.{octets_of_message}
+use Rattle.std.specs.Prelude.{◌≡◌, ℕ, Bool, true, false, List, [], ◌∷◌, Option, Some, None, length, take}
+use Rattle.fio_log.specs.Frames.{Frames}
 use Rattle.fio_log.specs.Lines.{Making, Text, is_whole}
 use Rattle.fio_log.specs.OwnTexts.{IsOwnLine}
-use Rattle.fio_log.specs.Verdicts.{AreAgreed}
+use Rattle.fio_log.specs.Verdicts.{Agrees}
 use Rattle.fio_log.specs.declared.own_texts.OwnForm.{OwnForm}
 use Rattle.fio_log.specs.declared.own_texts.OwnForm.TheVariants as texts
 use Rattle.fio_log.specs.declared.own_texts.OwnLine.{OwnLine}
 use Rattle.fio_log.specs.declared.own_texts.OwnLine.TheVariants as lines
-use Rattle.fio_log.specs.declared.judge.tell.Frames.{Frames}
 use Rattle.fio_log.specs.declared.verdict.Form.{Form}
 use Rattle.fio_log.specs.declared.verdict.Form.TheVariants as forms
 use Rattle.fio_log.specs.declared.verdict.Kind.{Kind}
@@ -44,9 +43,8 @@ pub record IsOwnVerdict (form : OwnForm) (text : Text) (kind : Kind) (reason : R
   pub read : IsOwnLine form text.octets room line
   pub told : TellsOwn line text.is_long room kind reason frames
 
--- The line that is made is whole, and what the reader will return of it is its verdict; the frames are not a chain.
-pub record IsToldByOrder (form : OwnForm) (line : ℕ) (making : Making) (told : LineVerdict) (frames : Frames) : Type 0 where
+-- The line that is made is whole, and what the reader will return of it is its verdict.
+pub record IsToldByOrder (form : OwnForm) (making : Making) (told : LineVerdict) (frames : Frames) : Type 0 where
   pub whole : is_whole making.ending ≡ true
-  pub apart : frames.are_chain ≡ false
-  pub agreed : AreAgreed line told.kind told.reason (map octets_of_message frames.messages.items) frames.places.items
-  pub verdict : IsOwnVerdict form making.text told.kind told.reason (map octets_of_message frames.messages.items)
+  pub verdict : IsOwnVerdict form making.text told.kind told.reason frames.frames
+  pub agreed : Agrees told (length frames.frames)

@@ -1,24 +1,24 @@
 -- What a reader has read of a log, and the lines whose verdicts it has returned.
 use Rattle.std.specs.Prelude.{◌≡◌, ℕ, ◌+◌, ◌≤◌, ◌==◌, ◌&&◌, Bool, true, false, if◌then◌else◌, List, [], length}
-use Rattle.std.specs.List.{All, concat}
-use Rattle.fio_log.specs.Frames.{AreFramesOf, IsJudgeOf, Log, frames_told, places_told}
-use Rattle.fio_log.specs.Blanks.{AreBlankLines, Texts, have_line}
+use Rattle.fio_form.specs.declared.form.LineForm.{LineForm}
+use Rattle.fio_rows.specs.Lines.{is_message_open}
+use Rattle.fio_log.specs.Blanks.{Texts}
+use Rattle.fio_log.specs.Following.{Follows, HasNext, IsDue, TellsOf}
+use Rattle.fio_log.specs.Frames.{AreFew, Frames}
+use Rattle.fio_log.specs.Heard.{Above}
+use Rattle.fio_log.specs.Knowing.{IsLineAt, KnowsLines}
+use Rattle.fio_log.specs.Verdicts.{Agrees}
 use Rattle.fio_log.specs.Lines.{Making, finished, is_whole, lines_after, only, with_making}
-use Rattle.fio_log.specs.LineRuns.{IsLineRun}
-use Rattle.fio_log.specs.Verdicts.{AreAgreed}
-use Rattle.fio_log.specs.declared.chains.TheConstants.{CHAIN_FRAMES, CHAIN_OCTETS}
-use Rattle.fio_log.specs.declared.judge.Judge.{Judge}
+use Rattle.fio_guess.specs.declared.table.TheConstants.{LINES}
 use Rattle.fio_log.specs.declared.places.Place.{Place}
-use Rattle.fio_log.specs.declared.line_run.LineRun.{LineRun}
-use Rattle.fio_log.specs.declared.judge.tell.Frames.{Frames}
-use Rattle.fio_log.specs.declared.reader.reading.TheConstants.{WAITING_LINES}
+use Rattle.fio_log.specs.declared.teller.Teller.{Teller}
 use Rattle.fio_log.specs.declared.verdict.Form.{Form}
 use Rattle.fio_log.specs.declared.verdict.Form.TheVariants.{Auto}
 use Rattle.fio_log.specs.declared.verdict.LineVerdict.{LineVerdict}
 
 -- A reader: how it reads, the line that is being made, how many lines are read, how many verdicts are returned, whether the
--- next one can be returned, and whether the log has ended; the frames of the last verdict, what is kept of the lines above,
--- whether the last line waits to be searched for runs or to be judged, and its runs; the blank lines without a verdict.
+-- next one can be returned, and whether the log has ended; the frames of the last verdict; and what is kept of the lines without
+-- a verdict.
 pub record Telling : Type 0 where
   pub form : Form
   pub making : Making
@@ -27,39 +27,35 @@ pub record Telling : Type 0 where
   pub is_ready : Bool
   pub is_ended : Bool
   pub last : Frames
-  pub judge : Judge
-  pub is_unread : Bool
-  pub is_held : Bool
-  pub runs : List LineRun
-  pub blanks : List ℕ
+  pub teller : Teller
 
 -- the frames of the last verdict
 abbrev pub frames_of : Telling → List (List ℕ)
-frames_of telling = frames_told telling.judge.join.lines telling.last
+frames_of telling = telling.last.frames
 
 -- the places where they are written
 abbrev pub places_of : Telling → List Place
-places_of telling = places_told telling.judge.join.lines telling.last
-
--- If the line that is being made is whole, it is the last line of the log that is read.
-abbrev pub IsLineOf : Log → Telling → Type 0
-IsLineOf log telling = is_whole telling.making.ending ≡ true → telling.making.text.octets ≡ log telling.read
+places_of telling = telling.last.places
 
 -- the line that is made, if it is whole, is the last one that is read of a log with these lines
 abbrev pub IsTextOf : Texts → Telling → Type 0
-IsTextOf texts telling = is_whole telling.making.ending ≡ true → telling.making.text ≡ texts telling.read
+IsTextOf texts telling = IsLineAt texts telling.read telling.making
 
--- A reader of a log with these lines knows which of the lines without a verdict are blank.
-pub record KnowsBlanks (texts : Texts) (telling : Telling) : Type 0 where
+-- What a reader keeps of a log with these lines is right, and it can return a verdict only if it knows the forms.
+pub record Knows (texts : Texts) (telling : Telling) : Type 0 where
   pub text : IsTextOf texts telling
-  pub blanks : telling.form ≡ Auto → AreBlankLines texts telling.told telling.read telling.blanks
+  pub kept : telling.form ≡ Auto → KnowsLines texts telling.teller telling.read telling.told
+  pub ready : telling.form ≡ Auto → telling.is_ready ≡ true → telling.teller.is_known ≡ true
 
--- What a reader keeps of a log is written in the log.
-pub record IsReaderOf (log : Log) (telling : Telling) : Type 0 where
-  pub line : IsLineOf log telling
-  pub judge : IsJudgeOf log telling.judge
-  pub held : telling.is_held ≡ true → All (IsLineRun (log telling.read)) telling.runs
-  pub frames : telling.form ≡ Auto → AreFramesOf log telling.last
+-- Nothing has changed of what a reader has read and told.
+pub record HasReadAsBefore (before after : Telling) : Type 0 where
+  pub form : after.form ≡ before.form
+  pub making : after.making ≡ before.making
+  pub read : after.read ≡ before.read
+  pub told : after.told ≡ before.told
+  pub is_ready : after.is_ready ≡ before.is_ready
+  pub is_ended : after.is_ended ≡ before.is_ended
+  pub last : after.last ≡ before.last
 
 -- whether the log of a reader has ended, and each verdict is returned
 abbrev pub has_told_all : Telling → Bool
@@ -81,12 +77,6 @@ pub record HasTaken (before : Telling) (octets : List ℕ) (after : Telling) : T
   pub form : after.form ≡ before.form
   pub is_ended : after.is_ended ≡ before.is_ended
 
--- There are few frames and places, and the frames have few octets: no more than those of several lines that are kept.
-pub record AreFew (told : List (List ℕ)) (written : List Place) : Type 0 where
-  pub frames : length told ≤ CHAIN_FRAMES
-  pub octets : length (concat told) ≤ CHAIN_OCTETS
-  pub places : length written ≤ CHAIN_OCTETS
-
 -- A reader has returned the verdict of the next line.
 pub record HasTold (before : Telling) (verdict : LineVerdict) (after : Telling) : Type 0 where
   pub next : verdict.line ≡ before.told + 1
@@ -95,13 +85,13 @@ pub record HasTold (before : Telling) (verdict : LineVerdict) (after : Telling) 
   pub frames : length (frames_of after) ≡ verdict.frames
   pub places : length (places_of after) ≡ verdict.places
   pub few : AreFew (frames_of after) (places_of after)
-  pub agreed : AreAgreed verdict.line verdict.kind verdict.reason (frames_of after) (places_of after)
+  pub agreed : Agrees verdict (length (frames_of after))
   pub form : after.form ≡ before.form
   pub making : after.making ≡ before.making
   pub read : after.read ≡ before.read
   pub is_ended : after.is_ended ≡ before.is_ended
 
--- A reader has no verdict to return: nothing that its verdicts report has changed. No more lines than may wait are without one.
+-- A reader has no verdict to return: nothing has changed. No more lines than a window has are without one.
 pub record HasNoMore (before after : Telling) : Type 0 where
   pub told : after.told ≡ before.told
   pub form : after.form ≡ before.form
@@ -109,12 +99,37 @@ pub record HasNoMore (before after : Telling) : Type 0 where
   pub read : after.read ≡ before.read
   pub is_ended : after.is_ended ≡ before.is_ended
   pub is_ready : after.is_ready ≡ false
-  pub waiting : after.read ≤ after.told + WAITING_LINES
+  pub last : after.last ≡ before.last
+  pub waiting : after.read ≤ after.told + LINES
 
--- A verdict that can be returned stays as it was, and so do the frames of the last one: these are all that it rests on.
+-- A verdict that can be returned stays as it was, and so do the frames of the last one.
 pub record KeepsVerdict (before after : Telling) : Type 0 where
   pub is_ready : after.is_ready ≡ before.is_ready
   pub told : after.told ≡ before.told
-  pub judge : after.judge ≡ before.judge
   pub last : after.last ≡ before.last
-  pub blank : have_line after.blanks (after.told + 1) ≡ have_line before.blanks (before.told + 1)
+
+-- the forms by which a reader has heard the next line
+abbrev pub forms_of : Telling → List LineForm
+forms_of telling = telling.teller.by_forms.forms
+
+-- A reader follows a log with these lines, below what is known of the lines with verdicts: what it has heard of the next line is what
+-- its forms say.
+pub record Stands (texts : Texts) (above : Above) (telling : Telling) : Type 0 where
+  pub follows : telling.form ≡ Auto
+      → Follows texts above telling.teller telling.making (frames_of telling) telling.read telling.told
+  pub next : telling.form ≡ Auto → HasNext telling.teller telling.read telling.told
+  pub due : telling.form ≡ Auto → telling.is_ready ≡ true → telling.is_ended ≡ false → IsDue telling.teller telling.read telling.told
+
+-- A reader begins a log, with no open message.
+pub record BeginsLog (telling : Telling) : Type 0 where
+  pub above : Above
+  pub closed : is_message_open above.state.pending ≡ false
+  pub stands : (texts : Texts) → Stands texts above telling
+
+-- A verdict tells the next line by the forms of a reader, which then follows the log below that line. The last line of a log that
+-- has ended is told with what ends there.
+pub record HasToldLine (texts : Texts) (above : Above) (before : Telling) (verdict : LineVerdict) (after : Telling) : Type 0 where
+  pub below : Above
+  pub tells : TellsOf (before.is_ended && verdict.line == before.read) (forms_of before) (texts verdict.line) (texts (verdict.line + 1))
+      above verdict.kind (frames_of after) below
+  pub stands : Stands texts below after

@@ -1,60 +1,76 @@
--- What a verdict says agrees with its frames and their places.
-use Rattle.std.specs.Prelude.{◌≡◌, ℕ, ◌<◌, ◌≤◌, ◌⊎◌, ◌↔◌, List, [], ◌∷◌, Option, Some, None, length}
-use Rattle.fio_log.specs.declared.places.Place.{Place}
+-- What a verdict says agrees with its frames.
+use Rattle.std.specs.Prelude.{◌≡◌, ℕ, ◌==◌, ◌||◌, nat_lt, not, Bool, true, false, Option, Some, None}
 use Rattle.fio_log.specs.declared.verdict.Kind.{Kind}
 use Rattle.fio_log.specs.declared.verdict.Kind.TheVariants as kinds
 use Rattle.fio_log.specs.declared.verdict.Reason.{Reason}
 use Rattle.fio_log.specs.declared.verdict.Reason.TheVariants as reasons
+use Rattle.fio_log.specs.declared.verdict.LineVerdict.{LineVerdict}
 
--- how many frames a line of a kind has: some, exactly one, or none
-abbrev pub HasFrames : Kind → ℕ → Type 0
-HasFrames kinds.Frames count = 0 < count
-HasFrames kinds.Possible count = count ≡ 1
-HasFrames kinds.Blank count = count ≡ 0
-HasFrames kinds.Part count = count ≡ 0
-HasFrames kinds.Damaged count = count ≡ 0
-HasFrames kinds.PassedOver count = count ≡ 0
+-- whether a line gives frames
+abbrev pub is_frames : Kind → Bool
+is_frames kinds.Blank = false
+is_frames kinds.Frames = true
+is_frames kinds.Part = false
+is_frames kinds.Possible = false
+is_frames kinds.Damaged = false
+is_frames kinds.PassedOver = false
 
--- the only kind of line that may have a reason, if there is just one
-abbrev pub only_kind : Reason → Option Kind
-only_kind reasons.Exchanged = Some kinds.PassedOver
-only_kind reasons.TwoMore = Some kinds.PassedOver
-only_kind reasons.Loss = Some kinds.PassedOver
-only_kind reasons.Heading = Some kinds.PassedOver
-only_kind reasons.OneLess = Some kinds.Damaged
-only_kind other = None
+-- whether a line may have held a frame, but gave none
+abbrev pub is_damaged : Kind → Bool
+is_damaged kinds.Blank = false
+is_damaged kinds.Frames = false
+is_damaged kinds.Part = false
+is_damaged kinds.Possible = false
+is_damaged kinds.Damaged = true
+is_damaged kinds.PassedOver = false
 
--- whether a line of a kind may have a reason: not one that only another kind has
-abbrev pub IsReasonFor : Kind → Reason → Type 0
-IsReasonFor kind reason = ¬ (reason ≡ reasons.None) × ((only : Kind) → only_kind reason ≡ Some only → kind ≡ only)
+-- whether no form has a line that may have held a frame
+abbrev pub is_possible : Kind → Bool
+is_possible kinds.Blank = false
+is_possible kinds.Frames = false
+is_possible kinds.Part = false
+is_possible kinds.Possible = true
+is_possible kinds.Damaged = false
+is_possible kinds.PassedOver = false
 
--- whether a line of a kind has a reason why it gave no frame: not if it did, is blank or a part
-abbrev pub HasReason : Kind → Reason → Type 0
-HasReason kinds.Frames reason = reason ≡ reasons.None
-HasReason kinds.Possible reason = IsReasonFor kinds.Possible reason
-HasReason kinds.Blank reason = reason ≡ reasons.None
-HasReason kinds.Part reason = reason ≡ reasons.None
-HasReason kinds.Damaged reason = IsReasonFor kinds.Damaged reason
-HasReason kinds.PassedOver reason = IsReasonFor kinds.PassedOver reason
+-- whether a line is none of these, nor blank, nor a part
+abbrev pub is_passed_over : Kind → Bool
+is_passed_over kinds.Blank = false
+is_passed_over kinds.Frames = false
+is_passed_over kinds.Part = false
+is_passed_over kinds.Possible = false
+is_passed_over kinds.Damaged = false
+is_passed_over kinds.PassedOver = true
 
--- a place is after another: in a later line, or in the same one at its end or after it
-abbrev pub IsPast : Place → Place → Type 0
-IsPast above place =
-    ((above.line < place.line) ⊎ ((above.line ≡ place.line) × (above.end ≤ place.start))) × (place.start ≤ place.end)
+-- whether a line of a kind has so many frames: one or more, or none
+abbrev pub has_frames : Kind → ℕ → Bool
+has_frames kinds.Frames count = nat_lt 0 count
+has_frames kinds.Blank count = count == 0
+has_frames kinds.Part count = count == 0
+has_frames kinds.Possible count = count == 0
+has_frames kinds.Damaged count = count == 0
+has_frames kinds.PassedOver count = count == 0
 
--- places are after another, each after the one before it, so no octet of the log is at two of them
-abbrev pub ArePast : Place → List Place → Type 0
-ArePast above [] = Unit {0}
-ArePast above (place ∷ places) = IsPast above place × ArePast place places
+-- whether a line of a kind may have a reason
+abbrev pub has_reason : Kind → Reason → Bool
+has_reason kind reasons.None = not (is_damaged kind || is_possible kind || is_passed_over kind)
+has_reason kind reasons.Broken = not (is_damaged kind || is_possible kind)
+has_reason kind reasons.NoOctets = is_passed_over kind
+has_reason kind reasons.NoMessage = is_damaged kind || is_passed_over kind
+has_reason kind reasons.NoForm = is_possible kind
+has_reason kind reasons.More = is_frames kind
+has_reason kind reasons.TooLong = is_damaged kind
+has_reason kind reasons.BadLine = is_damaged kind
+has_reason kind reasons.Loss = is_passed_over kind
+has_reason kind reasons.Heading = is_passed_over kind
+has_reason kind reasons.Copy = is_passed_over kind
 
--- places are those of a line: the first is in it, and each next one is after the one before it
-abbrev pub AreOfLine : ℕ → List Place → Type 0
-AreOfLine line [] = Unit {0}
-AreOfLine line (place ∷ places) = (place.line ≡ line) × (place.start ≤ place.end) × ArePast place places
+-- Kind and reason of a verdict agree, and with so many frames.
+pub record Agrees (verdict : LineVerdict) (count : ℕ) : Type 0 where
+  pub reason : has_reason verdict.kind verdict.reason ≡ true
+  pub frames : has_frames verdict.kind count ≡ true
 
--- Kind, reason, frames and places of a line agree.
-pub record AreAgreed (line : ℕ) (kind : Kind) (why : Reason) (told : List (List ℕ)) (places : List Place) : Type 0 where
-  pub frames : HasFrames kind (length told)
-  pub reason : HasReason kind why
-  pub placed : (length told ≡ 0) ↔ (length places ≡ 0)
-  pub order : AreOfLine line places
+-- a verdict that waits, if there is one, agrees with so many frames
+abbrev pub WaitingAgrees : Option LineVerdict → ℕ → Type 0
+WaitingAgrees None count = Unit {0}
+WaitingAgrees (Some verdict) count = Agrees verdict count

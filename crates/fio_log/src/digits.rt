@@ -1,6 +1,6 @@
-//! Characters of words, and the octets of hexadecimal digits.
+//! Characters of words and of numbers.
 ghost use Rattle.std.specs.Prelude.{◌≡◌, ◌<◌, IfSome};
-ghost use Rattle.fio_log.specs.Digits.{digit_of, is_between, is_letter, is_separator, octet_of_digits};
+ghost use Rattle.fio_log.specs.Digits.{digit_of, is_between, is_letter};
 
 /// Returns the value of a hexadecimal digit of either case; `None` for any other character.
 pub fn digit(character: u8) -> Option<u8>
@@ -11,17 +11,6 @@ pub fn digit(character: u8) -> Option<u8>
         b'0'..=b'9' => Some(character - b'0'),
         b'A'..=b'F' => Some(character - b'A' + 10),
         b'a'..=b'f' => Some(character - b'a' + 10),
-        _ => None,
-    }
-}
-
-/// Returns the octet of two hexadecimal digits, or of one alone; `None` for any other text.
-pub fn octet(text: &[u8]) -> Option<u8>
-    ensures { result ≡ octet_of_digits text.now }
-{
-    match *text {
-        [alone] => digit(alone),
-        [high, low] => Some(digit(high)? * 16 + digit(low)?),
         _ => None,
     }
 }
@@ -38,11 +27,4 @@ pub fn is_letter(character: u8) -> bool
     ensures { result ≡ is_letter character }
 {
     matches!(character, b'0'..=b'9' | b'A'..=b'Z' | b'a'..=b'z' | b'_' | 128..=255)
-}
-
-/// Returns whether a character may be between two words of a run: a blank, a tab, or one of `,-:;`.
-pub(crate) fn is_separator(character: u8) -> bool
-    ensures { result ≡ is_separator character }
-{
-    matches!(character, b' ' | b'\t' | b',' | b'-' | b':' | b';')
 }

@@ -1,5 +1,5 @@
-//! Reads logs that have frames of the field I/O link, whatever logger wrote them: frames are found by what the octets in a line
-//! say, not by the forms of known loggers. Nothing here allocates memory.
+//! Reads logs that have frames of the field I/O link, whatever logger wrote them: the forms of their lines are learnt from some
+//! of them, and each line is then read by them. Nothing here allocates memory.
 //!
 //! # Examples
 //!
@@ -7,105 +7,97 @@
 //! use fio_log::{Form, Kind, Reader};
 //!
 //! let mut reader = Reader::new(Form::Auto);
-//! reader.feed(b"07:15:02.101 TX 36 05\n");
-//! // Two octets may be anything: the poll is a frame once its answer follows.
-//! assert!(rt; reader.verdict().is_none());
-//! reader.feed(b"07:15:02.103 RX b6 05 00 00 00 00 00 01\n");
+//! // A line gives its form. Without one, forms are learnt from the first lines of the log.
+//! assert!(rt; reader.like(b"TX 36 05") == 1);
+//! reader.feed(b"TX 36 06\n");
 //! let first = reader.verdict();
 //! assert!(rt; first.is_some_and(|verdict| verdict.line == 1 && verdict.kind == Kind::Frames));
-//! assert!(rt; matches!(reader.frame(0), Some([0x36, 5])));
+//! assert!(rt; matches!(reader.frame(0), Some([0x36, 6])));
 //! ```
 //!
 //! | To | Call |
 //! |---|---|
 //! | read a log: a verdict on each line, with its frames and where they are written | `Reader` |
+//! | give forms by sample lines | `Reader::like` |
+//! | learn which forms are known, and how many lines each had | `Reader::forms`, `Reader::read_as` |
 //! | split octets into lines, however they are cut into pieces | `LineMaker` |
-//! | find octets written as hexadecimal words, with each mark of `MARKS` | `next_run` |
-//! | find octets written as decimal numbers in brackets, or as a string literal | `numbers_at`, `literal_at` |
-//! | learn what octets say: a message, the beginning of one, or none | `read_saying` |
 //! | find the first time in a line | `time_in` |
+//! | read a line of the program's own texts | `read_own_line` |
 //!
-//! The definitions are in `specs/`, in this order: characters (`Digits`), words with their marks (`Words`), the octets of
-//! characters (`Readings`, `Numbers`, `Literals`) and the places where they are written (`Written`), runs (`Runs`), what octets
-//! say (`Sayings`), the runs of a line (`LineRuns`), lines (`Lines`), chains of messages (`Chains`), frames and their places
-//! (`Frames`), what an entry keeps (`Keeping`), what words say (`Wordings`), what a verdict says (`Verdicts`), and what a reader
-//! has read and returned (`Telling`). What a time is, and which messages are frames (`judge`), only the code says. The laws are
-//! the contracts of `Reader` and of the module `laws`.
+//! A line is kept until the forms are known (`learning`), heard by them (`by_forms`), and told as soon as its verdict depends on
+//! no line below it (`teller`). The definitions are in `specs/`: characters (`Digits`), times (`Clock`), lines (`Lines`), which
+//! are blank (`Blanks`), what words say (`Wordings`), the program's own texts (`OwnTexts`), frames and their places (`Frames`),
+//! what a verdict says (`Verdicts`, `OwnVerdicts`), what a reader has read and returned (`Telling`), how many lines wait
+//! (`Waiting`), what is known of them (`Knowing`), what is heard of a line by the forms and told of that (`Heard`), from one line to the
+//! next (`Following`), by the forms that are known (`KnownForms`), digits that
+//! go on behind octets (`Spoilt`), and the sizes that messages of other modules have (`Foreign`).
 //!
 //! # What is proved
 //!
 //! Each line has one verdict, in order: `verdict` returns that of the next line, and after the end of the log it returns `None`
-//! only once every line has had its verdict (`told`, `all`); while it returns `None`, at most 1,081,410 lines that are read are
+//! only once every line has had its verdict (`told`, `all`); while it returns `None`, at most 1,024 lines that are read are
 //! without one (`waiting` of `HasNoMore`). `end` keeps a verdict that is ready (`ready`). The lines of a log do not depend on
 //! where it is cut (`lines_are_cut_anywhere`), and the octets that `feed` takes make the lines that are read (`taken`).
 //!
-//! Each frame of a verdict spells a message (`spelled`). Unless lines are read by order, the octets written at the places that
-//! a verdict names, taken in order, contain each of its frames (`written`). `frame` and `place` return that of their index
-//! (`same`), for each index below their number (`given`); no verdict has more than 2,048 frames, 16,384 octets of frames and
-//! 16,384 places (`few` of `HasTold`). Kind, reason, frames and places of a verdict agree (`agreed` of `HasTold`). A line is
-//! blank exactly if it has nothing but blanks, and no more characters than are kept (`blank`). A line that is said to speak of
-//! loss, or to be a heading, does or is, by its own words (`words`). A line of the tools' own texts is read as `show` and
-//! `check` read it (`read_own_line`, `own`, `last`). All this holds of each log whose lines are those that were read (`kept` of
-//! `new`, `feed`, `end` and `verdict`).
+//! Each frame of a verdict spells a message (`spelled`). `frame` and `place` return that of their index (`same`), for each index
+//! below their number (`given`); no verdict has more than 2,048 frames, 16,384 octets of frames and 1,024 places (`few` of
+//! `HasTold`). Kind and reason of a verdict agree, and with its number of frames (`agreed` of `HasTold`). A line of the program's
+//! own texts is read as `show` and `check` read it (`read_own_line`, `own`, `last`). Of any other log, whose lines are those that
+//! were read (`knows`), a line that is said to be blank is (`blank`), and one that is said to speak of loss, or to be a heading, does
+//! or is, by its own words (`words`). `time_in` returns the first time by the table of `specs/Clock.antt` (`time`).
 //!
-//! A run of words that `next_run` finds is made of whole words with one mark, apart by separators alone (`words`); it is the
-//! first from the place on (`first`), and a marked word of one digit at the place itself is found (`single`). `numbers_at` and
-//! `literal_at` return the list or the literal that begins at the place, whole, if there is one, and nothing else (`numbers`,
-//! `literal` and `only`). A run that says a message is kept in its entry, unless one of the same octets and shape is, or three
-//! are; an entry is given each message that the runs of its line say, but an octet beside a longer message and, if the line has
-//! more runs than are kept, a message that does not confirm itself.
+//! Of such a log a verdict tells its line, by the forms that the reader has (`line` of `Reader::verdict`, by `HasToldLine`): what
+//! `Reading::read` of `fio_rows` reads of it below what is open above it, and this is what was read of the lines above, from the
+//! beginning of the log on, where nothing is open (`begins`, `stands`). If the line says a message, that is its first frame; octets that
+//! may go on are a part, and octets without a message are passed over. Such a line is damaged only if it is too long, has NULs, or
+//! digits that go on behind its octets, or would be the 513th row of a message. A message of any length that ends with a line, since the
+//! next one does not go on with it or the log ends, is its only frame.
 //!
-//! Not proved: which kind a line has that is not read by order and not blank; that frames of a chain, or of two verdicts, have
-//! no octet in common; that `time_in` finds each time of a line; that the two short cuts come to what the whole way comes to;
-//! that there is a slot for each line; that no frame is overlooked; that each frame is sure. `docs/CAPTURES.md` says what makes
-//! a frame sure, which is tested.
+//! Not proved: which forms a reader has; whether an echo is one of the frame above; which messages a stream has, the further messages
+//! of a line, where frames stand; what a line is that no form has, and what the last line of a log has that ends within a stream. All
+//! this is tested by `tests/fiolog-reader.py` and `tests/real-logs.py`.
 #![tactic(auto)]
 
-mod around;
 mod blanks;
-mod chains;
+mod by_forms;
 mod clock;
+mod counts;
+mod cut;
 mod digits;
 mod directions;
-mod found;
-mod glance;
-mod judge;
+mod ends;
+mod foreign;
+mod header;
+mod heading;
+mod known_forms;
 pub mod laws;
-mod line_run;
-mod line_runs;
+mod learning;
 mod lines;
-mod literals;
-mod marks;
-mod masks;
-mod messages;
-mod numbers;
-mod octets;
-mod offsets;
+mod middle;
 mod own_texts;
 mod own_verdicts;
 mod parts;
-mod patterns;
 mod places;
+mod quiet;
 mod reader;
-mod runs;
-mod sayings;
+mod rows;
+mod second;
+mod shapes;
 mod sides;
-mod sources;
-mod surroundings;
+mod spoilt;
+mod teller;
+mod time_ends;
+mod time_forms;
+mod told;
 mod verdict;
-mod ways;
 mod wordings;
 
 pub use clock::{Time, time_in};
+pub use counts::{ReadAs, SAMPLE_CHARACTERS};
 pub use directions::Direction;
+pub use header::FrameHeader;
 pub use lines::{LINE_OCTETS, LineMaker};
-pub use literals::{Literal, literal_at};
-pub use marks::{MARKS, Mark};
-pub use numbers::numbers_at;
-pub use octets::{Octets, RUN_OCTETS};
 pub use own_texts::{OwnForm, OwnLine, read_own_line};
-pub use places::{Notation, Place};
+pub use places::Place;
 pub use reader::Reader;
-pub use runs::{Run, Separator, next_run};
-pub use sayings::{Saying, read_saying};
 pub use verdict::{Form, Kind, LineVerdict, Reason};

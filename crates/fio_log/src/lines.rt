@@ -1,7 +1,10 @@
 //! Lines of a log, from octets as they come.
 ghost use Rattle.std.specs.Prelude.{◌≡◌, ℕ, ◌+◌, ◌≤◌, ◌<◌, [], true, length, slice_index, take};
+ghost use Rattle.fio_log.specs.Blanks.{is_blank_line};
+ghost use Rattle.fio_log.specs.Heard.{has_nul};
 ghost use Rattle.fio_log.specs.Lines.{ended, finished, goes_on_held, held_first, held_next, held_octets, held_text, is_plain, is_whole, lines_after, no_line, no_text, only, open_line, pushed, with_all, with_character, with_line_octet, with_making, with_octet_made};
 
+use crate::blanks::are_blanks;
 use arrayvec::ArrayVec;
 use std::marker::Model;
 
@@ -13,6 +16,8 @@ pub const LINE_OCTETS: usize = 65_536;
 enum Held {
     /// Nothing is held.
     Nothing,
+    /// A NUL.
+    Nul,
     /// An escape.
     Escape,
     /// A colour sequence.
@@ -31,7 +36,7 @@ impl Held {
         ensures { result.now ≡ held_octets self }
     {
         match self {
-            Held::Nothing | Held::Colour => b"",
+            Held::Nothing | Held::Nul | Held::Colour => b"",
             Held::Escape => b"\x1b",
             Held::NoBreak => b"\xc2",
             Held::Mark => b"\xef",
@@ -44,6 +49,7 @@ impl Held {
         ensures { result.now ≡ held_text self }
     {
         match self {
+            Held::Nul => b"\0",
             Held::NoBreak => b" ",
             _ => b"",
         }
@@ -55,6 +61,7 @@ impl Held {
     {
         match self {
             Held::Nothing => false,
+            Held::Nul => octet == 0,
             Held::Escape => octet == b'[',
             Held::Colour => true,
             Held::NoBreak => octet == 0xa0,
@@ -68,6 +75,7 @@ impl Held {
         ensures { result ≡ held_next self octet }
     {
         match self {
+            Held::Nul => Held::Nul,
             Held::Escape => Held::Colour,
             Held::Colour if !octet.is_ascii_alphabetic() => Held::Colour,
             Held::Mark => Held::SecondMark,
@@ -80,6 +88,7 @@ impl Held {
         ensures { result ≡ held_first octet }
     {
         match octet {
+            0 => Held::Nul,
             0x1b => Held::Escape,
             0xc2 => Held::NoBreak,
             0xef => Held::Mark,
@@ -148,8 +157,8 @@ impl LineText {
     }
 }
 
-/// Makes lines of octets. A line ends at LF, CR LF or CR. Byte order marks, NUL and colour sequences are taken out, and a
-/// no-break space is a blank.
+/// Makes lines of octets. A line ends at LF, CR LF or CR. Byte order marks, a NUL by itself and colour sequences are taken out,
+/// and a no-break space is a blank. Of several NULs in a row all but the first stay: there is a gap in the line.
 #[derive(Drop)]
 pub struct LineMaker {
     text: LineText,
@@ -288,7 +297,7 @@ impl LineMaker {
         if self.ending != LineEnding::Open {
             return;
         }
-        if self.text.octets.is_empty() && self.held == Held::Nothing {
+        if self.text.octets.is_empty() && matches!(self.held, Held::Nothing | Held::Nul) {
             self.restart();
         } else {
             self.end(LineEnding::Feed);
@@ -364,4 +373,31 @@ fn is_plain(octet: u8) -> bool
     ensures { result ≡ is_plain octet }
 {
     matches!(octet, b' '..=b'~')
+}
+
+/// A line that is read.
+#[derive(Clone, Copy)]
+pub(crate) struct NumberedLine<'a> {
+    /// The line's number.
+    pub number: u64,
+    /// The line's characters.
+    pub text: &'a [u8],
+    /// Whether the line has more characters than are kept.
+    pub is_long: bool,
+}
+
+impl NumberedLine<'_> {
+    /// Returns whether a part of the line is gone: there are NULs in its place.
+    pub(crate) fn has_gap(self) -> bool
+        ensures { result ≡ has_nul self.entry.text.now }
+    {
+        self.text.contains(&0)
+    }
+
+    /// Returns whether the line has nothing but blanks.
+    pub(crate) fn is_blank(self) -> bool
+        ensures { result ≡ is_blank_line (record { octets = self.entry.text.now; is_long = self.entry.is_long }) }
+    {
+        !self.is_long && are_blanks(self.text)
+    }
 }

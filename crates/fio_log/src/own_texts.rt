@@ -1,8 +1,7 @@
 //! Lines of the texts that the program's own tools read, for a caller who says that a log is such a text.
 ghost use Rattle.std.specs.Prelude.{◌≡◌, IfNone, IfSome, None};
-ghost use Rattle.fio_log.specs.OwnTexts.{IsOwnLine, IsFrameInRoom, own_frame_with, own_frame, spells_from};
+ghost use Rattle.fio_log.specs.OwnTexts.{IsOwnLine, IsFrameInRoom, own_frame_with, own_frame, spells, spells_from};
 
-use crate::sayings::spelled;
 use fio_message::{FRAME_OCTETS, read_answer, read_command};
 use fio_text::{after_prefix, is_skipped, read_octets_to};
 
@@ -90,8 +89,18 @@ fn spells_from(from_cpu: Option<bool>, octets: &[u8]) -> bool
     ensures { result ≡ spells_from from_cpu octets.now }
 {
     match from_cpu {
-        None => spelled(octets).is_ok(),
+        None => spells(octets),
         Some(true) => read_command(octets).is_ok(),
         Some(false) => read_answer(octets).is_ok(),
+    }
+}
+
+/// Returns whether octets encode a message of the end that their first octet names.
+pub(crate) fn spells(octets: &[u8]) -> bool
+    ensures { result ≡ spells octets.now }
+{
+    match octets {
+        [128..=255, ..] => read_answer(octets).is_ok(),
+        _ => read_command(octets).is_ok(),
     }
 }

@@ -1,17 +1,15 @@
 //! Verdicts on lines of the program's own texts, which are read in the form that the caller gives.
-ghost use Rattle.std.specs.Prelude.{◌≡◌, [], ◌∷◌, false, length, map, true};
-ghost use Rattle.fio_log.specs.Frames.{octets_of_message};
+ghost use Rattle.std.specs.Prelude.{◌≡◌, [], ◌∷◌, length, true};
+ghost use Rattle.fio_log.specs.Verdicts.{Agrees};
+ghost use Rattle.fio_log.specs.OwnTexts.{spells};
 ghost use Rattle.fio_log.specs.OwnVerdicts.{IsOwnVerdict, own_form_of};
-ghost use Rattle.fio_log.specs.Sayings.{spells};
-ghost use Rattle.fio_log.specs.Verdicts.{AreAgreed, AreOfLine};
 
 use crate::directions::Direction;
-use crate::judge::NumberedLine;
-use crate::judge::tell::Frames;
-use crate::messages::Message;
+use crate::lines::NumberedLine;
 use crate::own_texts::{OwnForm, OwnLine, read_own_line};
-use crate::places::{Notation, Place};
+use crate::places::Place;
 use crate::sides::said_at;
+use crate::told::Told;
 use crate::verdict::{Form, Kind, LineVerdict, Reason};
 use fio_message::FRAME_OCTETS;
 
@@ -38,18 +36,13 @@ impl OwnForm {
     }
 }
 
-impl Frames {
+impl Told {
     /// Returns the verdict on a line of an own text, and takes its frame.
     pub(crate) fn tell_own(&mut self, form: OwnForm, line: NumberedLine) -> LineVerdict
-        ensures own { IsOwnVerdict form (record { octets = line.entry.text.now; is_long = line.entry.is_long }) result.kind result.reason
-            (map octets_of_message self.new.messages.items) }
-        ensures agreed { AreAgreed line.entry.number result.kind result.reason (map octets_of_message self.new.messages.items) self.new.places.items }
-        ensures line { result.line ≡ line.entry.number }
-        ensures apart { self.new.are_chain ≡ false }
+        ensures agrees { Agrees result (length self.new.frames) }
+        ensures own { IsOwnVerdict form (record { octets = line.entry.text.now; is_long = line.entry.is_long }) result.kind result.reason self.new.frames }
     {
-        self.messages.clear();
-        self.places.clear();
-        self.are_chain = false;
+        self.clear();
         let said = form.said(line.text);
         let mut room = [0; FRAME_OCTETS];
         match read_own_line(form, line.text, &mut room) {
@@ -71,25 +64,20 @@ impl Frames {
 
     /// Takes the frame of a line.
     fn take_own(&mut self, form: OwnForm, line: NumberedLine, octets: &[u8])
-        requires none { self.old.messages.items ≡ [] }
-        requires unplaced { self.old.places.items ≡ [] }
+        requires none { self.old.frames ≡ [] }
         requires spelled { spells octets.now ≡ true }
-        ensures frame { map octets_of_message self.new.messages.items ≡ octets.now ∷ [] }
-        ensures placed { length self.new.places.items ≡ 1 }
-        ensures order { AreOfLine line.entry.number self.new.places.items }
-        ensures apart { self.new.are_chain ≡ self.old.are_chain }
+        ensures { self.new.frames ≡ octets.now ∷ [] }
     {
         let end = line.text.len();
         let front = match form {
             OwnForm::Frames => 0,
             OwnForm::Transcript => 2,
         };
-        self.messages.push(Message::of(octets));
-        self.places.push(Place {
+        let _fits = self.add_frame(octets);
+        let _fits = self.add_place(Place {
             line: line.number,
             start: end.min(front),
             end,
-            notation: Notation::Words,
         });
     }
 }

@@ -1,10 +1,11 @@
 //! The parts of a time, and their sum in microseconds.
+ghost use Rattle.std.specs.Prelude.{◌≡◌, ◌≤◌, ◌<◌, true};
+ghost use Rattle.fio_log.specs.Clock.{can_be, days_from_march, days_of, microseconds_in, no_parts, with_part};
 
 /// The days from 1 March of the year 0 to 1970.
 const DAYS_TO_1970: u64 = 719_468;
 
-/// The parts of a time. A day of 0 says that it has no date. No part has more than 14 digits, so no product below
-/// overflows.
+/// The parts of a time. A day of 0 says that it has no date.
 #[derive(Clone, Copy)]
 pub(crate) struct TimeParts {
     pub year: u64,
@@ -17,51 +18,86 @@ pub(crate) struct TimeParts {
 }
 
 impl TimeParts {
-    /// Sets the part that a sign of a form names.
-    pub(crate) fn set(&mut self, sign: u8, value: u64) {
-        match sign {
-            b'Y' => self.year = value,
-            b'M' => self.month = value,
-            b'D' => self.day = value,
-            b'h' => self.hour = value,
-            b'm' => self.minute = value,
-            _ => self.second = value,
+    /// Returns what a time has of which nothing is read.
+    pub(crate) fn new() -> TimeParts
+        ensures { result ≡ no_parts }
+    {
+        TimeParts {
+            year: 1970,
+            month: 0,
+            day: 0,
+            hour: 0,
+            minute: 0,
+            second: 0,
+            microseconds: 0,
         }
+    }
+
+    /// Returns the parts with the number of a sign of a form.
+    pub(crate) fn with(self, sign: u8, value: u64) -> TimeParts
+        ensures { result ≡ with_part self sign value }
+    {
+        let mut parts = self;
+        match sign {
+            b'Y' => parts.year = value,
+            b'M' => parts.month = value,
+            b'D' => parts.day = value,
+            b'h' => parts.hour = value,
+            b'm' => parts.minute = value,
+            _ => parts.second = value,
+        }
+        parts
+    }
+
+    /// Returns whether these can be the parts of a time.
+    pub(crate) fn can_be(self) -> bool
+        ensures { result ≡ can_be self }
+    {
+        self.hour < 24
+            && self.minute < 60
+            && self.month < 13
+            && self.year < 10_000
+            && self.day < 100
+            && self.second < 10_000_000_000
+            && self.microseconds < 10_000_000_000
     }
 
     /// Returns the days since 1970, 0 without a date. Here a year begins in March.
-    fn days(&self) -> u64 {
+    fn days(self) -> u64
+        requires { can_be self ≡ true }
+        ensures days { result ≡ days_of self }
+        ensures few { result ≤ 4000000 }
+    {
         if self.day == 0 {
-            return 0;
+            0
+        } else if self.month < 3 {
+            days_from_march(self.year.saturating_sub(1), self.month + 9, self.day)
+        } else {
+            days_from_march(self.year, self.month - 3, self.day)
         }
-        let is_early = self.month < 3;
-        let year = if is_early {
-            self.year.saturating_sub(1)
-        } else {
-            self.year
-        };
-        let month = if is_early {
-            self.month.saturating_add(9)
-        } else {
-            self.month - 3
-        };
-        let leaps = year / 4 - year / 100 + year / 400;
-        let days = year.wrapping_mul(365).wrapping_add(leaps);
-        let in_year = month.wrapping_mul(153).wrapping_add(2) / 5;
-        let all = days
-            .wrapping_add(in_year)
-            .wrapping_add(self.day)
-            .saturating_sub(1);
-        all.saturating_sub(DAYS_TO_1970)
     }
 
     /// Returns the microseconds since 1970, or since midnight.
-    pub(crate) fn total(&self) -> u64 {
-        let hours = self.days().wrapping_mul(24).wrapping_add(self.hour);
-        let minutes = hours.wrapping_mul(60).wrapping_add(self.minute);
-        let seconds = minutes.wrapping_mul(60).wrapping_add(self.second);
-        seconds
-            .wrapping_mul(1_000_000)
-            .wrapping_add(self.microseconds)
+    #[tactic(auto, unfolding(crate::specs::Clock::microseconds_in))]
+    pub(crate) fn total(self) -> u64
+        requires { can_be self ≡ true }
+        ensures { result ≡ microseconds_in self }
+    {
+        let hours = self.days() * 24 + self.hour;
+        let minutes = hours * 60 + self.minute;
+        (minutes * 60 + self.second) * 1_000_000 + self.microseconds
     }
+}
+
+/// Returns the days since 1970 of a day of a year that begins in March.
+fn days_from_march(year: u64, month: u64, day: u64) -> u64
+    requires year { year < 10000 }
+    requires month { month < 12 }
+    requires day { day < 100 }
+    ensures days { result ≡ days_from_march year month day }
+    ensures few { result ≤ 4000000 }
+{
+    let leaps = (year / 4).saturating_sub(year / 100) + year / 400;
+    let days = year * 365 + leaps + (month * 153 + 2) / 5 + day;
+    days.saturating_sub(1).saturating_sub(DAYS_TO_1970)
 }

@@ -1,67 +1,57 @@
 //! The reader of a log: it turns octets into lines, and lines into verdicts.
-ghost use Rattle.std.specs.Prelude.{◌≡◌, ◌+◌, ◌≤◌, ◌<◌, ◌↔◌, true, false, IfSome, IsSome, MatchOption, Some, [], get_or, length, slice_index_or, take};
-ghost use Rattle.fio_log.specs.Lines.{finished, is_whole, no_line};
+ghost use Rattle.std.specs.Prelude.{◌≡◌, ◌+◌, ◌≤◌, ◌<◌, ◌↔◌, true, false, ℕ, List, None, Some, IfSome, IsSome, MatchOption, [], get_or, length, slice_index_or, take};
 ghost use Rattle.fio_log.specs.Blanks.{Texts, is_blank_line};
-ghost use Rattle.fio_log.specs.Sayings.{spells};
-ghost use Rattle.fio_log.specs.Frames.{AreFramesAt, Log};
+ghost use Rattle.fio_log.specs.Following.{Follows, HasNext, IsDue, TellsNext};
+ghost use Rattle.fio_log.specs.Heard.{Above};
+ghost use Rattle.fio_log.specs.Knowing.{HasWindowOf, IsLineAt, KnowsLines, SaysOf};
+ghost use Rattle.fio_log.specs.Lines.{finished, is_whole, no_line};
+ghost use Rattle.fio_log.specs.OwnTexts.{spells};
 ghost use Rattle.fio_log.specs.OwnVerdicts.{IsOwnVerdict, own_form_of};
+ghost use Rattle.fio_log.specs.Telling.{BeginsLog, HasNoMore, HasReadAsBefore, HasTaken, HasTold, HasToldLine, IsTextOf, KeepsVerdict, Knows, Stands, frames_of, has_told_all, places_of, read_at_end};
+ghost use Rattle.fio_log.specs.Verdicts.{Agrees, WaitingAgrees};
+ghost use Rattle.fio_log.specs.Waiting.{Fills, KnowsAsBefore, WaitsForOne};
 ghost use Rattle.fio_log.specs.Wordings.{SaysWords};
-ghost use Rattle.fio_log.specs.Telling.{HasNoMore, HasTaken, HasTold, IsLineOf, IsReaderOf, IsTextOf, KeepsVerdict, KnowsBlanks, frames_of, has_told_all, places_of, read_at_end};
-ghost use Rattle.fio_log.specs.declared.own_texts.OwnForm.{OwnForm};
-ghost use Rattle.fio_log.specs.declared.verdict.Form.TheVariants.{Auto};
 ghost use Rattle.fio_log.specs.declared.verdict.Kind.TheVariants.{Blank};
-ghost use Rattle.fio_log.specs.declared.blanks.TheConstants.{BLANKS};
+ghost use Rattle.fio_log.specs.declared.verdict.Form.TheVariants.{Auto};
+ghost use Rattle.fio_log.specs.declared.own_texts.OwnForm.{OwnForm};
 
-use crate::blanks::Blanks;
-use crate::judge::Judge;
-use crate::judge::tell::Frames;
-use crate::line_run::LineRuns;
+use crate::counts::ReadAs;
 use crate::lines::LineMaker;
-use crate::patterns::Patterns;
 use crate::places::Place;
+use crate::teller::{At, Teller, last_line};
+use crate::told::Told;
 use crate::verdict::{Form, Kind, LineVerdict, Reason};
 use std::marker::Model;
-
-mod reading;
-mod telling;
 
 /// A reader of a log: takes its octets in pieces of any size, and returns a verdict on each line, in order, with the frames of
 /// the line and the places where they are written.
 ///
 /// Call `verdict` until it returns `None`, then feed the next octets; at the end of the log call `end`, and then `verdict`
-/// until it returns `None`. The frames and places of a verdict are there until the next call that changes the reader. A verdict
-/// may have to wait for later lines: whether a short message is a frame is often shown by the lines after it. The head of the
-/// crate has an example.
+/// until it returns `None`. The frames and places of a verdict are there until the next call that changes the reader. The
+/// first verdicts wait until the forms of the log are known: at most a window of lines. The head of the crate has an example.
 #[derive(Drop)]
 pub struct Reader {
     maker: LineMaker,
-    runs: LineRuns,
-    /// How the last lines with octets were written.
-    patterns: Patterns,
-    judge: Judge,
-    frames: Frames,
-    /// The blank lines without a verdict; none if `form` names one of the program's own texts.
-    blanks: Blanks,
+    teller: Teller,
+    frames: Told,
     form: Form,
     /// The verdict on the last line, if `form` names one of the program's own texts.
     own: LineVerdict,
+    /// How many lines are read, and of how many the verdict was returned.
     read: u64,
     told: u64,
-    /// Whether the last line is still to be read, after the verdicts that were ready at the end of the log are fetched.
-    is_unread: bool,
-    /// Whether the last line is still to be judged, after the verdicts of those above it are fetched.
-    is_held: bool,
     is_ready: bool,
     is_ended: bool,
 }
 
 impl Model for Reader {
     ghost use Rattle.std.specs.Prelude.{◌≡◌, ◌+◌, ◌≤◌, ◌<◌, Some, false, length, true};
-    ghost use Rattle.fio_log.specs.Blanks.{AreBetween};
     ghost use Rattle.fio_log.specs.Lines.{is_whole};
     ghost use Rattle.fio_log.specs.OwnVerdicts.{IsToldByOrder, own_form_of};
     ghost use Rattle.fio_log.specs.Telling.{Telling};
-    ghost use Rattle.fio_log.specs.declared.blanks.TheConstants.{BLANKS};
+    ghost use Rattle.fio_log.specs.Verdicts.{WaitingAgrees};
+    ghost use Rattle.fio_log.specs.Waiting.{Fills, WaitsForOne};
+    ghost use Rattle.fio_log.specs.declared.verdict.Form.TheVariants.{Auto};
     ghost use Rattle.fio_log.specs.declared.own_texts.OwnForm.{OwnForm};
 
     ghost Value = { Telling };
@@ -74,23 +64,18 @@ impl Model for Reader {
       is_ready = r.is_ready;
       is_ended = r.is_ended;
       last = r.frames;
-      judge = r.judge;
-      is_unread = r.is_unread;
-      is_held = r.is_held;
-      runs = r.runs.all.items;
-      blanks = r.blanks.lines.items;
+      teller = r.teller;
     } };
 
     ghost invariant = { λ r. (r.told ≤ r.read)
         × (r.is_ready ≡ true → r.told < r.read)
         × (r.is_ended ≡ true → r.told < r.read → r.is_ready ≡ true)
-        × (r.is_held ≡ true → is_whole r.maker.ending ≡ true)
+        × (r.is_ready ≡ true → r.is_ended ≡ false → is_whole r.maker.ending ≡ true)
         × ((own : OwnForm) → own_form_of r.form ≡ Some own → r.told < r.read
-        → (r.is_ready ≡ true) × (r.told + 1 ≡ r.read) × IsToldByOrder own r.read r.maker r.own r.frames)
-        × (r.is_unread ≡ true → is_whole r.maker.ending ≡ true)
-        × AreBetween r.told r.read r.blanks.lines.items
-        × (r.is_ready ≡ false → length r.blanks.lines.items + 2 ≤ BLANKS)
-        × (is_whole r.maker.ending ≡ false → length r.blanks.lines.items < BLANKS) };
+        → (r.is_ready ≡ true) × (r.told + 1 ≡ r.read) × IsToldByOrder own r.maker r.own r.frames)
+        × (WaitingAgrees r.teller.waiting (length r.frames.frames))
+        × (r.form ≡ Auto → Fills r.teller r.read r.told)
+        × (r.form ≡ Auto → r.is_ready ≡ false → r.is_ended ≡ false → WaitsForOne r.teller r.read r.told) };
 }
 
 impl Reader {
@@ -101,22 +86,17 @@ impl Reader {
         ensures none_told { result.told ≡ 0 }
         ensures open { result.is_ended ≡ false }
         ensures form { result.form ≡ form }
-        ensures kept { (log : Log) → IsReaderOf log result }
-        ensures blanks { (texts : Texts) → KnowsBlanks texts result }
+        ensures knows { (texts : Texts) → Knows texts result }
+        ensures begins { BeginsLog result }
     {
         Reader {
             maker: LineMaker::new(),
-            runs: LineRuns::new(),
-            patterns: Patterns::new(),
-            judge: Judge::new(),
-            frames: Frames::new(),
-            blanks: Blanks::new(),
+            teller: Teller::new(),
+            frames: Told::new(),
             form,
             own: LineVerdict::of(0, Kind::Blank, Reason::None, None),
             read: 0,
             told: 0,
-            is_unread: false,
-            is_held: false,
             is_ready: false,
             is_ended: false,
         }
@@ -129,22 +109,43 @@ impl Reader {
         ensures none_told { self.new.told ≡ 0 }
         ensures open { self.new.is_ended ≡ false }
         ensures form { self.new.form ≡ self.old.form }
-        ensures kept { (log : Log) → IsReaderOf log self.new }
-        ensures blanks { (texts : Texts) → KnowsBlanks texts self.new }
+        ensures knows { (texts : Texts) → Knows texts self.new }
+        ensures begins { BeginsLog self.new }
     {
         self.maker.restart();
-        self.runs.clear();
-        self.patterns.clear();
-        self.judge.clear();
+        self.teller.start_again();
         self.frames.clear();
-        self.blanks.clear();
         self.own = LineVerdict::of(0, Kind::Blank, Reason::None, None);
         self.read = 0;
         self.told = 0;
-        self.is_unread = false;
-        self.is_held = false;
         self.is_ready = false;
         self.is_ended = false;
+    }
+
+    /// Learns forms from sample lines, by which the lines of the log are read from its beginning; returns how many. It learns
+    /// none once a line of the log is read, or if the log is one of the program's own texts.
+    pub fn like(&mut self, sample: &[u8]) -> usize
+        ensures same { HasReadAsBefore self.old self.new }
+        ensures knows { (texts : Texts) → Knows texts self.old → Knows texts self.new }
+        ensures stands { (texts : Texts) (above : Above) → Stands texts above self.old → Stands texts above self.new }
+        ensures late { 0 < self.old.read → result ≡ 0 }
+        ensures few { result ≤ 16 }
+        ensures own { (own : OwnForm) → own_form_of self.old.form ≡ Some own → result ≡ 0 }
+    {
+        if self.read > 0 || self.form != Form::Auto {
+            return 0;
+        }
+        self.teller.like(sample)
+    }
+
+    /// Returns how many forms are known.
+    pub fn forms(&self) -> usize {
+        self.teller.forms()
+    }
+
+    /// Returns how the lines of a form look, and how many there are.
+    pub fn read_as(&self, form: usize) -> Option<ReadAs<'_>> {
+        self.teller.read_as(form)
     }
 
     /// Returns whether the log has ended and every verdict is fetched.
@@ -162,18 +163,35 @@ impl Reader {
         ensures none { result ≡ 0 → self.new ≡ self.old }
         ensures forward { self.old.is_ready ≡ false → self.old.is_ended ≡ false → self.old.read < u64.MAX
             → 0 < length octets.now → 0 < result }
-        ensures kept { (log : Log) → IsReaderOf log self.old → IsLineOf log self.new → IsReaderOf log self.new }
-        ensures blanks { (texts : Texts) → KnowsBlanks texts self.old → IsTextOf texts self.new → KnowsBlanks texts self.new }
+        ensures knows { (texts : Texts) → Knows texts self.old → IsTextOf texts self.new → Knows texts self.new }
+        ensures stands { (texts : Texts) (above : Above) → Knows texts self.old → Stands texts above self.old → IsTextOf texts self.new
+            → Stands texts above self.new }
     {
         if self.is_ready || self.is_ended || self.read == u64::MAX || octets.is_empty() {
             return 0;
         }
-        self.judge_held();
+        let above = At {
+            read: self.read,
+            told: self.told,
+            is_ended: false,
+        };
+        self.teller.settle(&self.maker, above, &mut self.frames);
         let count = self.maker.take(octets);
         if self.maker.is_whole() {
-            self.read_line();
-        } else {
-            self.refresh();
+            self.read += 1;
+            let here = At {
+                read: self.read,
+                told: self.told,
+                is_ended: false,
+            };
+            self.is_ready = read_line(
+                self.form,
+                &self.maker,
+                here,
+                &mut self.teller,
+                &mut self.frames,
+                &mut self.own,
+            );
         }
         count
     }
@@ -188,14 +206,72 @@ impl Reader {
         ensures told { self.new.told ≡ self.old.told }
         ensures form { self.new.form ≡ self.old.form }
         ensures ready { self.old.is_ready ≡ true → KeepsVerdict self.old self.new }
-        ensures kept { (log : Log) → IsReaderOf log self.old → IsLineOf log self.new → IsReaderOf log self.new }
-        ensures blanks { (texts : Texts) → KnowsBlanks texts self.old → IsTextOf texts self.new → KnowsBlanks texts self.new }
+        ensures knows { (texts : Texts) → Knows texts self.old → IsTextOf texts self.new → Knows texts self.new }
+        ensures stands { (texts : Texts) (above : Above) → Knows texts self.old → Stands texts above self.old → IsTextOf texts self.new
+            → Stands texts above self.new }
     {
+        if self.is_ended {
+            return;
+        }
+        if self.is_ready {
+            self.is_ended = true;
+            return;
+        }
         self.finish_line();
+        let last = At {
+            read: self.read,
+            told: self.told,
+            is_ended: true,
+        };
+        end_teller(
+            self.form,
+            self.is_ready,
+            &self.maker,
+            last,
+            &mut self.teller,
+        );
         self.is_ended = true;
-        if !self.is_ready {
-            self.is_ready = self.told < self.read;
-            self.refresh();
+        self.is_ready = self.told < self.read;
+    }
+
+    /// Ends the line that is being made, and reads it if it has octets.
+    fn finish_line(&mut self)
+        requires unready { self.old.is_ready ≡ false }
+        requires open { self.old.is_ended ≡ false }
+        ensures line { self.old.read < u64.MAX → (self.new.making ≡ finished self.old.making)
+            × (self.new.read ≡ read_at_end self.old.read self.old.making) }
+        ensures told { self.new.told ≡ self.old.told }
+        ensures form { self.new.form ≡ self.old.form }
+        ensures open { self.new.is_ended ≡ false }
+        ensures knows { (texts : Texts) → Knows texts self.old → IsTextOf texts self.new → Knows texts self.new }
+        ensures stands { (texts : Texts) (above : Above) → Knows texts self.old → Stands texts above self.old → IsTextOf texts self.new
+            → Stands texts above self.new }
+    {
+        if self.read == u64::MAX || self.maker.is_whole() {
+            return;
+        }
+        let above = At {
+            read: self.read,
+            told: self.told,
+            is_ended: false,
+        };
+        self.teller.settle(&self.maker, above, &mut self.frames);
+        self.maker.finish();
+        if self.maker.is_whole() {
+            self.read += 1;
+            let here = At {
+                read: self.read,
+                told: self.told,
+                is_ended: false,
+            };
+            self.is_ready = read_line(
+                self.form,
+                &self.maker,
+                here,
+                &mut self.teller,
+                &mut self.frames,
+                &mut self.own,
+            );
         }
     }
 
@@ -209,33 +285,42 @@ impl Reader {
             IsOwnVerdict own self.new.making.text verdict.kind verdict.reason (frames_of self.new)) }
         ensures last { (own : OwnForm) → own_form_of self.old.form ≡ Some own → IfSome result (λ verdict.
             (verdict.line ≡ self.new.read) × (is_whole self.new.making.ending ≡ true)) }
-        ensures blank { (texts : Texts) → KnowsBlanks texts self.old → self.old.form ≡ Auto → IfSome result (λ verdict.
-            (verdict.kind ≡ Blank) ↔ (is_blank_line (texts verdict.line) ≡ true)) }
-        ensures blanks { (texts : Texts) → KnowsBlanks texts self.old → KnowsBlanks texts self.new }
-        ensures kept { (log : Log) → IsReaderOf log self.old → IsReaderOf log self.new }
-        ensures written { (log : Log) → IsReaderOf log self.old → self.old.form ≡ Auto
-            → AreFramesAt log (frames_of self.new) (places_of self.new) }
-        ensures words { (log : Log) → IsReaderOf log self.old → self.old.form ≡ Auto
-            → IfSome result (λ verdict. SaysWords (log verdict.line) verdict.reason) }
+        ensures knows { (texts : Texts) → Knows texts self.old → Knows texts self.new }
+        ensures line { (texts : Texts) (above : Above) → Knows texts self.old → Stands texts above self.old → self.old.form ≡ Auto
+            → MatchOption result (Stands texts above self.new) (λ verdict. HasToldLine texts above self.old verdict self.new) }
+        ensures words { (texts : Texts) → Knows texts self.old → self.old.form ≡ Auto
+            → IfSome result (λ verdict. SaysWords (texts verdict.line).octets verdict.reason) }
+        ensures blank { (texts : Texts) → Knows texts self.old → self.old.form ≡ Auto
+            → IfSome result (λ verdict. verdict.kind ≡ Blank → is_blank_line (texts verdict.line) ≡ true) }
     {
-        if !self.is_due() {
+        if !self.is_ready {
             return None;
         }
-        let verdict = self.tell_line(self.told + 1);
-        let lines = &self.judge.join.lines;
-        let (frames, places) = (self.frames.count(lines), self.frames.place_count(lines));
+        let above = At {
+            read: self.read,
+            told: self.told,
+            is_ended: self.is_ended,
+        };
+        let verdict = next_verdict(
+            self.form,
+            self.own,
+            &self.maker,
+            above,
+            &mut self.teller,
+            &mut self.frames,
+        );
         self.told += 1;
-        self.blanks.remove(self.told);
-        let are_many = self.blanks.are_many();
-        self.is_ready = self.told < self.read
-            && (self.is_ended
-                || self.form != Form::Auto
-                || self.judge.is_decided(self.told + 1)
-                || are_many);
+        let here = At {
+            read: self.read,
+            told: self.told,
+            is_ended: self.is_ended,
+        };
+        let is_heard = next_is_heard(self.form, &self.maker, here, &mut self.teller);
+        self.is_ready = can_tell(here, is_heard);
         Some(LineVerdict {
             line: self.told,
-            frames,
-            places,
+            frames: self.frames.frames(),
+            places: self.frames.places(),
             ..verdict
         })
     }
@@ -246,15 +331,7 @@ impl Reader {
         ensures spelled { IfSome result (λ octets. spells octets.now ≡ true) }
         ensures same { IfSome result (λ octets. octets.now ≡ get_or (frames_of self.now) index []) }
     {
-        if self.frames.are_chain {
-            return self.judge.join.lines.chain.message(index);
-        }
-        let messages = self.frames.messages.as_slice();
-        if index < messages.len() {
-            Some(messages[index].octets())
-        } else {
-            None
-        }
+        self.frames.frame(index)
     }
 
     /// Returns a place where octets of the last verdict's frames are written.
@@ -262,10 +339,120 @@ impl Reader {
         ensures given { IsSome result ↔ (index < length (places_of self.now)) }
         ensures same { IfSome result (λ place. place ≡ slice_index_or (places_of self.now) index place) }
     {
-        if self.frames.are_chain {
-            self.judge.join.lines.place(index)
-        } else {
-            self.frames.places.as_slice().get(index).copied()
-        }
+        self.frames.place(index)
     }
+}
+
+/// Reads the line that is whole; returns whether a verdict can be told. That of a line of an own text is written to `own`.
+fn read_line(
+    form: Form,
+    maker: &LineMaker,
+    at: At,
+    teller: &mut Teller,
+    frames: &mut Told,
+    own: &mut LineVerdict,
+) -> bool
+    ensures ready { (text : OwnForm) → own_form_of form ≡ Some text → result ≡ true }
+    ensures own { (text : OwnForm) → own_form_of form ≡ Some text
+        → IsOwnVerdict text maker.now.text own.new.kind own.new.reason frames.new.frames }
+    ensures agrees { (text : OwnForm) → own_form_of form ≡ Some text → Agrees own.new (length frames.new.frames) }
+    ensures kept { form ≡ Auto → (teller.old.is_known ≡ false → at.read ≤ at.told + length teller.old.learning.window + 1) → Fills teller.new at.read at.told }
+    ensures one { form ≡ Auto → result ≡ false → WaitsForOne teller.new at.read at.told }
+    ensures waiting { WaitingAgrees teller.old.waiting (length frames.old.frames)
+        → WaitingAgrees teller.new.waiting (length frames.new.frames) }
+    ensures known { form ≡ Auto → result ≡ true → teller.new.is_known ≡ true }
+    ensures frames { form ≡ Auto → frames.new.frames ≡ frames.old.frames }
+    ensures knows { form ≡ Auto → (texts : Texts) (above : ℕ) → at.read ≡ above + 1 → is_whole maker.now.ending ≡ true
+        → IsLineAt texts at.read maker.now → KnowsLines texts teller.old above at.told → KnowsLines texts teller.new at.read at.told }
+    ensures follows { form ≡ Auto → (texts : Texts) (above : Above) (shown : List (List ℕ)) (last : ℕ) → at.read ≡ last + 1 → is_whole maker.now.ending ≡ true
+        → IsLineAt texts at.read maker.now → KnowsLines texts teller.old last at.told
+        → Follows texts above teller.old maker.now shown at.read at.told → Follows texts above teller.new maker.now shown at.read at.told }
+    ensures next { form ≡ Auto → (texts : Texts) (above : Above) (shown : List (List ℕ)) (last : ℕ) → at.read ≡ last + 1 → is_whole maker.now.ending ≡ true
+        → IsLineAt texts at.read maker.now → KnowsLines texts teller.old last at.told
+        → Follows texts above teller.old maker.now shown at.read at.told → HasNext teller.new at.read at.told }
+    ensures due { form ≡ Auto → result ≡ true → IsDue teller.new at.read at.told }
+{
+    match form.own() {
+        Some(text) => {
+            teller.forget();
+            *own = frames.tell_own(text, last_line(maker, at.read));
+            true
+        }
+        None => teller.read_line(maker, at),
+    }
+}
+
+/// Returns the next verdict: that of the line of an own text, or the teller's.
+fn next_verdict(
+    form: Form,
+    own: LineVerdict,
+    maker: &LineMaker,
+    at: At,
+    teller: &mut Teller,
+    frames: &mut Told,
+) -> LineVerdict
+    requires waiting { WaitingAgrees teller.old.waiting (length frames.old.frames) }
+    requires own { (text : OwnForm) → own_form_of form ≡ Some text → Agrees own (length frames.old.frames) }
+    ensures own { (text : OwnForm) → own_form_of form ≡ Some text → result ≡ own }
+    ensures frames { (text : OwnForm) → own_form_of form ≡ Some text → frames.new ≡ frames.old }
+    ensures agrees { Agrees result (length frames.new.frames) }
+    ensures waiting { WaitingAgrees teller.new.waiting (length frames.new.frames) }
+    ensures known { KnowsAsBefore teller.old teller.new }
+    ensures none { form ≡ Auto → teller.new.waiting ≡ None }
+    ensures said { form ≡ Auto → (texts : Texts) → at.told < u64.MAX → IsLineAt texts at.read maker.now
+        → KnowsLines texts teller.old at.read at.told → SaysOf (texts (at.told + 1)) result }
+    ensures tells { form ≡ Auto → (texts : Texts) (above : Above) → IsLineAt texts at.read maker.now → HasWindowOf texts teller.old
+        → teller.old.is_known ≡ true → at.told < at.read → HasNext teller.old at.read at.told
+        → (at.is_ended ≡ false → IsDue teller.old at.read at.told)
+        → Follows texts above teller.old maker.now frames.old.frames at.read at.told
+        → TellsNext texts teller.old.by_forms.forms above at.is_ended result.kind teller.new maker.now frames.new.frames at.read at.told }
+{
+    match form.own() {
+        Some(_text) => own,
+        None => teller.tell_next(maker, at, frames),
+    }
+}
+
+/// Ends the log for the teller, if the verdict of its last line cannot be told yet.
+fn end_teller(form: Form, is_ready: bool, maker: &LineMaker, at: At, teller: &mut Teller)
+    ensures waiting { teller.new.waiting ≡ teller.old.waiting }
+    ensures kept { (form ≡ Auto → Fills teller.old at.read at.told) → form ≡ Auto → Fills teller.new at.read at.told }
+    ensures known { form ≡ Auto → is_ready ≡ false → teller.new.is_known ≡ true }
+    ensures same { teller.old.is_known ≡ true → teller.new.is_known ≡ true }
+    ensures knows { form ≡ Auto → (texts : Texts) → KnowsLines texts teller.old at.read at.told
+        → KnowsLines texts teller.new at.read at.told }
+    ensures follows { form ≡ Auto → (texts : Texts) (above : Above) (shown : List (List ℕ)) → IsLineAt texts at.read maker.now
+        → KnowsLines texts teller.old at.read at.told → Follows texts above teller.old maker.now shown at.read at.told → Follows texts above teller.new maker.now shown at.read at.told }
+    ensures next { form ≡ Auto → (texts : Texts) (above : Above) (shown : List (List ℕ)) → IsLineAt texts at.read maker.now
+        → KnowsLines texts teller.old at.read at.told → Follows texts above teller.old maker.now shown at.read at.told
+        → HasNext teller.old at.read at.told → HasNext teller.new at.read at.told }
+{
+    if is_ready || form != Form::Auto {
+        return;
+    }
+    teller.end(maker, at);
+}
+
+/// Hears the next line, if it is there; returns whether its verdict can be told.
+fn next_is_heard(form: Form, maker: &LineMaker, at: At, teller: &mut Teller) -> bool
+    ensures waiting { teller.new.waiting ≡ teller.old.waiting }
+    ensures known { KnowsAsBefore teller.old teller.new }
+    ensures one { form ≡ Auto → result ≡ false → WaitsForOne teller.new at.read at.told }
+    ensures follows { form ≡ Auto → (texts : Texts) (above : Above) (shown : List (List ℕ)) → IsLineAt texts at.read maker.now → HasWindowOf texts teller.old
+        → Follows texts above teller.old maker.now shown at.read at.told → Follows texts above teller.new maker.now shown at.read at.told }
+    ensures next { form ≡ Auto → (texts : Texts) (above : Above) (shown : List (List ℕ)) → Follows texts above teller.old maker.now shown at.read at.told
+        → HasNext teller.new at.read at.told }
+    ensures due { form ≡ Auto → result ≡ true → IsDue teller.new at.read at.told }
+{
+    form == Form::Auto && teller.hear_next(maker, at)
+}
+
+/// Returns whether the next verdict can be told: after the end that of each line can.
+fn can_tell(at: At, is_heard: bool) -> bool
+    ensures less { result ≡ true → at.told < at.read }
+    ensures ended { at.is_ended ≡ true → at.told < at.read → result ≡ true }
+    ensures heard { is_heard ≡ true → at.told < at.read → result ≡ true }
+    ensures due { result ≡ true → at.is_ended ≡ false → is_heard ≡ true }
+{
+    at.told < at.read && (at.is_ended || is_heard)
 }

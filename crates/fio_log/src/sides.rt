@@ -90,6 +90,23 @@ fn last_said(text: &[u8]) -> Option<Direction> {
     words.said
 }
 
+/// Returns whether a text begins with a word for a direction, or has no other words.
+pub(crate) fn is_of_side(text: &[u8]) -> bool {
+    let mut start = 0;
+    'words: while start < text.len() {
+        let kind = kind_of(text[start]);
+        let end = word_end(text, start, kind);
+        if start == 0 && said_by(kind, &text[..end]).is_some() {
+            return true;
+        }
+        if kind == WordKind::Letters && direction_of_word(&text[start..end]).is_none() {
+            return false;
+        }
+        start = end;
+    }
+    true
+}
+
 /// Returns where the word that begins at a place of a text ends. Each arrow of one character is a word.
 fn word_end(text: &[u8], start: usize, kind: WordKind) -> usize
     requires { start < length text.now }

@@ -1,8 +1,11 @@
 //! What a reader says of the lines of a log.
+ghost use Rattle.std.specs.Prelude.{◌≡◌};
+
 use crate::directions::Direction;
+use crate::header::{FrameHeader, NO_HEADER};
 
 /// How lines are read. As `Frames` or `Transcript` they are read as `show` or `check` reads them, with two differences:
-/// colour sequences, NUL and byte order marks are removed, and a line also ends at CR.
+/// colour sequences, NULs by themselves and byte order marks are removed, and a line also ends at CR.
 #[derive(Clone, Copy, Debug, PartialEq, Eq)]
 pub enum Form {
     /// As lines of any log: frames are found by what the octets of a line say, and by what makes that sure.
@@ -22,7 +25,7 @@ pub enum Kind {
     Frames,
     /// The line has further octets of the frames of a line above.
     Part,
-    /// The line says a message, but nothing confirms that it is a frame.
+    /// No form has the line, and it may have held a frame.
     Possible,
     /// The line may have held a frame, but gave none.
     Damaged,
@@ -30,35 +33,31 @@ pub enum Kind {
     PassedOver,
 }
 
-/// Why a line gave no frame.
+/// Why a line gave no frame, or what is beside its frames.
 #[derive(Clone, Copy, Debug, PartialEq, Eq)]
 pub enum Reason {
-    /// The line gave a frame, or is blank.
+    /// The line gave frames and nothing else, or is blank, or a part.
     None,
-    /// The line has no octets.
+    /// The line has no octets in the notation of a form.
     NoOctets,
-    /// The line's octets encode no message.
+    /// The line's octets are no message.
     NoMessage,
-    /// The line says a short message, but is unlike the lines of other messages.
-    ShortMessage,
-    /// The line says more than one message.
-    SeveralMessages,
-    /// The line may be a message by itself, or part of one with the line above or below.
-    MayBeLonger,
-    /// The line is longer than a line that is kept, or its octets are more than are kept of joined lines.
+    /// No form has the line, and it has octets that may be a message.
+    NoForm,
+    /// Beside its frames the line has octets that may be a message.
+    More,
+    /// The line is longer than a line that is kept, or its octets are more than are kept of several lines.
     TooLong,
     /// The line is not one of the text that it is read as.
     BadLine,
-    /// The line's octets encode a message that has a count, if the two octets of each pair are exchanged.
-    Exchanged,
-    /// The line's octets encode a message that has a count, with two octets more at the beginning or at the end.
-    TwoMore,
     /// The line has no octets, and speaks of loss.
     Loss,
     /// The line says no message, and is the heading of a log or of a part of one.
     Heading,
-    /// The line's octets encode a message that has a count, but the last octet is missing.
-    OneLess,
+    /// The line repeats the frame above it.
+    Copy,
+    /// The message of the lines above is not whole, and does not go on in this line.
+    Broken,
 }
 
 /// What a reader says of a line.
@@ -79,4 +78,31 @@ pub struct LineVerdict {
     /// Who sent the octets of its frames, as the line says by the words before them; `None` if it does not. A transcript
     /// says it in each line.
     pub said: Option<Direction>,
+    /// The header of its frames, if all have one and the same.
+    pub header: FrameHeader,
+    /// The type of the message that the line has in place of frames, if this protocol has none of that type; or 55, 180 or 181, if it
+    /// has another number of octets of inputs or outputs, which `header.control` says: of a module of another size; else 0.
+    pub foreign: u8,
+}
+
+impl LineVerdict {
+    /// Returns a verdict on a line; its frames and places are still to be counted.
+    pub(crate) fn of(line: u64, kind: Kind, reason: Reason, said: Option<Direction>) -> LineVerdict
+        ensures line { result.line ≡ line }
+        ensures kind { result.kind ≡ kind }
+        ensures reason { result.reason ≡ reason }
+        ensures said { result.said ≡ said }
+    {
+        LineVerdict {
+            line,
+            kind,
+            reason,
+            frames: 0,
+            places: 0,
+            time: None,
+            said,
+            header: NO_HEADER,
+            foreign: 0,
+        }
+    }
 }

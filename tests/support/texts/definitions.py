@@ -20,7 +20,7 @@ def is_whole(check):
     laws = files('crates/*/src/laws.rt')
     check.equal('files of the glossary', sorted(sources + laws), sorted(parts))
     for path in sources:
-        names = re.findall(r'^(?:abbrev |unfoldable )*pub (?:record |data )?(\S+)', text_of(path), re.M)
+        names = re.findall(r'^(?:abbrev |unfoldable )*pub (?!use )(?:record |data )?(\S+)', text_of(path), re.M)
         check.equal('definitions of %s in the glossary' % path, list(dict.fromkeys(names)),
                     re.findall(r'^- `(.*?)`: \S', parts.get(path, ''), re.M))
 
@@ -28,7 +28,7 @@ def is_whole(check):
 def have_own_names(check):
     """Looks for types and definitions that have the name of another one."""
     types = r'^(?:pub(?:\(\w+\))? )?(?:struct|enum|trait|union) (\w+)'
-    definitions = r'^(?:abbrev |unfoldable )*pub (?:record |data )?(\S+)'
+    definitions = r'^(?:abbrev |unfoldable )*pub (?!use )(?:record |data )?(\S+)'
     for what, paths, pattern in (('types', 'crates/*/src/**/*.rt', types), ('definitions', 'crates/*/specs/*.antt', definitions)):
         owners = {}
         for path in files(paths):

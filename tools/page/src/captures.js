@@ -65,10 +65,10 @@ function datagramOf(data) {
   return protocol === UDP ? { ends, datagram: data.subarray(start, length || data.length) } : { why: NOT_UDP };
 }
 
-// A time as seconds: with six digits below the point, or nine for finer steps.
+// A time as seconds with nine digits below the point: an odd count of digits is no octets.
 function clock(time, { steps, shift }) {
-  const digits = steps <= MICRO ? 6 : 9, whole = 10n ** BigInt(digits), count = time * whole / steps + shift * whole;
-  return count < 0n ? `0.${'0'.repeat(digits)}` : `${count / whole}.${String(count % whole).padStart(digits, '0')}`;
+  const whole = 10n ** 9n, count = time * whole / steps + shift * whole;
+  return count < 0n ? '0.000000000' : `${count / whole}.${String(count % whole).padStart(9, '0')}`;
 }
 
 // Makes lines of the octets of a capture file.

@@ -7,5 +7,5 @@ export const FILES = {
   zip: { begins: /^PK\x03\x04/, is: 'a zip archive, or a spreadsheet or document that is packed as one', act: 'unpack it first, or save it as text' },
   script: { begins: /^fio2070 script /, is: 'a script for fio2070 simulate', act: 'the view Play runs it' },
   record: { begins: /^record \d+\n/, is: 'a record, which fio2070 record wrote of a log', act: 'open the log itself' },
-  binary: { begins: /^(?!\xff\xfe|\xfe\xff)[\s\S]*\0/, is: 'a binary file', act: 'if it is what a line carried, or messages without flags, say so at “How is it written?”' },
+  binary: { begins: /^(?!\xff\xfe|\xfe\xff)[\s\S]*\0/, is: 'a binary file', act: 'no message is sure in its octets; if it is what a line carried, say so at “How is it written?”' },
 };

@@ -3,6 +3,7 @@
 import { byId, capital, counted, element, save, saveText, say } from './dom.js';
 import { inLines } from './hex.js';
 import { contentLine } from './record.js';
+import { addressText } from './stations.js';
 import { Waves } from './waves.js';
 
 const HELP = 'The wheel or + and − zoom; dragging or ← → move; ↑ ↓ choose an input; . and , go to its next and last transition; Enter goes to its message; 0 shows all.';
@@ -17,7 +18,8 @@ export class InputsView {
   constructor(goTo) {
     const canvas = byId('waves'), waves = new Waves(byId('axis'), canvas);
     // Where the pointers are that are down, by their numbers.
-    Object.assign(this, { goTo, canvas, waves, pointers: new Map() });
+    Object.assign(this, { goTo: (place) => goTo(this.log.places?.[place] ?? place), canvas, waves, station: byId('station'), pointers: new Map() });
+    this.station.addEventListener('change', () => this.show(this.log.whole.stations.get(Number(this.station.value))));
     const moves = { 'zoom-in': () => waves.zoom(0.5), 'zoom-out': () => waves.zoom(2), earlier: () => waves.pan(-0.4), later: () => waves.pan(0.4), 'show-all': () => waves.fit() };
     for (const [id, move] of Object.entries(moves)) byId(id).addEventListener('click', () => { move(); this.draw(); });
     byId('save-waves').addEventListener('click', () => waves.picture().toBlob((picture) => save(this.log.name + '.png', picture)));
@@ -42,11 +44,19 @@ export class InputsView {
   close() {
     this.log = null;
     byId('record-note').textContent = '';
-    byId('record').hidden = byId('record-as-text').hidden = true;
+    byId('record').hidden = byId('record-as-text').hidden = this.station.parentElement.hidden = true;
     byId('no-record').hidden = false;
   }
 
+  // Shows the record of a log; of a line with several stations that of the first, and others can be chosen.
   open(log) {
+    const { stations } = log, [first = log] = stations.values();
+    this.station.replaceChildren(...Array.from(stations.keys(), (address) => element('option', { value: address }, addressText(address))));
+    this.station.parentElement.hidden = stations.size === 0;
+    this.show(first);
+  }
+
+  show(log) {
     const { record } = this.log = log;
     this.waves.open(record);
     byId('no-record').hidden = true;

@@ -1,7 +1,7 @@
 // A log by the library's judge: the breaches, the restarts of the module, and how many messages are not judged, by why. A log of one
 // direction no rule can judge: commands whose answers were not logged, or answers without their commands.
 
-import { LOG_REASONS, LOG_TAKEN, OUTCOMES, WHY } from './constants.js';
+import { LOG_TAKEN, OUTCOMES, WHY } from './constants.js';
 import { POLL } from './library.js';
 import { MARKS } from './messagelist.js';
 import { each } from './slices.js';
@@ -19,9 +19,11 @@ export class Judging {
     Object.assign(this, { log, judge, isLost: false, isBegun: false, breaches: new Map(), restarts: new Set() });
     // How many messages are not judged, by the number of WHY; how often sync was lost, up to the next poll, and by which of CAUSES.
     Object.assign(this, { unjudged: new Uint32Array(Object.keys(WHY).length), losses: 0, causes: new Set() });
+    // The polls below losses, from which judging begins anew.
+    this.begunAgain = 0;
   }
 
-  // Judges each message that is sure. Nobody is accused for what a line that gave none may have held.
+  // Judges each message. Nobody is accused for what a line that gave none may have held.
   *work() {
     const { log } = this;
     this.judge.start(TAKEN[log.taken]);
@@ -33,29 +35,38 @@ export class Judging {
     const { log } = this, damage = log.damaged.get(place);
     this.takeMarks(log.marks[place]);
     // At the CPU, what has a wrong check was not heard.
-    if (damage && !(log.taken === ENDS.cpu && damage.hasWrongCheck)) {
-      this.judge.call('lose');
-      this.noteLoss(CAUSES.line);
+    if (damage?.isPossible) this.takePossible();
+    else if (damage && !(log.taken === ENDS.cpu && damage.hasWrongCheck)) {
+      this.lose();
     }
-    if (log.isPossible[place]) this.takePossible(CAUSES.line);
-    else if (!log.isBadLine(place)) this.takeMessage(place);
+    if (!log.isBadLine(place)) this.takeMessage(place);
   }
 
   takeMarks(marks) {
+    if (marks & MARKS.lost) this.lose();
     if (marks & MARKS.loss) this.judge.call('miss');
-    if (marks & MARKS.heading) this.takePossible(CAUSES.heading);
+    if (marks & MARKS.heading && this.isBegun) this.lose(CAUSES.heading);
   }
 
-  // Below a message that is sure, a possible one may have been one, and a heading begins another part of the log.
-  takePossible(cause) {
+  // Octets are in no message here, or another part of the log begins.
+  lose(cause = CAUSES.line) {
+    this.judge.call('lose');
+    this.noteLoss(cause);
+  }
+
+  // Below a message a line of no form may have been one.
+  takePossible() {
     this.judge.call('possible');
-    if (this.isBegun) this.noteLoss(cause);
+    if (this.isBegun) this.noteLoss(CAUSES.line);
   }
 
   takeMessage(place) {
     const { log } = this;
     this.isBegun = true;
-    if (log.codes[place] === POLL) this.isLost = false;
+    if (log.codes[place] === POLL) {
+      this.begunAgain += this.isLost ? 1 : 0;
+      this.isLost = false;
+    }
     const outcome = this.judge.frame(...log.frame(place));
     if (outcome) this.note(place, outcome);
   }
@@ -77,19 +88,30 @@ export class Judging {
   }
 }
 
+// The judging of several stations, each by its log alone, as one with the places of the whole log.
+export function together(logs) {
+  const inOrder = (found) => found.sort(([one], [other]) => one - other), sum = (of) => logs.reduce((all, log) => all + of(log.judging), 0);
+  return {
+    breaches: new Map(inOrder(logs.flatMap(({ places, breaches }) => [...breaches].map(([place, breach]) => [places[place], breach])))),
+    restarts: new Set(logs.flatMap(({ places, restarts }) => [...restarts].map((place) => places[place])).sort((one, other) => one - other)),
+    unjudged: Uint32Array.from(Object.keys(WHY), (_, why) => sum(({ unjudged }) => unjudged[why])),
+    losses: sum(({ losses }) => losses), begunAgain: sum(({ begunAgain }) => begunAgain), causes: new Set(logs.flatMap(({ judging }) => [...judging.causes])),
+  };
+}
+
 // Fewer messages do not show that a direction is missing.
 const LEAST = 4;
 
 // Counts the messages of a log to tell which directions it has.
 export class Sides {
   constructor(log) {
-    Object.assign(this, { log, sure: 0, sent: 0, unread: log.passed[LOG_REASONS.noMessage], polled: new Set() });
+    Object.assign(this, { log, sure: 0, sent: 0, unread: 0, polled: new Set() });
   }
 
   add(place) {
     const { log } = this, isSent = log.isSure(place) && log.isSent(place);
     if (log.isSure(place)) this.sure += 1;
-    else if (!log.isPossible[place] && !log.others.has(place)) this.unread += 1;
+    else if (!log.others.has(place)) this.unread += 1;
     if (isSent) this.sent += 1;
     if (isSent && log.codes[place] === POLL) this.polled.add(log.blocks[place]);
   }

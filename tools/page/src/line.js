@@ -2,17 +2,19 @@
 // here they become messages, each in a line of its own if the file has none.
 
 import { isCapture } from './captures.js';
-import { LOG_FORMS, LOG_KINDS, LOG_SIDES } from './constants.js';
+import { LOG_FORMS, LOG_SIDES } from './constants.js';
 import { counted } from './dom.js';
 import { asLatin, fromHex, hexText, inLines } from './hex.js';
 import { LINE } from './log_words.js';
-import { formOf, Found, linesOf, octetsOf, readLog } from './reader.js';
+import { encodingOf, formOf, Found, linesOf, octetsOf, readLog } from './reader.js';
 import { AT_END, digitsOf, REWRITINGS, rewritten } from './rewriting.js';
 import { each, part } from './slices.js';
 import { ANY, OWN, SAYS, wireOf } from './wire.js';
 
 // The first octets of a file, which show what it is, and the first bits, which show how long one is.
 const WINDOW = 1 << 14;
+// Those that show whether it is a text at all.
+const FIRST_OCTETS = 4096;
 // The octets of a file that are read at a time.
 const OCTETS_AT_ONCE = 4096;
 // The octets of a line that shows a text; below one that is no text it has more.
@@ -41,9 +43,15 @@ function isText(octets) {
   }
 }
 
-// What a file is by how it begins: one of LINE_WAYS, or '' for the lines of a log.
+// Whether octets are no text: all of them are 0, or of the others one in ten is a control character or no UTF-8.
+function isBinary(octets) {
+  const text = new TextDecoder().decode(octets.filter((octet) => octet !== 0)), strange = text.match(/[\x01-\x08\x0b\x0e-\x1a\x1c-\x1f\ufffd]/g) || [];
+  return text === '' ? octets.length > 0 : 10 * strange.length > text.length;
+}
+
+// What a file is by how it begins: one of LINE_WAYS, 'octets' for another file that is no text, or '' for the lines of a log.
 function lineWayOf(library, file) {
-  if (isCapture(file)) return '';
+  if (isCapture(file) || encodingOf(file)) return '';
   const begin = file.subarray(0, WINDOW), all = asLatin(begin), wire = wireOf(library, 'line').start(OWN);
   if (TEXT_OF_BITS.test(all)) return /[01\x01]/.test(all) ? 'bits' : '';
   let at = 0, isStrange = false, frames = 0, damaged = 0;
@@ -59,7 +67,8 @@ function lineWayOf(library, file) {
     isStrange ||= !isText(line);
     if (isText(line) && line.length >= (isStrange ? LONG_TEXT : SHORT_TEXT) && !TEXT_OF_BITS.test(piece)) return '';
   }
-  return frames > 0 && frames >= damaged ? 'line' : '';
+  if (frames > 0 && frames >= damaged) return 'line';
+  return isBinary(begin.subarray(0, FIRST_OCTETS)) ? 'octets' : '';
 }
 
 // What makes bits, an octet each, of octets of a file: those of a text of 0 and 1 or of octets 0 and 1, or eight of each octet.
@@ -88,30 +97,28 @@ class Others {
   words() {
     return [...this.counts].map(([why, count]) => `${counted(count, 'frame')} ${why}`);
   }
-
-  add() {}
 }
 
 // Makes messages of what a line says; `lines` are those of the log, if it has some. `silence` is said if it has no frame.
 class Heard extends Found {
   constructor(lines, octets) {
-    super(lines, LOG_FORMS.auto, octets, new Others());
-    this.silence = '';
+    super(lines, LOG_FORMS.auto, octets);
+    Object.assign(this, { strangers: new Others(), silence: '' });
   }
 
   get remarks() {
-    return [...this.sure === 0 && this.silence !== '' ? [this.silence] : [], ...super.remarks];
+    return [...this.sure === 0 && this.silence !== '' ? [this.silence] : [], ...this.strangers.words()];
   }
 
   // Adds what a line says; it begins at this octet.
   hear(one, line, at, said = LOG_SIDES.noSide, time = null) {
-    if (one.kind === SAYS.other) this.addOther(line, { why: this.doubts.note(one), text: hexText(one.message) });
+    if (one.kind === SAYS.other) this.addOther(line, { why: this.strangers.note(one), text: hexText(one.message) });
     else if (one.kind === SAYS.damaged) this.addUnchecked(line);
-    else this.addFrames({ line, kind: LOG_KINDS.says, said, time, frames: [one.message], places: [], at });
+    else this.addFrames({ line, said, time, address: one.address, frames: [one.message], at });
   }
 
   addUnchecked(line) {
-    this.addDamaged(line, `damaged: ${LINE.damaged}`, true);
+    this.addDamaged(line, `damaged: ${LINE.damaged}`, { hasWrongCheck: true });
   }
 }
 
@@ -229,10 +236,10 @@ function* readDigits(library, logReader, octets, own) {
 
 // Reads a file: in a way that is chosen or, if the form is `auto`, as what it shows itself to be.
 export function* readAny(library, logReader, name, file, { form, own = OWN, pattern }) {
-  const isRewritten = form in REWRITINGS, logForm = formOf(name, isRewritten ? 'any' : form);
-  const way = form in LINE_WAYS ? form : logForm === LOG_FORMS.auto && !isRewritten ? lineWayOf(library, file) : '';
+  const isChosen = form in REWRITINGS, logForm = formOf(name, isChosen ? 'any' : form);
+  const way = form in LINE_WAYS || isChosen ? form : logForm === LOG_FORMS.auto ? lineWayOf(library, file) : '';
   if (way in LINE_WAYS && way !== 'digits') return yield* readLine(library, file, way, own);
-  const octets = yield* part(0, 0.1, isRewritten ? rewritten(file, form, pattern) : octetsOf(file));
+  const octets = yield* part(0, 0.1, way in REWRITINGS ? rewritten(file, way, pattern) : octetsOf(file));
   if (way === 'digits') return yield* part(0.1, 1, readDigits(library, logReader, octets, own));
   const read = yield* part(0.1, 0.9, readLog(library, logReader, octets, logForm));
   if (read.sure > 0 || logForm !== LOG_FORMS.auto || !FLAGGED.test(asLatin(octets.subarray(0, WINDOW)))) return read;

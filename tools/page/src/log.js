@@ -2,48 +2,107 @@
 // counts of what was found.
 
 import { LOG_FORMS, LOG_SIDES } from './constants.js';
-import { inLines } from './hex.js';
-import { ENDS, isOfOneSide, Judging, Sides } from './judging.js';
+import { hexText, inLines } from './hex.js';
+import { ENDS, isOfOneSide, Judging, Sides, together } from './judging.js';
 import { BLOCK, FIRST_ANSWER, POLL, STATUS_BITS } from './library.js';
+import { SIGNS } from './log_words.js';
 import { Record } from './record.js';
 import { breachWords, restartWords, ruleOf } from './rules.js';
 import { each, part } from './slices.js';
+import { aloneOf, leaveOut, stationsIn, stationText } from './stations.js';
 import { verdictOf } from './verdict.js';
 
 const { noSide, fromCpu, fromModule } = LOG_SIDES;
+// The messages above an answer among which its command is sought.
+const MOST_ABOVE = 8;
+// Whether a breach is of a rule that a late answer breaks.
+const isOfLate = (breach) => !breach.isContent && ['pair', 'number'].includes(ruleOf(breach));
 
 export class Log {
   // `found` is what was read. `end` says where the log was taken: what was sent there is what the CPU sent or heard. If it is
   // `auto`, most directions say which end it was.
   constructor(library, arena, name, found, end) {
-    const { octets, end: after, texts, doubts, ...columns } = found, { remarks, isReversed, form } = found;
+    const { octets, end: after, texts, ...columns } = found, { remarks, isReversed, form } = found;
     Object.assign(this, { library, name, remarks, isReversed, ...columns });
     this.hasTimes = this.clocks.some((clock) => clock !== '');
     this.hasDirections = this.sides.some((it) => it !== noSide);
     this.end = !this.hasDirections ? ENDS.bus : end !== ENDS.auto ? end : isReversed && form !== LOG_FORMS.transcript ? ENDS.module : ENDS.cpu;
     Object.assign(this, { arena, taken: end, memory: arena.hold(octets.subarray(0, after)), poller: arena.poller });
+    // Of a line with several stations the log that each has alone, by its address, and the place there of each message.
+    Object.assign(this, { stations: new Map(), placesAlone: new Map() });
     for (const column of ['codes', 'blocks', 'status', 'entries', 'isFaulty', 'directions']) this[column] = new Uint8Array(this.count);
     this.stamps = new Uint32Array(this.count);
   }
 
   // Decodes, counts and judges all messages.
   *work() {
+    const stations = stationsIn(this);
+    if (stations.length > 0) leaveOut(this, stations);
     yield* part(0, 0.3, each(this.count, (place) => this.decode(place)));
-    // Which directions it has, and what kind of log it looks like.
-    const { signs, judge } = this.arena, sides = new Sides(this);
-    signs.call('start');
-    yield* part(0.3, 0.45, each(this.count, (place) => {
-      sides.add(place);
-      if (this.isSure(place)) signs.frame(...this.frame(place));
-    }));
-    const judging = new Judging(this, judge), { breaches, restarts } = judging;
-    Object.assign(this, { logged: sides.kind, sign: signs.call('sign'), judging, breaches, restarts });
-    if (!isOfOneSide(this.logged)) yield* part(0.45, 0.65, judging.work());
-    this.record = new Record(this);
-    yield* part(0.65, 0.85, each(this.count, (place) => this.record.take(place)));
+    yield* part(0.3, 0.85, stations.length > 0 ? this.judgeApart(stations) : this.judge());
     yield* part(0.85, 1, this.sum());
     this.verdict = verdictOf(this);
     return this;
+  }
+
+  // Judges all messages as those of one link, and keeps its record.
+  *judge() {
+    // Which directions it has, and what kind of log it looks like.
+    const { signs, judge } = this.arena, sides = new Sides(this);
+    signs.call('start');
+    yield* part(0, 0.3, each(this.count, (place) => {
+      sides.add(place);
+      if (this.isSure(place)) signs.frame(...this.frame(place));
+    }));
+    Object.assign(this, { logged: sides.kind, sign: signs.call('sign') }).keep(new Judging(this, judge));
+    if (this.isFit) yield* part(0.3, 0.65, this.judging.work());
+    // What is found of a log whose answers came late is taken back.
+    if (this.isLate) Object.assign(this, { sign: SIGNS.length - 1 }).keep(new Judging(this, judge));
+    this.record = new Record(this);
+    yield* part(0.65, 1, each(this.count, (place) => this.record.take(place)));
+  }
+
+  // Judges each station by itself, as if the log had its frames alone.
+  *judgeApart(addresses) {
+    const { library, arena, name, taken } = this;
+    for (const [index, address] of addresses.entries()) {
+      const alone = new Log(library, arena, name, aloneOf(this, address), taken);
+      this.stations.set(address, yield* part(index / addresses.length, (index + 1) / addresses.length, alone.work()));
+      for (const [placeAlone, place] of alone.places.entries()) this.placesAlone.set(place, placeAlone);
+    }
+    Object.assign(this, { logged: '', sign: 0 }).keep(together([...this.stations.values()]));
+  }
+
+  keep(judging) {
+    const { breaches, restarts } = judging;
+    Object.assign(this, { judging, breaches, restarts });
+  }
+
+  // Whether all that is found are answers that are surely late.
+  get isLate() {
+    return this.breaches.size > 0 && this.restarts.size === 0 && [...this.breaches].every(([place, breach]) => isOfLate(breach) && this.isOwed(place));
+  }
+
+  // Whether an answer is surely late, and not one too many: of the latest messages above it, as many are commands for it as are, with it,
+  // answers to these, all different. A block that is not the first one of its number has E.
+  isOwed(place) {
+    const { codes, blocks } = this, code = codes[place], asked = code % FIRST_ANSWER, same = hexText(this.octets(place));
+    let [commands, answers] = [0, 1];
+    for (let at = place - 1, left = MOST_ABOVE; at >= 0 && left > 0; at--) {
+      if (this.isBadLine(at) || this.others.has(at)) continue;
+      left -= 1;
+      if (codes[at] % FIRST_ANSWER !== asked || asked === POLL && blocks[at] !== blocks[place]) continue;
+      if (hexText(this.octets(at)) === same) return false;
+      if (codes[at] < FIRST_ANSWER) commands += 1;
+      else answers += 1;
+      if (commands === answers) return code !== BLOCK || answers === 1 || this.hasBit(place, STATUS_BITS.again);
+    }
+    return false;
+  }
+
+  // Whether rules are judged of it: it looks like the log of one link in order, and has both directions.
+  get isFit() {
+    return this.sign === 0 && !isOfOneSide(this.logged);
   }
 
   address(place) {
@@ -58,9 +117,9 @@ export class Log {
     return this.lengths[place] === 0;
   }
 
-  // Whether a place has a message that is sure, or octets that are read as one.
+  // Whether a place has a message, or octets that are read as one.
   isSure(place) {
-    return !this.isPossible[place] && !this.isBadLine(place);
+    return !this.isBadLine(place);
   }
 
   // The lines that `show` writes of a message.
@@ -74,18 +133,31 @@ export class Log {
     return said ? [said.text] : this.words(place);
   }
 
-  // Where a message is: its line or, if that has several messages, which one it is, and where it begins.
+  // Where a message is, with its station.
   where(place) {
+    return this.whole ? this.whole.lineOf(this.places[place]) : [this.lineOf(place), this.station(place)].filter(Boolean).join(', ');
+  }
+
+  // The station of a message, if there are several.
+  station(place) {
+    return this.stationAlone(place) ? stationText(this.addresses[place]) : '';
+  }
+
+  // The log that the station of a message has alone, if there are several.
+  stationAlone(place) {
+    return this.isBadLine(place) ? undefined : this.stations.get(this.addresses[place]);
+  }
+
+  // Its line or, if that has several messages, which one it is, and where it begins.
+  lineOf(place) {
     const line = this.lines[place], octet = this.at[place] > 0 ? `, octet ${this.at[place]}` : '';
     if (this.isWithoutLines) return `message ${line}${octet}`;
     return line === this.lines[place - 1] || place + 1 < this.count && line === this.lines[place + 1] ? `message ${place + 1}${octet} of line ${line}` : `line ${line}`;
   }
 
-  // What a message that is only possible says stays out of counts, of what is judged, and of the record.
   decode(place) {
-    const isOther = this.others.has(place), isRead = !this.isPossible[place] && !isOther;
-    const message = isRead && !this.isBadLine(place) ? this.library.decode(this.address(place), this.lengths[place]) : null;
-    this.isFaulty[place] = isRead && message === null ? 1 : 0;
+    const isOther = this.others.has(place), message = !isOther && !this.isBadLine(place) ? this.library.decode(this.address(place), this.lengths[place]) : null;
+    this.isFaulty[place] = !isOther && message === null ? 1 : 0;
     // A transcript by order says itself who sent a frame.
     this.directions[place] = this.form === LOG_FORMS.transcript ? this.sides[place] : isOther || this.isFaulty[place] ? noSide : this.wayByType(place);
     if (message === null) return;
@@ -179,6 +251,8 @@ export class Log {
   // has one direction alone.
   isUnanswered(place) {
     if (this.codes[place] !== POLL) return false;
+    const alone = this.stationAlone(place);
+    if (alone) return alone.isUnanswered(this.placesAlone.get(place));
     const next = this.beside(place, 1);
     return this.codes[next] !== BLOCK && !this.damaged.has(next) && !isOfOneSide(this.logged);
   }
@@ -196,7 +270,7 @@ export const FACTS = [
   ['broken', 'breach', (log, place) => log.breaches.has(place), 'bad'],
   ['restarts', 'restart', (log, place) => log.restarts.has(place), 'warn'],
   ['faults', 'faulty line', (log, place) => log.isFaulty[place] === 1, 'bad'],
-  ['possible', 'possible message', (log, place) => log.isPossible[place] === 1, 'warn'],
+  ['possible', 'formless line', (log, place) => log.damaged.get(place)?.isPossible === true, 'warn'],
   ['others', 'other frame', (log, place) => log.others.has(place), 'warn'],
   ['gaps', 'gap mark', (log, place) => log.hasBit(place, STATUS_BITS.lost), 'bad'],
   ['repeats', 'repeated block', (log, place) => log.hasBit(place, STATUS_BITS.again), 'warn'],

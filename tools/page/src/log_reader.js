@@ -3,10 +3,16 @@
 import { STRUCTS } from './layouts.js';
 import { KeptReader } from './library.js';
 
+// What is no character of a line; and what has no shape of its own, which is shown by its digits.
+export const UNSEEN = /\x1b\[[^A-Za-z]*[A-Za-z]?|[\0\ufeff]/g;
+const ACTS = /[\x01-\x1f\x7f-\x9f]/g;
+const shownAs = (character) => `\\x${character.charCodeAt(0).toString(16).padStart(2, '0')}`;
+
 export class LogReader extends KeptReader {
   constructor(library) {
     super(library, 'log', 'logReader');
     this.batch = this.machine.reserve(STRUCTS.logBatch.size);
+    this.list = this.machine.reserve(STRUCTS.logFormList.size);
   }
 
   // The verdicts on all lines of a log, in order, a batch at a time, with the share of the log that was read. `form` is one of LOG_FORMS.
@@ -19,6 +25,18 @@ export class LogReader extends KeptReader {
       found = this.verdicts();
       yield [found, 1];
     }
+  }
+
+  // By which forms lines were read: the text before the octets of the first line, as it is shown, and how many lines there are.
+  forms() {
+    const { library, machine } = this, decoder = new TextDecoder();
+    this.call('forms', BigInt(this.list));
+    const { count, forms } = library.read('logFormList', this.list);
+    return Array.from({ length: count }, (_, index) => {
+      const one = library.read('logReadAs', forms + index * STRUCTS.logReadAs.size);
+      const front = decoder.decode(machine.octets(one.front, one.front_length)).replace(UNSEEN, '').replace(ACTS, shownAs);
+      return { front, lines: Number(one.lines), damaged: Number(one.damaged), isEcho: one.is_echo !== 0 };
+    }).filter(({ lines }) => lines > 0);
   }
 
   // The verdicts of the batch, each with copies of its frames, and with where their octets are written: a line, and the indexes of its
@@ -35,8 +53,9 @@ export class LogReader extends KeptReader {
       }
       for (let count = 0; count < verdict.places; count++) places.push(next('logPlace', 'places'));
       // A time in seconds.
-      const { kind, reason, said } = verdict, time = verdict.has_time ? Number(verdict.time) / 1e6 : null;
-      found.push({ kind, reason, said, line: Number(verdict.line), time, frames, places });
+      const { kind, reason, said, header, foreign } = verdict, time = verdict.has_time ? Number(verdict.time) / 1e6 : null;
+      const [address, size] = header > 0 ? [verdict.address, 0] : [undefined, verdict.control];
+      found.push({ kind, reason, said, foreign, size, line: Number(verdict.line), time, address, frames, places });
     }
     return found;
   }

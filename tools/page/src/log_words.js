@@ -1,26 +1,17 @@
-// What is said of the lines of a log: why one gives no frame, by the number of the reason; of which frames damage is not
-// seen; which directions are missing; and of what a line carried. Written by tools/generate-messages.
+// What is said of the lines of a log: why one gives no frame, or what else is in one that does, by the number of the reason; which
+// directions are missing; and of what a line carried. Written by tools/generate-messages.
 
-export const REASONS = [
-  '',
-  'no octets',
-  'octets that are no message',
-  'a short message in a line unlike those of other messages',
-  'more than one message',
-  'it may be one message with the line below or above, or one by itself',
-  'longer than a line with a frame can be',
-  'bad line',
-  'octets that are a message if those of each pair are exchanged',
-  'octets that are a message but for two at their beginning or end',
-  'octets may be lost',
-  'heading',
-  'an octet too few',
-];
-export const POSSIBLE = 'possible: nothing in the log confirms it';
-export const DOUBTS = {
-  rows: 'each row has one octet: if a row is missing, the rest may read as another message',
-  numbers: 'frames whose octets are numbers without leading zeros: {count}; if the log lost a digit, nothing shows it',
-  loose: 'frames of types that may have any length: {count}; if the logger cut one off, nothing shows it',
+export const REASONS = {
+  1: 'no octets',
+  2: 'octets that are no message',
+  3: 'what may have been a message, and no form of this log',
+  4: 'beside its frames it has octets that may be a message',
+  6: 'longer than a line with a frame can be',
+  7: 'bad line',
+  10: 'octets may be lost',
+  11: 'heading',
+  13: 'a copy of the frame above',
+  14: 'the message above is not whole, and does not go on here',
 };
 export const SIDES = {
   'commands': 'this log has the commands alone: the answers were not logged, so no rule is judged',
@@ -35,10 +26,17 @@ export const SIGNS = [
   'this log looks like the logs of both ends merged: keep the lines of one end, and judge these',
   'this log looks as if its last line is first: reverse it with `tac FILE`',
   'this log looks like the lines of two links: split it by port or address, and judge each link by itself',
+  'answers came late in this log, below commands that were sent again: try --late-answers',
 ];
 export const LINE = {
   damaged: 'no frame with a right check',
   other: 'of address {address}, control octet {control}: not judged',
+  of: 'of address {address}: not judged',
+  none: 'of no address, or of a line with several: not judged',
+  type: 'message of type {type}, not of this protocol',
+  size: 'message of type {type}, of another size',
+  inputs: '{type} has {octets} of inputs in {lines}: a module with {count} inputs? its 180, 181 and 55 are not read, all else is judged',
+  outputs: '{type} has {octets} of outputs in {lines}: a module with {count} outputs? its 55 are not read, all else is judged',
   octets: 'no frame with a right check in the octets of this line',
   bits: 'no frame with a right check in these bits, one a clock: if they are written eight to an octet, try the other order',
   faster: 'no frame at one bit a clock, and nearly all bits last {count} samples or more: the sample clock is faster than the line, so sample on the clock of the line, or keep one sample of each bit',

@@ -2,20 +2,25 @@
 
 import { LOG_SIDES } from './constants.js';
 
-// What skipped lines say above a message: that frames may be lost, or that another part of the log begins.
-export const MARKS = { loss: 1, heading: 2 };
+// What lines say above a message: that frames may be lost, that another part of the log begins, or that octets are in no message.
+export const MARKS = { loss: 1, heading: 2, lost: 4 };
+
+// In the place of an address, where a message has none.
+export const NO_ADDRESS = 256;
 
 // The columns: `at` has the octet of its line at which each begins, counted from 1, or 0; `sides` what the log says of the side that sent
-// each; `marks` the MARKS of the lines directly above each, and those above the end of the log in the place after the last.
-const COLUMN_OF = { starts: Uint32Array, lengths: Uint32Array, lines: Uint32Array, at: Uint32Array, sides: Uint8Array, isPossible: Uint8Array,
-  marks: Uint8Array, times: Float64Array };
+// each; `addresses` the address before each, or NO_ADDRESS; `marks` the MARKS of the lines directly above each, and those above the end of
+// the log in the place after the last.
+export const COLUMN_OF = { starts: Uint32Array, lengths: Uint32Array, lines: Uint32Array, at: Uint32Array, sides: Uint8Array,
+  addresses: Uint16Array, marks: Uint8Array, times: Float64Array };
 
 export class MessageList {
   // Room for the messages of this number of lines, which together have at most `octets` octets. A line may have several.
   constructor(lines, octets) {
     Object.assign(this, { octets: new Uint8Array(octets + 1), end: 0, count: 0, clocks: [] });
     for (const [name, column] of Object.entries(COLUMN_OF)) this[name] = new column(lines + 1);
-    // Why lines that may have held a frame gave none, their texts, and whether it is by their check, by the places of their rows.
+    // Why lines that may have held a frame gave none, their texts, whether it is by their check, and whether no form has them, by the places
+    // of their rows.
     this.damaged = new Map();
     // What is said of frames with another address, and their octets, likewise.
     this.others = new Map();
@@ -30,14 +35,14 @@ export class MessageList {
     }
   }
 
-  addMessage({ line, at = 0, side = LOG_SIDES.noSide, octets, isPossible = false, time = null, clock = '' }) {
+  addMessage({ line, at = 0, side = LOG_SIDES.noSide, address = NO_ADDRESS, octets, time = null, clock = '' }) {
     const place = this.count++;
     this.starts[place] = this.end;
     this.lengths[place] = octets.length;
     this.lines[place] = line;
     this.at[place] = at;
     this.sides[place] = side;
-    this.isPossible[place] = isPossible ? 1 : 0;
+    this.addresses[place] = address;
     this.times[place] = time ?? NaN;
     this.clocks.push(clock);
     this.octets.set(octets, this.end);

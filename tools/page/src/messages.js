@@ -1,6 +1,6 @@
 // The view Messages: the verdict, what was counted, a search, the table, and the message that is selected.
 
-import { LOG_FORMS, LOG_REASONS, LOG_SIDES } from './constants.js';
+import { LOG_FORMS, LOG_SIDES } from './constants.js';
 import { byId, counted, element, saveText, say, sentence, withCommas } from './dom.js';
 import { detailOf } from './detail.js';
 import { FILES } from './files.js';
@@ -8,7 +8,7 @@ import { asLatin, hexText } from './hex.js';
 import { ENDS } from './judging.js';
 import { STATUS_BITS } from './library.js';
 import { FACTS } from './log.js';
-import { REASONS, TERMS } from './log_words.js';
+import { TERMS } from './log_words.js';
 import { hasNotes, noteOf } from './rules.js';
 import { Sheet } from './sheet.js';
 import { VirtualTable } from './table.js';
@@ -30,46 +30,41 @@ const WORDS = {
   'own profile': 'what this project chose where TEES 2009 leaves a choice: a device that chose otherwise breaks such a rule, and may be right',
 };
 
-// What helps, by the reason why lines are skipped.
-const CURES = {
-  [LOG_REASONS.exchanged]: ' (write the log with xxd or hexdump -C)',
-  [LOG_REASONS.twoMore]: ' (at “How is it written?” choose SDLC frames, without their check, or an expression)',
-};
-// The reasons of lines that have no octets.
-const WITHOUT_OCTETS = [LOG_REASONS.noOctets, LOG_REASONS.loss, LOG_REASONS.heading];
-
-// How many lines are skipped, and why, the most frequent reasons first; and what stays doubtful, a sentence each.
+// How many lines are skipped, and why, the most frequent reasons first; and how the others are read, a sentence each.
 function passedWords({ passed, remarks }) {
-  const reasons = [...passed.entries()].filter(([, count]) => count > 0).sort(([, one], [, other]) => other - one);
-  const words = reasons.map(([reason, count]) => REASONS[reason] + (reasons.length > 1 ? ` ${withCommas(count)}` : '') + (CURES[reason] || ''));
-  const skipped = words.length === 0 ? [] : [`${counted(passed.reduce((sum, count) => sum + count), 'line')} skipped: ${words.join(', ')}.`];
+  const reasons = [...passed].sort(([, one], [, other]) => other - one);
+  const words = reasons.map(([reason, count]) => reason + (reasons.length > 1 ? ` ${withCommas(count)}` : ''));
+  const skipped = words.length === 0 ? [] : [`${counted([...passed.values()].reduce((sum, count) => sum + count), 'line')} skipped: ${words.join(', ')}.`];
   return [...skipped, ...remarks.map(sentence)].map((one) => ' ' + one).join('');
 }
 
 // The noun of a fact. What may be no message is a row too.
 function nounOf({ summary }, name, noun) {
-  const words = name === 'messages' && summary.badLines + summary.possible > 0 ? 'row' : noun;
+  const words = name === 'messages' && summary.badLines > 0 ? 'row' : noun;
   return summary[name] === 1 ? words : words.replace(/y$/, 'ie').replace(/h$/, 'he') + 's';
 }
 
-const FIRST_OCTETS = 4096;
+// The octets that show what a file is.
+const SHOWING = 4096;
+// Four octets in a line.
+const HAS_OCTETS = /(?<![0-9a-z])(?:[0-9a-f]{2}[ ,:;|-]){3}[0-9a-f]{2}(?![0-9a-z])/i;
 
-// One sentence on a file, by its octets, and by whether lines of it have octets.
-function kindOf(file, hasOctets) {
-  const first = asLatin(file.subarray(0, FIRST_OCTETS)), found = Object.values(FILES).find(({ begins }) => begins.test(first));
+// One sentence on a file.
+function kindOf(file) {
+  const first = asLatin(file.subarray(0, SHOWING)), found = Object.values(FILES).find(({ begins }) => begins.test(first));
   if (found) return `It is ${found.is}${found.act === '' ? '' : `: ${found.act}`}.`;
-  return hasOctets ? 'It is text with octets that are no message. Perhaps it is a log of another link, or the bits of its octets are in reverse order.'
+  return HAS_OCTETS.test(first) ? 'It is text with octets that are no message. Perhaps it is a log of another link, or the bits of its octets are in reverse order.'
     : 'It is text without octets of a message.';
 }
 
 // What can be read, with an example of each.
 const CAN_READ = [
-  ['Octets as hexadecimal digits, a frame a line', '36ff'],
+  ['Octets as hexadecimal digits, a frame a line', '36ff\nb6ff010000010200000001'],
   ['A transcript: > before what the CPU sent, < before what it heard', '> 36ff\n< b6ff010000010200000001'],
-  ['A log with times and directions, as terminals and analysers write it', '07:15:02.100 TX 36 05'],
+  ['A log with times and directions, as terminals and analysers write it', '07:15:02.100 TX 36 05\n07:15:02.108 RX B6 05 00 00 00 00 03 E8'],
   ['A hex dump, with or without a column of characters', '0000  b6 05 00 00 00 00 00 01'],
   ['SDLC frames with their flags; also files of a line’s octets, or of its bits as 0 and 1', '7E 14 83 36 01 E0 5D 7E 14 83 36 02 7B 6F 7E'],
-  ['A table with a header, or JSON, with a key or a column of octets', 'time,direction,data\n0.100,TX,36 05'],
+  ['A table with a header, or JSON, with a key or a column of octets', 'time,direction,data\n0.100,TX,36 05\n0.108,RX,B6 05 00 00 00 00 03 E8'],
 ];
 
 export class MessagesView {
@@ -112,7 +107,7 @@ export class MessagesView {
   open(log, file, readAsAny) {
     this.log = log;
     const has = { times: log.hasTimes, notes: hasNotes(log), rules: log.breaches.size + log.restarts.size > 0,
-      doubts: log.damaged.size + log.others.size + log.summary.possible > 0 };
+      doubts: log.damaged.size + log.others.size > 0 };
     for (const [what, isSo] of Object.entries(has)) this.table.root.classList.toggle('has-' + what, isSo);
     byId('log').hidden = false;
     this.drawVerdict();
@@ -120,13 +115,13 @@ export class MessagesView {
     const isOther = log.form !== LOG_FORMS.auto && log.summary.badLines > 0;
     byId('note').replaceChildren(this.noteOf(log), ...isOther ? [' ', element('button', { id: 'as-any', onclick: readAsAny }, 'Read it as any log')] : []);
     this.showAll();
-    if (log.verdict.kind === 'none' && log.summary.possible === 0) this.showNoMessage(file);
+    if (log.verdict.kind === 'none') this.showNoMessage(file);
   }
 
   // Says what a text is that is no log, and what can be read.
   showNoMessage(file) {
-    const { log } = this, hasOctets = log.passed.some((count, reason) => count > 0 && !WITHOUT_OCTETS.includes(reason));
-    this.showNone(`No message was found in ${log.name}`, element('p', { id: 'no-log-kind' }, kindOf(file, hasOctets)),
+    const { log } = this;
+    this.showNone(`No message was found in ${log.name}`, element('p', { id: 'no-log-kind' }, kindOf(file)),
       ...log.count === 0 ? [] : [element('p', {}, `${counted(log.count, 'line')} may have octets and could not be read, the first in line ${log.lines[0]}.`)],
       element('p', { id: 'no-log-passed' }, passedWords(log)),
       back(),
@@ -139,14 +134,14 @@ export class MessagesView {
     return `${log.name}${FORMS[log.form]}.${turned}${reversed}${passedWords(log)}`;
   }
 
-  // The one verdict, a way to the first breach, what kind of log it looks like, and what was not judged.
+  // The one verdict, a way to the first breach, and what was not judged.
   drawVerdict() {
-    const { kind, text, more, first, looksLike, notJudged } = this.log.verdict;
+    const { kind, text, more, first, notJudged, stations = [] } = this.log.verdict;
     const show = first < 0 ? [] : [' ', element('button', { id: 'first-breach', onclick: () => this.goTo(first) }, `Show ${this.log.where(first)}`)];
     byId('verdict').dataset.kind = kind;
     byId('verdict').replaceChildren(element('p', { class: 'says' }, element('strong', { 'aria-hidden': 'true' }, SYMBOLS[kind]), ' ',
       element('span', { id: 'verdict-text' }, element('strong', {}, text), more), ...show),
-    ...looksLike === '' ? [] : [element('p', { id: 'looks-like' }, looksLike)],
+    ...stations.length === 0 ? [] : [element('ul', { id: 'stations' }, ...stations.map(([address, words]) => element('li', {}, element('b', {}, address), `: ${words}`)))],
     ...notJudged.length === 0 ? [] : [element('p', { class: 'soft', id: 'not-judged' }, notJudged.join(' '))]);
   }
 
@@ -195,7 +190,7 @@ export class MessagesView {
   matcher(wanted) {
     const { log } = this, octets = wanted.replace(/\s/g, ''), isOctets = /^(?:[0-9a-f]{2})+$/.test(octets);
     const words = new RegExp('(?:^|\\s)' + wanted.replace(/[.*+?^${}()|[\]\\]/g, '\\$&') + '(?=\\s|$)', 'm');
-    return (place) => wanted === '' || words.test(log.written(place).join('\n')) || noteOf(log, place).toLowerCase().includes(wanted)
+    return (place) => wanted === '' || words.test([...log.written(place), log.station(place)].join('\n')) || noteOf(log, place).toLowerCase().includes(wanted)
       || isOctets && hexText(log.octets(place)).includes(octets);
   }
 
@@ -208,7 +203,7 @@ export class MessagesView {
 
   kindsOf(place, note) {
     const { log } = this, kinds = [...log.directions[place] === LOG_SIDES.fromCpu ? ['sent'] : [], ...note === '' ? ['bare'] : []];
-    if (log.isPossible[place] || log.others.has(place)) kinds.push('possible');
+    if (log.damaged.get(place)?.isPossible || log.others.has(place)) kinds.push('possible');
     else if (log.breaches.has(place)) kinds.push('broken');
     else if (log.restarts.has(place)) kinds.push('restarted');
     else if (log.isFaulty[place]) kinds.push('faulty');

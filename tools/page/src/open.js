@@ -17,9 +17,10 @@ const STORIES = [
 // Logs of other tools, which do not begin with what they are about.
 const IN_WORDS = {
   'module-log.txt': 'A log taken at the module: its directions are those of the other end.',
-  'octets.txt': 'An octet a line, as some analysers write it.',
+  'octets.txt': 'Octets alone, with a comment, and a line that is cut.',
   'powershell.txt': 'Times and directions as PowerShell writes them.',
   'sdlc.txt': 'Frames of SDLC, with flags and frame check.',
+  'two-stations.txt': 'Two modules on one line, each by its address.',
 };
 
 export class OpenView {

@@ -4,12 +4,13 @@
 import { isCapture, linesOfCapture } from './captures.js';
 import { clockOf } from './clocks.js';
 import { LOG_FORMS, LOG_KINDS, LOG_REASONS, LOG_SIDES } from './constants.js';
-import { Doubts } from './doubts.js';
+import { Foreign, foreignText } from './foreign.js';
 import { fromHex } from './hex.js';
 import { FIRST_ANSWER } from './library.js';
+import { UNSEEN } from './log_reader.js';
 import { REASONS } from './log_words.js';
+import { counted, withCommas } from './dom.js';
 import { MARKS, MessageList } from './messagelist.js';
-import { IN_TWO_LINES, Pieces } from './pieces.js';
 import { part } from './slices.js';
 
 // The year 10000, which no time of a log has.
@@ -18,8 +19,6 @@ const END_OF_TIME = 253_402_300_800;
 const LONGEST_SHOWN = 100;
 // The octets of which lines are made at a time.
 const PIECE_OF_LINES = 1 << 17, NEW_LINE = 10;
-// What is no character of a line.
-const UNSEEN = /\x1b\[[^A-Za-z]*[A-Za-z]?|[\0\ufeff]/g;
 const BYTE_ORDER_MARKS = { 0xfffe: 'utf-16le', 0xfeff: 'utf-16be' };
 
 // The form in which a file is read: the one that is asked for or, if that is `auto`, that of the project's own texts if it is named as
@@ -29,10 +28,13 @@ export function formOf(name, asked) {
   return LOG_FORMS[asked === 'auto' && ending ? ending[1] : asked === 'any' ? 'auto' : asked];
 }
 
+// The encoding of a file that begins with a byte order mark of UTF-16, else undefined.
+export const encodingOf = (file) => BYTE_ORDER_MARKS[file[0] << 8 | file[1]];
+
 // The octets of a file in UTF-8; those of a capture of packets are its lines.
 export function* octetsOf(file) {
   if (isCapture(file)) return yield* linesOfCapture(file);
-  const encoding = file.length > 1 ? BYTE_ORDER_MARKS[file[0] << 8 | file[1]] : undefined;
+  const encoding = encodingOf(file);
   return encoding ? new TextEncoder().encode(new TextDecoder(encoding).decode(file)) : file;
 }
 
@@ -51,43 +53,47 @@ export function* linesOf(octets, form) {
   return lines;
 }
 
-// What a skipped line says of the messages below it, by the number of its reason. One with a short message may have been a frame.
-const MARK_OF = { [LOG_REASONS.loss]: MARKS.loss, [LOG_REASONS.shortMessage]: MARKS.loss, [LOG_REASONS.heading]: MARKS.heading };
-
-const WITHOUT_MESSAGE = [LOG_KINDS.damaged, LOG_KINDS.passedOver];
+// What a skipped line says of the messages below it, by the number of its reason.
+const MARK_OF = { [LOG_REASONS.loss]: MARKS.loss, [LOG_REASONS.heading]: MARKS.heading };
+// The reasons of lines with octets that are in no message, beside what they give.
+const DROPPED = [LOG_REASONS.more, LOG_REASONS.broken];
 
 // Reads the octets of a log in a form of LOG_FORMS.
 export function* readLog(library, logReader, octets, form) {
-  const lines = yield* part(0, 0.1, linesOf(octets, form)), found = new Found(lines, form, octets.length, new Doubts(library));
-  const pieces = new Pieces(library, found);
+  const lines = yield* part(0, 0.1, linesOf(octets, form)), found = new Found(lines, form, octets.length);
   for (const [verdicts, share] of logReader.read(octets, form)) {
+    found.foreign.take(verdicts);
     for (const verdict of verdicts) {
-      if (verdict.kind !== LOG_KINDS.blank) pieces.add(verdict, form === LOG_FORMS.auto && WITHOUT_MESSAGE.includes(verdict.kind));
+      found.add(verdict);
     }
     yield 0.1 + 0.9 * share;
   }
-  pieces.end();
+  found.forms = logReader.forms();
   return found;
 }
 
-// What is found in a log by verdicts: its messages, how many lines are passed over by the number of their reason, what is doubtful, and
-// what the log says of directions.
+// What is found in a log by verdicts: its messages, how many lines are passed over by the words of their reason, by which forms lines are
+// read, and what the log says of directions.
 export class Found extends MessageList {
   // `texts` are the lines of a log with so many octets.
-  constructor(texts, form, octets, doubts) {
+  constructor(texts, form, octets) {
     super(texts.length, octets);
-    Object.assign(this, { texts, form, doubts });
-    // How many frames are sure; how many have the direction of their type in the log's words, and how many the other one.
-    Object.assign(this, { passed: REASONS.map(() => 0), inTwoLines: 0, sure: 0, agreeing: 0, reversed: 0 });
+    // How many lines have a verdict, and how many are blank.
+    Object.assign(this, { texts, form, forms: [], passed: new Map(), told: 0, blanks: 0, foreign: new Foreign() });
+    // How many frames there are; how many have the direction of their type in the log's words, and how many the other one.
+    Object.assign(this, { sure: 0, agreeing: 0, reversed: 0 });
   }
 
   get isReversed() {
     return this.reversed > this.agreeing;
   }
 
-  // What stays doubtful, a sentence each.
+  // How lines are read, a sentence for each form, and how many no form has.
   get remarks() {
-    return this.doubts.words();
+    const said = ({ front, lines, damaged, isEcho }) => `read as “${front}” and octets: ${counted(lines, 'line')}`
+      + (damaged > 0 ? `, ${withCommas(damaged)} damaged` : '') + (isEcho ? ', which repeat the messages above' : '');
+    const read = this.forms.reduce((sum, { lines }) => sum + lines, 0), others = this.told - this.blanks - read;
+    return [...this.forms.map(said), ...read > 0 && others > 0 ? [`no form: ${counted(others, 'line')}`] : [], ...this.foreign.remarks];
   }
 
   textOf(line) {
@@ -95,46 +101,46 @@ export class Found extends MessageList {
   }
 
   add(verdict) {
-    const { line, kind, reason } = verdict;
-    if (kind === LOG_KINDS.says || kind === LOG_KINDS.possible) this.addFrames(verdict);
+    const { line, kind, reason, foreign } = verdict, isDropped = DROPPED.includes(reason);
+    this.told += 1;
+    if (kind === LOG_KINDS.blank) this.blanks += 1;
+    if (isDropped) this.addDamaged(line, REASONS[reason]);
+    if (kind === LOG_KINDS.says) {
+      this.addFrames(verdict);
+      if (isDropped) this.mark(MARKS.lost);
+    } else if (isDropped || kind === LOG_KINDS.blank || kind === LOG_KINDS.part) return;
+    else if (kind === LOG_KINDS.possible) this.addDamaged(line, REASONS[reason], { isPossible: true });
     else if (this.form !== LOG_FORMS.auto && reason === LOG_REASONS.noMessage) this.addFaulty(verdict);
     else if (kind === LOG_KINDS.damaged) this.addDamaged(line, `damaged: ${REASONS[reason]}`);
     else if (kind === LOG_KINDS.passedOver && this.form !== LOG_FORMS.auto) this.addBad(line);
     else if (kind === LOG_KINDS.passedOver) {
-      this.passed[reason] += 1;
+      const why = foreign > 0 ? foreignText(foreign) : REASONS[reason];
+      this.passed.set(why, (this.passed.get(why) || 0) + 1);
       this.mark(MARK_OF[reason] || 0);
     }
   }
 
-  addDamaged(line, why, hasWrongCheck = false) {
-    this.addBad(line, { why, text: this.textOf(line).slice(0, LONGEST_SHOWN), hasWrongCheck });
-  }
-
-  // Two lines in which one message stands.
-  addTwo(verdicts) {
-    this.inTwoLines += 1;
-    for (const { line } of verdicts) this.addDamaged(line, IN_TWO_LINES);
+  // A line that may have held a message. `how` is whether its check is wrong, and whether it is of no form.
+  addDamaged(line, why, how = {}) {
+    this.addBad(line, { why, text: this.textOf(line).slice(0, LONGEST_SHOWN), ...how });
   }
 
   // A line that is a frame by order, and spells no message.
   addFaulty({ line, said }) {
     const digits = this.textOf(line).slice(this.form === LOG_FORMS.transcript ? 2 : 0).replace(/\s/g, '');
-    this.addFrames({ line, kind: LOG_KINDS.says, said, time: null, frames: [fromHex(digits)], places: [] });
+    this.addFrames({ line, said, time: null, frames: [fromHex(digits)] });
   }
 
   // The numbers of the sides are those of directions. `at` is the octet of the line at which the first frame begins, counted from 1; 0
   // if it begins in a line above.
-  addFrames({ line, kind, said: side, time, frames, places, at = 1 }) {
-    const text = this.textOf(line), isPossible = kind === LOG_KINDS.possible, inTime = time < END_OF_TIME ? time : null;
-    const clock = inTime === null ? '' : clockOf([text, this.textOf(line - 1)], inTime);
+  addFrames({ line, said: side, time, address, frames, at = 1 }) {
+    const inTime = time < END_OF_TIME ? time : null, clock = inTime === null ? '' : clockOf([this.textOf(line), this.textOf(line - 1)], inTime);
     let begin = at;
     for (const octets of frames) {
-      this.addMessage({ line, side, octets, isPossible, time: inTime, clock, at: begin });
+      this.addMessage({ line, side, address, octets, time: inTime, clock, at: begin });
       begin += octets.length;
-      if (isPossible) continue;
       this.sure += 1;
       this.noteSide(side, octets[0]);
-      if (this.form === LOG_FORMS.auto) this.doubts.add(text, octets, places);
     }
   }
 

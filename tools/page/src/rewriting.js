@@ -32,11 +32,8 @@ function byPattern(pattern) {
   };
 }
 
-// A row of the hex dump of a file that is no text.
-function dumped(file, row) {
-  const at = row * DUMPED;
-  return `${at.toString(16).padStart(8, '0')}: ${hexText(file.subarray(at, at + DUMPED)).replace(/(....)(?=.)/g, '$1 ')}`;
-}
+// A row of a file that is no text.
+const dumped = (file, row) => hexText(file.subarray(row * DUMPED, (row + 1) * DUMPED));
 
 // The ways that a reader may choose, and their words.
 export const REWRITINGS = { unchecked: 'SDLC frames, without their check', pattern: 'As an expression finds it', octets: 'A binary file of messages without flags' };

@@ -4,7 +4,7 @@
 import { BITS } from './bits.js';
 import { ADVANCE_BREACHES, CONTENT_RULES, INPUTS, RULES } from './constants.js';
 import { BLOCK, FIRST_ANSWER, STATUS_BITS, WATCHDOG_ANSWER } from './library.js';
-import { BREACHES, POSSIBLE, TERMS } from './log_words.js';
+import { BREACHES, TERMS } from './log_words.js';
 
 // The last rule on content that an entry breaks.
 const LAST_OF_ENTRIES = CONTENT_RULES.findIndex((rule) => rule?.name === 'ignored');
@@ -79,8 +79,8 @@ export const bitsOf = (code, value) => (BITS[code]?.bits || []).filter(([, bit])
 export const statusNotes = (code, status) => BITS[code]?.word !== 'status' ? []
   : bitsOf(code, status).map(([letter, says]) => `${letter}: ${code === BLOCK && IN_SHORT[letter] || says}`);
 
-// Why a message is not judged, or a line gave none; empty if neither is so.
-export const doubtOf = (log, place) => log.isPossible[place] ? POSSIBLE : (log.damaged.get(place) || log.others.get(place) || { why: '' }).why;
+// Why a frame is not judged, or a line gave none; empty if neither is so.
+export const doubtOf = (log, place) => (log.damaged.get(place) || log.others.get(place) || { why: '' }).why;
 
 export function noteOf(log, place) {
   const reason = log.reason(place), notes = statusNotes(log.codes[place], log.status[place]);
@@ -93,6 +93,6 @@ export function noteOf(log, place) {
 // Whether a row of a log has a note.
 export function hasNotes(log) {
   const { summary, status, codes } = log;
-  return log.breaches.size + log.restarts.size + log.damaged.size + log.others.size + summary.unanswered + summary.possible > 0
+  return log.breaches.size + log.restarts.size + log.damaged.size + log.others.size + summary.unanswered > 0
     || status.some((it, place) => it > 0 && statusNotes(codes[place], it).length > 0);
 }

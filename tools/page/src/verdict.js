@@ -3,32 +3,60 @@
 
 import { WHY } from './constants.js';
 import { capital, counted, sentence, withCommas } from './dom.js';
-import { CAUSES, ENDS, isOfOneSide } from './judging.js';
+import { CAUSES, ENDS } from './judging.js';
 import { POLL } from './library.js';
 import { SIDES, SIGNS } from './log_words.js';
 import { RESTART_HELP, ruleOf } from './rules.js';
+import { stationText } from './stations.js';
 
-// Its kind, as the style names it; its sentence, and more on it; the place of the first breach or restart (-1 if there is none); what kind
-// of log it looks like if it is not the log of one link in order; and sentences on what was not judged.
+// Its kind, as the style names it; its sentence, and more on it; the place of the first breach or restart (-1 if there is none); and
+// sentences on what was not judged.
 export function verdictOf(log) {
-  const { messages, badLines, possible } = log.summary, readable = messages - badLines - possible;
+  return log.stations.size > 0 ? verdictApart(log) : verdictOfLink(log);
+}
+
+function verdictOfLink(log) {
+  const { messages, badLines } = log.summary, readable = messages - badLines;
   const [kind, text, more = '', first = -1] = saidOf(log, readable);
-  return { kind, text, more, first, looksLike: sentence(SIGNS[log.sign]), notJudged: sentencesOf(log, readable > 0) };
+  return { kind, text, more, first, notJudged: sentencesOf(log, readable > 0) };
+}
+
+// The kinds, the worst first, and what is said of stations of which so many have it.
+const APART = {
+  broken: (some) => `A rule is broken at ${some}`,
+  restarted: (some) => `The module restarted at ${some}`,
+  unjudged: (some) => `Little could be judged at ${some}`,
+  partly: (some, all) => `No rule is broken at ${all}`,
+  good: (some, all) => `No rule is broken at ${all}`,
+};
+
+// The verdict on a line of several stations has that on each, by its address.
+function verdictApart(log) {
+  const verdicts = [...log.stations.values()].map(({ verdict }) => verdict), kind = Object.keys(APART).find((one) => verdicts.some((verdict) => verdict.kind === one));
+  const all = counted(verdicts.length, 'station'), some = `${verdicts.filter((verdict) => verdict.kind === kind).length} of ${all}`;
+  const [first = -1] = [...log.breaches.keys(), ...log.restarts], isPart = kind === 'good' && log.others.size > 0;
+  return { kind: isPart ? 'partly' : kind, text: `${APART[kind](some, all)}, each judged by itself.`, more: '', first, notJudged: sentencesOf(log, true),
+    stations: [...log.stations].map(([address, alone]) => [stationText(address), wordsOf(alone)]) };
+}
+
+// What is said of a station in short.
+function wordsOf({ isFit, logged, summary, verdict: { text, more } }) {
+  const silent = isFit && sentence(SIDES[logged] || '');
+  return `${counted(summary.messages - summary.badLines, 'message')}. ${text}${more}${silent ? ` ${silent}` : ''}`;
 }
 
 // The kind, the sentence, more, and the place, where so many messages are sure.
 function saidOf(log, readable) {
-  const { messages, broken, restarts, possible, badLines } = log.summary, judged = log.judging.unjudged.reduce((rest, count) => rest - count, readable);
-  const couldBe = `No rule is broken in the ${counted(judged, 'message')} that could be judged.`;
-  if (readable === 0) return ['none', possible > 0 ? 'No message is sure, so none is judged.' : 'No message was found.'];
-  if (isOfOneSide(log.logged)) return ['unjudged', sentence(SIDES[log.logged])];
+  const { messages, broken, restarts, badLines } = log.summary, judged = log.judging.unjudged.reduce((rest, count) => rest - count, readable);
+  const compared = judged - log.judging.begunAgain, isLittle = 2 * compared < messages;
+  const only = compared === 0 ? 'No message could be judged.' : `Only ${counted(compared, 'message')} of ${withCommas(messages)} could be judged.`;
+  const couldBe = isLittle ? only : `No rule is broken in the ${counted(judged, 'message')} that could be judged.`;
+  if (readable === 0) return ['none', 'No message was found.'];
+  if (!log.isFit) return ['unjudged', sentence(SIGNS[log.sign] || SIDES[log.logged])];
   if (broken > 0) return brokenOf(log, readable);
   if (restarts > 0) return ['restarted', restartsIn(log), `. ${couldBe} ${RESTART_HELP}`, [...log.restarts][0]];
-  if (judged === 0) return ['unjudged', 'No message could be judged.'];
-  if (2 * judged < messages) {
-    return ['unjudged', `Only ${counted(judged, 'message')} of ${withCommas(messages)} could be judged.`, ` No rule is broken in ${judged === 1 ? 'it' : 'them'}.`];
-  }
-  const isPart = badLines > 0 || judged < readable || possible > 0 || log.others.size > 0 || log.logged !== '';
+  if (isLittle) return ['unjudged', only, compared > 0 ? ` No rule is broken in ${compared === 1 ? 'it' : 'them'}.` : ''];
+  const isPart = badLines > 0 || judged < readable || log.others.size > 0 || log.logged !== '';
   return isPart ? ['partly', couldBe] : ['good', `No rule is broken in ${counted(judged, 'message')}.`];
 }
 
@@ -51,32 +79,33 @@ function restartsIn(log) {
 
 // What was not judged, and why.
 function sentencesOf(log, isJudged) {
-  const { inTwoLines, hasDirections, end, summary: { possible, badLines }, judging: { unjudged, losses } } = log;
+  const { hasDirections, end, summary: { possible, badLines }, judging: { unjudged, losses } } = log;
   const { [WHY.aboveCommand]: aboveCommand, [WHY.unheard]: unheard, [WHY.load]: belowLoads } = unjudged;
-  const [first] = log.breaches.keys(), poll = log.codes.indexOf(POLL), unread = badLines - 2 * inTwoLines;
+  const [first] = log.breaches.keys(), poll = log.codes.indexOf(POLL), unread = badLines - possible;
   // How many, with the verb; nothing of what the log has none of.
   const said = (count, noun, words) => count > 0 && `${counted(count, noun)} ${words.replace(/\bare\b/, count === 1 ? 'is' : 'are')}.`;
   return [
     said(unread, 'line', 'could not be read as a message and are not judged'),
-    said(inTwoLines, 'message', 'split over two lines are not read'),
-    said(possible, 'message', 'are possible and not judged: nothing in the log makes sure that the octets are a message'),
+    possible > 0 && `${counted(possible, 'line')} may be a message, and ${possible === 1 ? 'has' : 'have'} no form of this log.`,
     said(log.others.size, 'frame', 'with another address are not judged'),
-    !isOfOneSide(log.logged) && sentence(SIDES[log.logged] || ''),
+    log.isFit && sentence(SIDES[log.logged] || ''),
     said(aboveCommand, 'message', 'above the first command are not judged: what was asked is not in the log'),
     said(unheard, 'message', 'are not judged, since this log was not taken at the CPU: whether the CPU heard the answer above is not known, '
       + 'and to ask for the same block again is right if it did not'),
     said(belowLoads, 'message', `are not judged, since a load of the counter may explain ${belowLoads === 1 ? 'its stamp' : 'the stamps'}: `
       + 'one that was sent, or that a lost line may have been'),
     losses > 0 && lossesOf(log.judging),
-    ([...log.restarts].some((place) => log.isUndue(place))
-      || [...log.breaches].some(([place, breach]) => ruleOf(breach) === 'pair' && log.answersAbove(place)))
-      && 'Answers may have come late or twice: fiolog check --late-answers leaves these out.',
+    (log.stations.size > 0 ? [...log.stations.values()] : [log]).some(mayBeLate) && 'Answers may have come late or twice: fiolog check --late-answers leaves these out.',
     first !== undefined && poll < 0 ? 'The log has no poll, so it is of the middle of traffic: what breaks a rule here may be right.'
       : first < poll && 'The log begins in the middle of traffic: what breaks a rule above the first poll may be right.',
     isJudged && !hasDirections ? 'The log does not say who sent a message: each is judged as sent by the end that its type belongs to.'
       : isJudged && end === ENDS.bus && 'On the bus a message may be logged that the other end did not receive, so less can be judged than at the CPU.',
   ].filter(Boolean);
 }
+
+// Whether answers may have come late or twice.
+const mayBeLate = (log) => [...log.restarts].some((place) => log.isUndue(place))
+  || [...log.breaches].some(([place, breach]) => ruleOf(breach) === 'pair' && log.answersAbove(place));
 
 // Where sync was lost, and what was not judged for it.
 function lossesOf({ unjudged: { [WHY.placeLost]: count }, losses, causes }) {

@@ -122,20 +122,18 @@ pub const LOG_POSSIBLE: u8 = 3;
 pub const LOG_DAMAGED: u8 = 4;
 pub const LOG_PASSED_OVER: u8 = 5;
 
-// Why a line of a log gives no frame.
+// Why a line of a log gives no frame, or what else is in one that does.
 pub const LOG_NO_REASON: u8 = 0;
 pub const LOG_NO_OCTETS: u8 = 1;
 pub const LOG_NO_MESSAGE: u8 = 2;
-pub const LOG_SHORT_MESSAGE: u8 = 3;
-pub const LOG_SEVERAL_MESSAGES: u8 = 4;
-pub const LOG_MAY_BE_LONGER: u8 = 5;
+pub const LOG_NO_FORM: u8 = 3;
+pub const LOG_MORE: u8 = 4;
 pub const LOG_TOO_LONG: u8 = 6;
 pub const LOG_BAD_LINE: u8 = 7;
-pub const LOG_EXCHANGED: u8 = 8;
-pub const LOG_TWO_MORE: u8 = 9;
 pub const LOG_LOSS: u8 = 10;
 pub const LOG_HEADING: u8 = 11;
-pub const LOG_ONE_LESS: u8 = 12;
+pub const LOG_COPY: u8 = 13;
+pub const LOG_BROKEN: u8 = 14;
 
 // Who sent the octets of a line of a log, as it says.
 pub const LOG_NO_SIDE: u8 = 0;

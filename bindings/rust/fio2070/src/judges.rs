@@ -85,12 +85,12 @@ impl LogJudge {
         }
     }
 
-    /// A line may have held a frame, such as a damaged one.
+    /// A line may have held a frame, such as a damaged one; or below a frame another part of the log begins.
     pub fn lose(&mut self) {
         unsafe { raw::fio2070_log_judge_lose(&mut self.0) }
     }
 
-    /// A line says a message which nothing confirms: below a frame it is as for `lose`.
+    /// A line says a message which nothing confirms: below a frame, or if the log begins with both ends, it is as for `lose`.
     pub fn possible(&mut self) {
         unsafe { raw::fio2070_log_judge_possible(&mut self.0) }
     }

@@ -41,10 +41,10 @@ pub use encode::{encode_answer, encode_command};
 pub use ends::{AnswerRefusal, Checker, ContentChecker, Counter, Filters, Heard, Module, Poller};
 pub use errors::ConfigurationError;
 pub use judges::{LinkJudge, LogJudge, LogSigns};
-pub use logs::{Frames, LogBatch, LogReader, Verdict};
+pub use logs::{Forms, Frames, LogBatch, LogReader, Verdict};
 pub use raw::{
     Answer, Breach, Command, ConfigurationItem, ContentBreach, Entry, ErrorCounts, Fault,
-    JudgeOutcome, Line, LogCounts, LogPlace, Outputs, Pace, RecordItem, State,
+    JudgeOutcome, Line, LogCounts, LogPlace, LogReadAs, Outputs, Pace, RecordItem, State,
 };
 pub use wire::{wire_check, wire_frame, Wire, WireBits, WireHeard};
 pub use written::Unwritten;

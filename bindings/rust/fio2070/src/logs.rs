@@ -1,6 +1,8 @@
 //! The reader of logs.
 
-use crate::raw::{self, LogPlace, LogVerdict, RawLogBatch, RawLogReader};
+use crate::raw::{
+    self, LogPlace, LogReadAs, LogVerdict, RawLogBatch, RawLogFormList, RawLogReader,
+};
 
 /// A reader of a log, which takes its octets in pieces of any length. It has half a megabyte: keep it in a static or a box.
 pub struct LogReader(RawLogReader);
@@ -12,6 +14,24 @@ impl LogReader {
         // SAFETY: `reader` is room for a reader, borrowed by this call alone.
         unsafe { raw::fio2070_log_start(&mut reader, form) };
         LogReader(reader)
+    }
+
+    /// Learns forms from sample lines, before octets of the log are read, and returns how many: 0 if they show none.
+    pub fn like(&mut self, samples: &[u8]) -> usize {
+        // SAFETY: a slice is initialised memory of its length; the reader was begun by `_start`.
+        unsafe { raw::fio2070_log_like(&mut self.0, samples.as_ptr(), samples.len()) as usize }
+    }
+
+    /// By which forms the lines are read that have a verdict, in the order of the forms.
+    pub fn forms(&mut self) -> Forms {
+        let mut forms = RawLogFormList {
+            count: 0,
+            reserved: [0; 4],
+            forms: [NO_LINES; 16],
+        };
+        // SAFETY: the reader was begun by `_start`.
+        unsafe { raw::fio2070_log_forms(&mut self.0, &mut forms) };
+        Forms(forms)
     }
 
     /// Takes octets until all are taken or the batch has no room for another verdict, and returns how many it took. The
@@ -26,6 +46,35 @@ impl LogReader {
     pub fn end(&mut self) {
         // SAFETY: the reader was begun by `_start`.
         unsafe { raw::fio2070_log_end(&mut self.0) };
+    }
+}
+
+/// A form that no line has.
+const NO_LINES: LogReadAs = LogReadAs {
+    from: 0,
+    lines: 0,
+    damaged: 0,
+    is_echo: false,
+    front_length: 0,
+    reserved: [0; 6],
+    front: [0; 120],
+};
+
+/// The forms by which a log is read: a line is read by the first one that has it.
+#[derive(Clone, Copy, Debug)]
+pub struct Forms(RawLogFormList);
+
+impl Forms {
+    /// Each form: the text before its octets in the first line that it has, and how many lines it has.
+    pub fn iter(&self) -> impl Iterator<Item = &LogReadAs> + '_ {
+        self.0.forms[..self.0.count as usize].iter()
+    }
+}
+
+impl LogReadAs {
+    /// The text before the octets of the first line that was read by it, or its end.
+    pub fn before(&self) -> &[u8] {
+        &self.front[..usize::from(self.front_length)]
     }
 }
 
@@ -44,7 +93,10 @@ impl LogBatch {
             reason: 0,
             has_time: 0,
             said: 0,
-            reserved: [0; 4],
+            address: 0,
+            control: 0,
+            header: 0,
+            foreign: 0,
         };
         const NO_PLACE: LogPlace = LogPlace {
             line: 0,
@@ -83,6 +135,10 @@ impl LogBatch {
                     reason: verdict.reason,
                     time: Some(verdict.time).filter(|_| verdict.has_time != 0),
                     said: verdict.said,
+                    address: Some(verdict.address).filter(|_| verdict.header > 0),
+                    control: Some(verdict.control).filter(|_| verdict.header > 1),
+                    foreign: Some(verdict.foreign).filter(|code| *code > 0),
+                    size: Some(verdict.control).filter(|size| verdict.header == 0 && *size > 0),
                     frames: Frames {
                         lengths: counts,
                         octets: said,
@@ -106,6 +162,14 @@ pub struct Verdict<'a> {
     pub time: Option<u64>,
     /// Who sent its octets, as the line says: one of `constants::LOG_NO_SIDE` and those after it.
     pub said: u8,
+    /// The address that stands before its messages, if all have one and the same.
+    pub address: Option<u8>,
+    /// The control octet behind the address.
+    pub control: Option<u8>,
+    /// The type of the message that the line has in place of frames, if this protocol has none of that type, or none of that size.
+    pub foreign: Option<u8>,
+    /// How many octets of inputs or of outputs that message has, if it is a 55, 180 or 181 of a module of another size.
+    pub size: Option<u8>,
     /// Its frames, each of which spells a message.
     pub frames: Frames<'a>,
     /// Where the octets of the frames are written.

@@ -254,7 +254,10 @@ pub struct LogVerdict {
     pub reason: u8,
     pub has_time: u8,
     pub said: u8,
-    pub reserved: [u8; 4],
+    pub address: u8,
+    pub control: u8,
+    pub header: u8,
+    pub foreign: u8,
 }
 
 /// Where octets are written in a log: a line, and the indexes of its characters.
@@ -277,6 +280,29 @@ pub(crate) struct RawLogBatch {
     pub places: [LogPlace; 20480],
     pub lengths: [u16; 20480],
     pub octets: [u8; 65536],
+}
+
+/// Lines of one form: the number of the first one, from 1, or 0 if there is none; how many there are, and how many of them give no
+/// frame; whether its frames repeat those above them, and are no frames of their own; and the text before the octets of the first
+/// line (`before`).
+#[derive(Clone, Copy, Debug, PartialEq, Eq)]
+#[repr(C)]
+pub struct LogReadAs {
+    pub from: u64,
+    pub lines: u64,
+    pub damaged: u64,
+    pub is_echo: bool,
+    pub front_length: u8,
+    pub reserved: [u8; 6],
+    pub front: [u8; 120],
+}
+
+#[derive(Clone, Copy, Debug)]
+#[repr(C)]
+pub(crate) struct RawLogFormList {
+    pub count: u32,
+    pub reserved: [u8; 4],
+    pub forms: [LogReadAs; 16],
 }
 
 /// What is counted of the frames of a log, modulo 2^64: begin with `LogCounts::new`. `waits` is 1 where the latest poll is not
@@ -436,6 +462,9 @@ extern "C" {
         octets: *const u8, octets_count: usize, taken: &mut u64) -> u8;
     pub(crate) fn fio2070_log_counts_batch(counts: &mut LogCounts, batch: &RawLogBatch,
         taken: &mut [u64; 20480]) -> u32;
+    pub(crate) fn fio2070_log_forms(reader: &mut RawLogReader, forms: &mut RawLogFormList);
+    pub(crate) fn fio2070_log_like(reader: &mut RawLogReader, octets: *const u8,
+        octets_count: usize) -> u32;
     pub(crate) fn fio2070_log_judge_start(judge: &mut RawLogJudge, limits: RawLimits, place: u8,
         start: u8) -> u8;
     pub(crate) fn fio2070_log_judge_lose(judge: &mut RawLogJudge);

@@ -316,7 +316,8 @@ fn logs_are_read_by_batches() {
 }
 
 fn read_by_batches() {
-    let text = b"00:00:01.000 TX 36 05\n00:00:01.003 RX b6 06 00 00 00 00 00 05\n";
+    let text = b"00:00:01.000 TX 36 05\n00:00:01.003 RX b6 05 00 00 00 00 00 05\n\
+        00:00:02.000 TX 36 06\n00:00:02.002 RX b6 07 00 00 00 00 00 06\n";
     let mut reader = Box::new(LogReader::new(LOG_AUTO));
     let mut batch = Box::new(LogBatch::new());
     let (mut outcomes, mut taken) = ([JudgeOutcome::default(); 20480], [0; 20480]);
@@ -325,23 +326,29 @@ fn read_by_batches() {
     reader.end();
     assert_eq!(reader.read(&[], &mut batch), 0);
     let kinds: Vec<_> = batch.verdicts().map(|it| (it.line, it.kind)).collect();
-    assert_eq!(kinds, [(1, LOG_SAYS), (2, LOG_SAYS)]);
+    assert_eq!(kinds, [1, 2, 3, 4].map(|line| (line, LOG_SAYS)));
     let mut second = batch.verdicts().nth(1).unwrap();
     let place = second.places[0];
     assert_eq!((place.line, place.start, place.end), (2, 16, 39));
-    assert_eq!(second.frames.next(), Some(&block(6, 5)[..]));
+    assert_eq!(second.frames.next(), Some(&block(5, 5)[..]));
     assert_eq!(second.reason, LOG_NO_REASON);
     assert_eq!(
         (second.time, second.said),
         (Some(1_003_000), LOG_FROM_MODULE)
     );
+    let forms = reader.forms();
+    let fronts: Vec<_> = forms.iter().map(|it| (it.before(), it.lines)).collect();
+    assert!(fronts.contains(&(&b"00:00:01.000 TX "[..], 2)) && fronts.len() == 2);
+    let mut given = Box::new(LogReader::new(LOG_AUTO));
+    assert_eq!((given.like(b"no octets"), given.like(b"TX 36 05")), (0, 1));
+    assert_eq!(given.forms().iter().count(), 1);
     let mut judge = LogJudge::new(LOG_TAKEN_AUTO, LOG_BEGINS_ANYWHERE, 255, 1024).unwrap();
     let found = judge.batch(false, &batch, &mut outcomes);
     let rules: Vec<_> = found.iter().map(|it| it.rule).collect();
-    assert_eq!(rules, [0, RULE_NUMBER]);
+    assert_eq!(rules, [0, 0, 0, RULE_NUMBER]);
     let mut counts = LogCounts::new();
-    assert_eq!(counts.batch(&batch, &mut taken), [3000]);
-    assert_eq!((counts.frames, counts.polls), (2, 1));
+    assert_eq!(counts.batch(&batch, &mut taken), [3000, 2000]);
+    assert_eq!((counts.frames, counts.polls), (4, 2));
     let lines = [0, 0, 1, 1, 2, 2, 3, 3].map(|number| format!("b60{number}000000000001\n"));
     let (mut reader, mut signs) = (LogReader::new(LOG_FRAMES), LogSigns::new());
     reader.read(lines.concat().as_bytes(), &mut batch);

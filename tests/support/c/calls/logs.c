@@ -6,6 +6,7 @@
 
 static struct fio2070_log_reader reader;
 static struct fio2070_log_batch batch;
+static struct fio2070_log_form_list forms;
 
 /* The frames of a batch are messages, their number is what its verdicts say, and lines are numbered without a gap. */
 static void require_batch(uint64_t *line) {
@@ -33,6 +34,20 @@ static void require_batch(uint64_t *line) {
     mix_octets(batch.octets, batch.octet_count);
 }
 
+/* The forms of a log have no more lines than those that have a verdict. */
+static void require_forms(uint64_t lines) {
+    size_t place;
+    fio2070_log_forms(&reader, &forms);
+    require(forms.count <= 16, "there are no more forms than have room");
+    mix(forms.count);
+    for (place = 0; place < forms.count; place++) {
+        const struct fio2070_log_read_as *form = &forms.forms[place];
+        require(form->damaged <= form->lines && form->lines <= lines && form->from <= lines, "a form has lines that have verdicts");
+        require(form->front_length <= sizeof form->front && form->is_echo <= 1, "the text before octets has room");
+        mix(form->from), mix(form->lines), mix(form->damaged), mix(form->is_echo), mix_octets(form->front, form->front_length);
+    }
+}
+
 /* Reads a piece whole. */
 static void read_piece(const uint8_t *piece, size_t length, uint64_t *line) {
     size_t taken = 0;
@@ -49,8 +64,15 @@ static void read_piece(const uint8_t *piece, size_t length, uint64_t *line) {
 
 void call_log_reader(struct input *input) {
     uint64_t line = 0;
+    uint8_t how = take8(input);
     untouch(&reader, sizeof reader);
-    fio2070_log_start(&reader, take8(input) % 4);
+    fio2070_log_start(&reader, how % 4);
+    if (how & 4) {
+        size_t length;
+        uint8_t *samples = take_frame(input, &length);
+        mix(fio2070_log_like(&reader, samples, length));
+        free(samples);
+    }
     while (input->left > 0) {
         size_t length;
         uint8_t *piece = take_frame(input, &length);
@@ -62,6 +84,7 @@ void call_log_reader(struct input *input) {
         require(fio2070_log_read(&reader, NULL, 0, &batch) == 0, "of no octets none is taken");
         require_batch(&line);
     } while (batch.verdict_count > 0);
+    require_forms(line);
 }
 
 void call_log_signs(struct input *input) {

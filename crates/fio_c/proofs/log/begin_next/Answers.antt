@@ -12,7 +12,7 @@ returns-then-has_told_all c =
         read = begun.none_read;
         told = begun.none_told;
         is_ended = begun.open;
-        log = nothing_read c.start_again.new.self begun.line begun.kept;
+        log = nothing_read c.start_again.new.self begun.knows;
       };
       untold = search rules;
       empty = search rules;

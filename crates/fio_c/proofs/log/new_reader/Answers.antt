@@ -11,5 +11,5 @@ returns c =
       read = begun.none_read;
       told = begun.none_told;
       is_ended = begun.open;
-      log = nothing_read c.new.result begun.line begun.kept;
+      log = nothing_read c.new.result begun.knows;
     }

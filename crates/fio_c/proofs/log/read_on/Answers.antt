@@ -37,7 +37,7 @@ pieces-preserved c =
           (piece_taken first c.pieces.reader fed.new.self (take c.pieces.taken octets) (take count rest) above.octets taken));
       verdicts = last.ensures.verdicts first _
           (verdicts_fed first above.octets.whole c.pieces.reader fed.new.self (take count rest) c.pieces.batch taken above.octets.read
-          fed.ensures.kept above.verdicts);
+          fed.ensures.knows above.verdicts);
       room = last.ensures.room above.room;
       due = last.ensures.due;
     }

@@ -1,7 +1,7 @@
 use Rattle.std.proofs.Common.{◌≡◌, ◌<◌, ◌+◌, ◌∙◌, true, [], refl, subst, arith, length, take}
 use Rattle.std.proofs.lemmas.List.Elements.{All-nil, All-push}
 use Rattle.std.specs.List.{All}
-use Rattle.fio_log.specs.Sayings.{spells}
+use Rattle.fio_log.specs.OwnTexts.{spells}
 use Rattle.fio_log.specs.Telling.{frames_of}
 use Rattle.fio_log.proofs.OwnTextLemmas.{spelled_short}
 use Rattle.fio_c.proofs.Batches.{next_frame, no_frame, octets_next, octets_within, one_more}

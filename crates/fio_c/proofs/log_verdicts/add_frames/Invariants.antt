@@ -1,6 +1,6 @@
 use Rattle.std.proofs.Common.{◌≡◌, ◌+◌, ◌≤◌, ◌++◌, true, length, take}
 use Rattle.std.specs.List.{All, concat}
-use Rattle.fio_log.specs.Sayings.{spells}
+use Rattle.fio_log.specs.OwnTexts.{spells}
 use Rattle.fio_log.specs.Telling.{frames_of}
 use Rattle.fio_c.specs.Logs.{Content, Holds}
 use Rattle.fio_c.proofs.log_verdicts.add_frames.Given as goal

@@ -1,79 +1,85 @@
-use Rattle.std.proofs.Common.{◌≡◌, ◌∙◌, Some, false, true, sym, ap, arith, rules}
-use Rattle.fio_log.specs.OwnVerdicts.{own_form_of}
-use Rattle.fio_log.specs.Telling.{Telling}
-use Rattle.fio_log.specs.contracts.reader.Reader.{the_invariant, the_view}
-use Rattle.fio_log.specs.declared.own_texts.OwnForm.{OwnForm}
-use Rattle.fio_log.specs.declared.reader.Reader.TheInside.{Inside}
+use Rattle.std.proofs.Common.{◌≡◌, ◌∙◌, ◌<◌, ◌^◌, ◌+◌, ◌-◌, true, false, rules, arith, refl, sym}
+use Rattle.fio_log.specs.Lines.{is_whole}
 use Rattle.fio_log.specs.declared.verdict.Form.TheVariants.{Auto}
-use Rattle.fio_log.proofs.BlankLemmas.{same_blanks}
 use Rattle.fio_log.proofs.OwnVerdictLemmas.{none-left}
+use Rattle.fio_log.proofs.WaitingLemmas.{same_fills}
+use Rattle.fio_log.proofs.FollowingLemmas.{made_follows, more_follows}
 use Rattle.fio_log.proofs.reader.Reader.feed.Goals as goal
-
--- by order each line is told before more octets are taken
-all-told : (own : OwnForm) (before after : Inside) (old new : Telling) → the_view before ≡ old → the_view after ≡ new
-    → the_invariant before → before.is_ready ≡ false → new.told ≡ old.told → new.read ≡ old.read → new.form ≡ old.form
-    → own_form_of after.form ≡ Some own → after.told ≡ after.read
-all-told own before after old new first last kept unready told read form is =
-    let form-is : after.form ≡ before.form =
-    ap (λ (telling : Telling). telling.form) last ∙ form ∙ sym (ap (λ (telling : Telling). telling.form) first) in
-    let told-is : after.told ≡ before.told =
-    ap (λ (telling : Telling). telling.told) last ∙ told ∙ sym (ap (λ (telling : Telling). telling.told) first) in
-    let read-is : after.read ≡ before.read =
-    ap (λ (telling : Telling). telling.read) last ∙ read ∙ sym (ap (λ (telling : Telling). telling.read) first) in
-    let all : before.told ≡ before.read = none-left before.told before.read kept.0 (λ less.
-    let no : false ≡ true = sym unready ∙ (kept.4 own (ap own_form_of (sym form-is) ∙ is) less).0 in absurd (cc)) in
-    told-is ∙ all ∙ sym read-is
 
 pub invariant_of-self : goal.invariant_of-self
 invariant_of-self c =
-    let kept = c.self-2.invariant in
-    let was = c.judge_held.ensures in (
-      kept.0,
-      kept.1,
-      kept.2,
-      λ held.
-          let none : c.self-2.inside.is_held ≡ false = ap (λ (telling : Telling). telling.is_held) c.self-2.view_is ∙ was.none in
-          let no : false ≡ true = sym none ∙ held in absurd (cc),
+    let kept = c.self.invariant in
+    let unready : c.self.inside.is_ready ≡ false = search rules in
+    let going : c.self.inside.is_ended ≡ false = search rules in
+    let whole : is_whole c.take-count.new.self.ending ≡ true = search rules in (
+      omega (arith, kept.0),
+      λ ready. omega (arith, kept.0),
+      λ ended less. let no : false ≡ true = sym going ∙ ended in absurd (cc),
+      λ ready running. whole,
       λ own is less.
-          let all = all-told own c.self.inside c.self-2.inside _ _ c.self.view_is c.self-2.view_is c.self.invariant c.if-self.false was.told was.read was.form is in
-          absurd (omega (arith, all, less)),
-      λ unread.
-          let none : c.self-2.inside.is_unread ≡ false = ap (λ (telling : Telling). telling.is_unread) c.self-2.view_is ∙ was.unread in
-          let no : false ≡ true = sym none ∙ unread in absurd (cc),
-      kept.6,
-      search rules,
-      search rules,
+          let all : c.self.inside.told ≡ c.self.inside.read = none-left _ _ kept.0 (λ some. let no : false ≡ true = sym unready ∙ (kept.4 own is some).0 in absurd (cc)) in
+          (c.read_line-self-inside.ensures.ready own is, omega (arith, all), record { whole = whole; verdict = c.read_line-self-inside.ensures.own own is; agreed = c.read_line-self-inside.ensures.agrees own is }),
+      c.read_line-self-inside.ensures.waiting c.settle.ensures.agrees,
+      λ auto. c.read_line-self-inside.ensures.kept auto (λ unknown. omega (arith, (same_fills _ _ _ _ c.settle.ensures.known (kept.6 auto)).lines unknown)),
+      λ auto late running. c.read_line-self-inside.ensures.one auto late,
     )
-
-pub read_line-requires-clause-told : goal.read_line-requires-clause-told
-read_line-requires-clause-told c = λ own is.
-    let was = c.judge_held.ensures in
-    all-told own c.self.inside c.self-2.inside _ _ c.self.view_is c.self-2.view_is c.self.invariant c.if-self.false was.told was.read was.form is
 
 pub invariant_of-self-else-is_whole : goal.invariant_of-self-else-is_whole
 invariant_of-self-else-is_whole c =
-    let kept = c.self-2.invariant in
-    let was = c.judge_held.ensures in (
+    let kept = c.self.invariant in
+    let unready : c.self.inside.is_ready ≡ false = search rules in (
       kept.0,
       kept.1,
       kept.2,
-      λ held.
-          let none : c.self-2.inside.is_held ≡ false = ap (λ (telling : Telling). telling.is_held) c.self-2.view_is ∙ was.none in
-          let no : false ≡ true = sym none ∙ held in absurd (cc),
-      λ own is less.
-          let all = all-told own c.self.inside c.self-2.inside _ _ c.self.view_is c.self-2.view_is c.self.invariant c.if-self.false was.told was.read was.form is in
-          absurd (omega (arith, all, less)),
-      λ unread.
-          let none : c.self-2.inside.is_unread ≡ false = ap (λ (telling : Telling). telling.is_unread) c.self-2.view_is ∙ was.unread in
-          let no : false ≡ true = sym none ∙ unread in absurd (cc),
-      kept.6,
-      search rules,
-      search rules,
+      λ ready running. let no : false ≡ true = sym unready ∙ ready in absurd (cc),
+      λ own is less. let no : false ≡ true = sym unready ∙ (kept.4 own is less).0 in absurd (cc),
+      c.settle.ensures.agrees,
+      λ auto. same_fills _ _ _ _ c.settle.ensures.known (kept.6 auto),
+      λ auto late running known. kept.7 auto late running (sym c.settle.ensures.known.known ∙ known),
     )
 
-pub returns-then-is_whole-clause-blanks : goal.returns-then-is_whole-clause-blanks
-returns-then-is_whole-clause-blanks c = λ texts know text.
-    let was = c.judge_held.ensures in
-    let first = λ (auto : c.judge_held.new.self.form ≡ Auto).
-    same_blanks texts c.args.self.now c.judge_held.new.self was.told was.read was.form was.blanks know.blanks auto in
-    c.read_line.ensures.blanks texts (rw (← c.self-2.view_is) at first) text
+pub returns-then-is_whole-clause-knows : goal.returns-then-is_whole-clause-knows
+returns-then-is_whole-clause-knows c = λ texts knows text.
+    let k = rw (← c.self.view_is) at knows in
+    let whole : is_whole c.take-count.new.self.ending ≡ true = search rules in
+    let less : c.self.inside.told < 2 ^ 64 - 1 = omega (arith, c.self.invariant.0) in
+    record {
+      text = text;
+      kept = λ auto. c.read_line-self-inside.ensures.knows auto texts c.self.inside.read refl whole text
+          (c.settle.ensures.knows texts less k.text (k.kept auto));
+      ready = λ auto ready. c.read_line-self-inside.ensures.known auto ready;
+    }
+
+pub returns-then-is_whole-clause-stands : goal.returns-then-is_whole-clause-stands
+returns-then-is_whole-clause-stands c = λ texts above knows stands text.
+    let k = rw (← c.self.view_is) at knows in
+    let s = rw (← c.self.view_is) at stands in
+    let unready : c.self.inside.is_ready ≡ false = search rules in
+    let going : c.self.inside.is_ended ≡ false = search rules in
+    let whole : is_whole c.take-count.new.self.ending ≡ true = search rules in
+    let less : c.self.inside.told < 2 ^ 64 - 1 = omega (arith, c.self.invariant.0) in
+    let more = λ (auto : c.self.inside.form ≡ Auto). more_follows texts above c.settle.new.self c.self.inside.maker c.take-count.new.self
+    c.settle.new.frames.frames c.self.inside.read (c.self.inside.read + 1) c.self.inside.told refl whole c.settle.ensures.heard
+    (λ known. c.self.invariant.7 auto unready going (sym c.settle.ensures.known.known ∙ known)) (c.settle.ensures.next (s.next auto))
+    (c.settle.ensures.follows texts above k.text (k.kept auto).window (s.follows auto)) in
+    let lines = λ (auto : c.self.inside.form ≡ Auto). c.settle.ensures.knows texts less k.text (k.kept auto) in
+    record {
+      follows = λ auto. rw (c.read_line-self-inside.ensures.frames auto)
+          (c.read_line-self-inside.ensures.follows auto texts above _ c.self.inside.read refl whole text (lines auto) (more auto));
+      next = λ auto. c.read_line-self-inside.ensures.next auto texts above _ c.self.inside.read refl whole text (lines auto) (more auto);
+      due = λ auto ready running. c.read_line-self-inside.ensures.due auto ready;
+    }
+
+pub returns-else-is_whole-clause-stands : goal.returns-else-is_whole-clause-stands
+returns-else-is_whole-clause-stands c = λ texts above knows stands text.
+    let k = rw (← c.self.view_is) at knows in
+    let s = rw (← c.self.view_is) at stands in
+    let unready : c.self.inside.is_ready ≡ false = search rules in
+    let going : c.self.inside.is_ended ≡ false = search rules in
+    record {
+      follows = λ auto. made_follows texts above c.settle.new.self c.self.inside.maker _ c.settle.new.frames.frames c.self.inside.read
+          c.self.inside.told c.settle.ensures.heard (λ known. c.self.invariant.7 auto unready going (sym c.settle.ensures.known.known ∙ known))
+          (c.settle.ensures.next (s.next auto)) (c.settle.ensures.follows texts above k.text (k.kept auto).window (s.follows auto));
+      next = λ auto. c.settle.ensures.next (s.next auto);
+      due = λ auto ready running. let no : false ≡ true = sym unready ∙ ready in absurd (cc);
+    }

@@ -1,0 +1,273 @@
+"""What the reader of logs says of lines, many at a time."""
+
+import array
+import itertools
+import operator
+import struct
+import sys
+from typing import Collection, Iterable, Iterator, List, NamedTuple, Optional, Sequence, Tuple, cast
+
+from . import _library as c
+from . import constants
+
+_KINDS = ('blank', 'frames', 'part', 'possible', 'damaged', 'passed over')
+# By their numbers, of which some are free ('-').
+_REASONS = ('', 'no octets', 'no message', 'no form', 'more', '-', 'too long', 'bad line', '-', '-', 'loss', 'heading', '-', 'copy',
+            'broken')
+_SIDES = ('', '>', '<')
+# The most frames of a batch.
+MOST_FRAMES = c.CLogBatch.lengths.size // 2
+# The numbers of struct fio2070_log_verdict and struct fio2070_log_place, in the processor's order of octets: these, and the names
+# that take them below, are written by tools/generate-layouts.
+_VERDICT, _PLACE = struct.Struct('=QQIIBBBBBBBB'), struct.Struct('=QII')
+# Where in a verdict its kind, its reason, whether it has a time and its side are; in words of 32 bits how many frames it has; and in
+# words of 64 its line and its time.
+_KIND, _REASON = c.CLogVerdict.kind.offset, c.CLogVerdict.reason.offset
+_HAS_TIME, _SAID = c.CLogVerdict.has_time.offset, c.CLogVerdict.said.offset
+_FRAMES, _LINE, _TIME = c.CLogVerdict.frames.offset // 4, c.CLogVerdict.line.offset // 8, c.CLogVerdict.time.offset // 8
+_HEADER = c.CLogVerdict.address.offset // 4
+
+
+def _header_of(word: int) -> bytes:
+    """The octets of a header that is read as a word of 32 bits."""
+    octets = word.to_bytes(4, sys.byteorder)
+    return octets[:octets[2]]
+
+
+class Verdict(NamedTuple):
+    """What the reader says of a line of a log.
+
+    `line` is its number, from 1. `kind` is 'blank'; 'frames', which end in it, or of which it shows that they ended above; 'part', of
+    a frame that ends below; 'possible', which no form has, and which may be a message; 'damaged', which a form has, and which gives no
+    frame; or 'passed over', skipped. `reason` says why the line gives no frame, in one of these words: 'no octets', 'no message',
+    'no form', 'too long', 'loss' (no octets, and words of loss), 'heading' (no message, and the heading of a log or of a part of one),
+    'copy' (of the frame above), and by order 'bad line'; or what else is in one that does: 'more' (octets that may be a message),
+    'broken' (the message above is not whole, and does not go on here; of a line of any kind but a damaged one); else it is empty. The
+    octets of `frames` are written at `places`, in their order: each is the number of a line, and where it begins and ends there, in
+    octets of UTF-8, after colours, NUL and marks are taken out. `time` is in microseconds since 1970, or since midnight or a start; None
+    if the log has none there. `said` is '>' if the line says that the CPU sent these octets, '<' if the module, else empty. `header`
+    is the address that stands before the message, and the control octet if there is one; empty if there is none, or the frames of the
+    line have not all the same. `foreign` is the type of the message that the line has in place of frames, if this protocol has none of that
+    type; or 55, 180 or 181, if that message has `size` octets of inputs or of outputs, other than 8: of a module of another size; else
+    0."""
+    line: int
+    kind: str
+    reason: str
+    frames: Tuple[bytes, ...]
+    places: Tuple[Tuple[int, int, int], ...]
+    time: Optional[int]
+    said: str
+    header: bytes = b''
+    foreign: int = 0
+    size: int = 0
+
+
+class LogBatch:
+    """Verdicts on lines of a log, one after another, as the library has them: the judge, the counts and the signs of a log take them
+    at once. A reader returns them (`LogReader.batches`), or they are made of verdicts."""
+
+    def __init__(self, verdicts: Sequence[Verdict] = ()) -> None:
+        """Raises ValueError if there are more than 4,096 verdicts, 20,480 frames or places, or 65,536 octets of frames."""
+        self._batch = c.CLogBatch()
+        self._verdicts, self._places, self._lengths, self._octets = (
+            memoryview(getattr(self._batch, name)).cast('B') for name in ('verdicts', 'places', 'lengths', 'octets'))
+        if verdicts:
+            self._write(verdicts)
+
+    def __len__(self) -> int:
+        return int(self._batch.verdict_count)
+
+    def __repr__(self) -> str:
+        return '<LogBatch lines=%d frames=%d>' % (len(self), self.frame_count)
+
+    def _write(self, verdicts: Sequence[Verdict]) -> None:
+        """Writes verdicts."""
+        batch, frames = self._batch, [octets for verdict in verdicts for octets in verdict.frames]
+        places = [place for verdict in verdicts for place in verdict.places]
+        told = [_VERDICT.pack(one.line, one.time or 0, len(one.frames), len(one.places), _KINDS.index(one.kind),
+                              _REASONS.index(one.reason), one.time is not None, _SIDES.index(one.said),
+                              *(one.header or bytes([0, one.size])).ljust(2, b'\0'), len(one.header), one.foreign) for one in verdicts]
+        parts = [(self._verdicts, b''.join(told)), (self._places, b''.join(_PLACE.pack(*place) for place in places)),
+                 (self._lengths, array.array('H', map(len, frames)).tobytes()), (self._octets, b''.join(frames))]
+        if any(len(octets) > len(field) for field, octets in parts):
+            raise ValueError('too many verdicts, frames, places or octets for a batch')
+        for field, octets in parts:
+            field[:len(octets)] = octets
+        batch.verdict_count, batch.frame_count, batch.place_count = len(verdicts), len(frames), len(places)
+        batch.octet_count = len(parts[-1][1])
+
+    @property
+    def frame_count(self) -> int:
+        """How many frames the lines give."""
+        return int(self._batch.frame_count)
+
+    @property
+    def place_count(self) -> int:
+        """At how many places these are written."""
+        return int(self._batch.place_count)
+
+    @property
+    def taken(self) -> Optional[bytes]:
+        """Of a part which frames of the whole batch it has; None of a whole one."""
+        return None
+
+    def _each(self, field: int) -> bytes:
+        """A number of each verdict that is an octet."""
+        return bytes(self._verdicts[field:_VERDICT.size * len(self):_VERDICT.size])
+
+    def _words(self, field: int) -> List[int]:
+        """A number of each verdict that has 64 bits."""
+        return self._verdicts.cast('Q')[field:_VERDICT.size // 8 * len(self):_VERDICT.size // 8].tolist()
+
+    def numbers(self) -> List[int]:
+        """The number of each line."""
+        return self._words(_LINE)
+
+    def times(self) -> List[int]:
+        """The time of each line in microseconds, 0 if it has none."""
+        return self._words(_TIME)
+
+    @property
+    def kinds(self) -> bytes:
+        """The kind of each line, one of `constants.LOG_BLANK` and those after it."""
+        return self._each(_KIND)
+
+    @property
+    def reasons(self) -> bytes:
+        """The reason of each line, one of `constants.LOG_NO_REASON` and those after it."""
+        return self._each(_REASON)
+
+    @property
+    def sides(self) -> bytes:
+        """Who sent the octets of each line, as the line says, one of `constants.LOG_NO_SIDE` and those after it."""
+        return self._each(_SAID)
+
+    @property
+    def timed(self) -> bytes:
+        """Of each line 1 if it has a time, else 0."""
+        return self._each(_HAS_TIME)
+
+    @property
+    def addresses(self) -> bytes:
+        """Of each line the address that stands before its messages, 0 if there is none."""
+        return self._each(c.CLogVerdict.address.offset)
+
+    @property
+    def header_lengths(self) -> bytes:
+        """Of each line how many octets its header has: 0, 1 for an address alone, or 2."""
+        return self._each(c.CLogVerdict.header.offset)
+
+    @property
+    def foreign(self) -> bytes:
+        """Of each line the type of the message that it has in place of frames, if this protocol has none of that type, or none of that
+        size; else 0."""
+        return self._each(c.CLogVerdict.foreign.offset)
+
+    @property
+    def sizes(self) -> bytes:
+        """Of each line with a `foreign` message how many octets of inputs or of outputs it has, 0 if this protocol has none of its type."""
+        return self._each(c.CLogVerdict.control.offset)
+
+    def headers(self) -> List[bytes]:
+        """The header of each line: the address that stands before its messages, with the control octet if there is one; empty if there
+        is none."""
+        words = self._verdicts.cast('I')[_HEADER:_VERDICT.size // 4 * len(self):_VERDICT.size // 4].tolist()
+        headers = {word: _header_of(word) for word in set(words)}
+        return [headers[word] for word in words]
+
+    def told(self, index: int) -> Verdict:
+        """The verdict on a line that has no frames and no places, or without these."""
+        line, time, _, _, kind, reason, has_time, said, *header, count, foreign = _VERDICT.unpack_from(self._verdicts, _VERDICT.size * index)
+        return Verdict(line, _KINDS[kind], _REASONS[reason], (), (), time if has_time else None, _SIDES[said], bytes(header[:count]), foreign,
+                       0 if count else header[1])
+
+    def line(self, index: int) -> int:
+        """The number of a line."""
+        return int(self._batch.verdicts[index].line)
+
+    def frame_counts(self) -> List[int]:
+        """How many frames each line gives."""
+        return self._verdicts.cast('I')[_FRAMES:_VERDICT.size // 4 * len(self):_VERDICT.size // 4].tolist()
+
+    def frames(self) -> List[bytes]:
+        """The frames, in order."""
+        ends = list(itertools.accumulate(self._lengths.cast('H')[:self.frame_count]))
+        octets = bytes(self._octets[:self._batch.octet_count])
+        return [octets[begin:end] for begin, end in zip([0, *ends], ends)]
+
+    def last_frames(self, count: int) -> List[bytes]:
+        """The last frames, at most so many."""
+        found, end = [], self._batch.octet_count
+        for length in reversed(self._batch.lengths[max(self.frame_count - count, 0):self.frame_count]):
+            found.append(bytes(self._octets[end - length:end]))
+            end -= length
+        return found[::-1]
+
+    def last_type(self, line: int) -> int:
+        """The type of the frame of a line, below which no line has frames; 0 if it has none, or several."""
+        end, count = self._batch.octet_count, self.frame_count
+        return int(self._octets[end - self._batch.lengths[count - 1]]) if self._batch.verdicts[line].frames == 1 else 0
+
+    def types(self) -> bytes:
+        """The type of each frame, 0 of one without octets."""
+        lengths = self._lengths.cast('H')[:self.frame_count].tolist()
+        begins = list(itertools.accumulate(lengths, initial=0))
+        types = bytes(operator.itemgetter(*begins, 0)(bytes(self._octets[:self._batch.octet_count]) + b'\0'))[:len(lengths)]
+        return types if 0 not in lengths else bytes(length and code for length, code in zip(lengths, types))
+
+    def set_kind(self, index: int, kind: int) -> None:
+        """Changes the kind of a line, one of `constants.LOG_BLANK` and those after it."""
+        self._batch.verdicts[index].kind = kind
+
+    def set_side(self, index: int, side: int) -> None:
+        """Changes who sent the frames of a line, as it says, one of `constants.LOG_NO_SIDE` and those after it."""
+        self._batch.verdicts[index].said = side
+
+    def pass_over(self, lines: Collection[int]) -> None:
+        """Takes the frames of lines out, each of which gives some: it is passed over then, as with a message of the type of its first frame
+        that this protocol has not. The batch has no places afterwards."""
+        frames, begins = self.frames(), list(itertools.accumulate(self.frame_counts(), initial=0))
+        for line in lines:
+            one = self._batch.verdicts[line]
+            one.kind, one.reason, one.foreign = constants.LOG_PASSED_OVER, constants.LOG_NO_MESSAGE, frames[begins[line]][0]
+            one.frames = one.address = one.control = one.header = 0
+        gone = {frame for line in lines for frame in range(begins[line], begins[line + 1])}
+        left = [octets for frame, octets in enumerate(frames) if frame not in gone]
+        self._fill(bytes(self._verdicts[:_VERDICT.size * len(self)]), array.array('H', map(len, left)).tobytes(), b''.join(left))
+
+    def parts(self, masks: Iterable[bytes]) -> Iterator['LogBatch']:
+        """For each mask this batch with blank lines in place of some, until the next one: the mask has 1 for each line that is taken, 2 for
+        one that is taken as damaged, 0 for one that is as blank. After the last one all is as before."""
+        from .log_parts import Part     # which needs this module
+        part = Part(self)
+        try:
+            for mask in masks:
+                part._take(mask)
+                yield part
+        finally:
+            part._end()
+
+    def _put(self, kinds: bytes, reasons: Optional[bytes]) -> None:
+        """Writes the kind of each line, and perhaps the reason."""
+        self._verdicts[_KIND:_VERDICT.size * len(kinds):_VERDICT.size] = kinds
+        if reasons is not None:
+            self._verdicts[_REASON:_VERDICT.size * len(reasons):_VERDICT.size] = reasons
+
+    def _fill(self, verdicts: bytes, lengths: bytes, octets: bytes) -> None:
+        """Writes verdicts, and the lengths and the octets of their frames; there are no places."""
+        batch = self._batch
+        for field, part in ((self._verdicts, verdicts), (self._lengths, lengths), (self._octets, octets)):
+            field[:len(part)] = part
+        batch.verdict_count, batch.frame_count, batch.place_count, batch.octet_count = len(verdicts) // _VERDICT.size, len(lengths) // 2, 0, len(octets)
+
+    def verdicts(self) -> List[Verdict]:
+        """The verdicts."""
+        verdicts, frame, place, all_frames = [], 0, 0, tuple(self.frames())
+        all_places = tuple(cast(Iterator[Tuple[int, int, int]], _PLACE.iter_unpack(self._places[:_PLACE.size * self.place_count])))
+        for line, time, frames, places, kind, reason, has_time, said, address, control, header, foreign in _VERDICT.iter_unpack(
+                self._verdicts[:_VERDICT.size * len(self)]):
+            verdicts.append(Verdict(line, _KINDS[kind], _REASONS[reason], all_frames[frame:frame + frames],
+                                    all_places[place:place + places], time if has_time else None, _SIDES[said],
+                                    bytes((address, control)[:header]), foreign, 0 if header else control))
+            frame, place = frame + frames, place + places
+        return verdicts

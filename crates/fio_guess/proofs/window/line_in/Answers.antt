@@ -1,0 +1,36 @@
+use Rattle.std.proofs.Common.{◌≡◌, ◌≤◌, ◌-◌, [], length, get_or, arith, rules, sym}
+use Rattle.std.proofs.lemmas.Grind.{common_steps}
+use Rattle.fio_guess.specs.Lines.{parts_of}
+use Rattle.fio_guess.proofs.Lines.{length-parts_of, first_line, later_line, first_within, later_within}
+use Rattle.fio_guess.proofs.window.line_in.Goals as goal
+
+pub returns-then-at-ends : goal.returns-then-at-ends
+returns-then-at-ends c =
+    let same : length (parts_of c.args.text.now 0 c.args.ends.now) ≡ length c.args.ends.now = length-parts_of _ 0 _ in
+    grind (arith, common_steps)
+
+pub slice_bounds-result-end-then-at-eq0 : goal.slice_bounds-result-end-then-at-eq0
+slice_bounds-result-end-then-at-eq0 c =
+    let within : get_or c.args.ends.now 0 0 ≤ length c.args.text.now = first_within 0 _ _ c.requires (omega arith) in
+    grind (arith, common_steps)
+
+pub returns-then-at-eq0 : goal.returns-then-at-eq0
+returns-then-at-eq0 c =
+    let same : get_or (parts_of c.args.text.now 0 c.args.ends.now) 0 [] ≡ _ = first_line c.args.text.now 0 c.args.ends.now (omega arith) in
+    grind (arith, common_steps)
+
+pub slice_bounds-result-count : goal.slice_bounds-result-count
+slice_bounds-result-count c = (later_within 0 c.args.ends.now (length c.args.text.now) (c.args.at - 1) c.args.at c.requires (omega arith) (omega arith)).0
+
+pub slice_bounds-result-start : goal.slice_bounds-result-start
+slice_bounds-result-start c =
+    let bounds : (get_or c.args.ends.now (c.args.at - 1) 0 ≤ get_or c.args.ends.now c.args.at 0) × (get_or c.args.ends.now c.args.at 0 ≤ length c.args.text.now) = later_within 0 c.args.ends.now (length c.args.text.now) (c.args.at - 1) c.args.at c.requires (omega arith) (omega arith) in
+    search rules
+
+pub slice_bounds-result-end-2 : goal.slice_bounds-result-end-2
+slice_bounds-result-end-2 c =
+    let bounds : (get_or c.args.ends.now (c.args.at - 1) 0 ≤ get_or c.args.ends.now c.args.at 0) × (get_or c.args.ends.now c.args.at 0 ≤ length c.args.text.now) = later_within 0 c.args.ends.now (length c.args.text.now) (c.args.at - 1) c.args.at c.requires (omega arith) (omega arith) in
+    search rules
+
+pub returns : goal.returns
+returns c = sym (later_line c.args.text.now 0 c.args.ends.now (c.args.at - 1) c.args.at (omega arith) (omega arith))

@@ -1,8 +1,0 @@
-use Rattle.std.proofs.Common.{◌-◌, ◌≤◌, length}
-use Rattle.fio_log.proofs.offsets.blanks_end.Given as goal
-
-abbrev pub invariant-blanks : goal.invariant-blanks
-invariant-blanks l = l.end ≤ length l.line
-
-abbrev pub decreases-blanks : goal.decreases-blanks
-decreases-blanks l = length l.line - l.end

@@ -1,0 +1,12 @@
+pub mod Beginnings
+pub mod Divisions
+pub mod Empty
+pub mod Lines
+pub mod ClosedLines
+pub mod Wholes
+pub mod LineLaws
+pub mod OtherLines
+pub mod RowLemmas
+pub mod RowsRead
+pub mod PlaceLaws
+pub mod LinesByThemselves

@@ -1,0 +1,9 @@
+pub mod Dividing
+pub mod Frames
+pub mod GoingOn
+pub mod Laws
+pub mod Lines
+pub mod Places
+pub mod RowLaws
+pub mod Rows
+pub mod Streams

@@ -1,0 +1,35 @@
+//! Fronts that one word tells apart.
+use fio_form::{FRONT_PIECES, Piece};
+
+/// Returns the first word of a front, and what follows the blanks after it.
+fn split_word(front: &[Piece]) -> (&[Piece], Option<&[Piece]>) {
+    for at in 0..front.len() {
+        if front[at] == Piece::Blanks {
+            return (&front[..at], Some(&front[at + 1..]));
+        }
+    }
+    (front, None)
+}
+
+/// Returns whether one word, of those between blanks, tells two fronts apart.
+pub(crate) fn differs_in_a_word(one: &[Piece], other: &[Piece]) -> bool {
+    let mut own = one;
+    let mut its = other;
+    let mut differ: u32 = 0;
+    for _ in 0..FRONT_PIECES + 1 {
+        let (word, rest) = split_word(own);
+        let (its_word, its_rest) = split_word(its);
+        if word != its_word {
+            differ = differ.saturating_add(1);
+        }
+        match (rest, its_rest) {
+            (None, None) => return differ == 1,
+            (Some(rest), Some(its_rest)) => {
+                own = rest;
+                its = its_rest;
+            }
+            _ => return false,
+        }
+    }
+    false
+}

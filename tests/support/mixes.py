@@ -1,0 +1,96 @@
+"""Lines of several stations in one log: proved modules, of which some get planted faults, with their exchanges in any order."""
+
+import random
+from typing import List, NamedTuple
+
+from support.line_model import line_of, with_check
+
+# How a frame is written: with its flags, its check or neither, behind its header.
+FORMS = {
+    'flags': lambda header, octets: line_of(octets, *header).hex(' ').upper(),
+    'flags, without blanks': lambda header, octets: line_of(octets, *header).hex(),
+    'check': lambda header, octets: with_check(header + octets).hex(),
+    'header alone': lambda header, octets: (header + octets).hex(' '),
+    'address alone': lambda header, octets: (header[:1] + octets).hex(' ').upper(),
+}
+ADDRESSES = 0x00, 0x01, 0x02, 0x10, 0x14, 0x15, 0x20, 0x30, 0x60, 0xfe
+SIDES = {'>': 'TX', '<': 'RX'}
+
+
+def frames_of(draw, count):
+    """What the proved ends of a link say, each frame with its direction."""
+    from fio2070 import ConfigurationItem, Module, Poller, encode
+    module, poller, levels = Module(), Poller(draw.randrange(256)), 0
+    commands = [encode.configure_inputs([ConfigurationItem(number, False, 1, 1) for number in range(8)])] * draw.randrange(2)
+    module.scan(0)
+    for _ in range(count):
+        for _ in range(draw.randrange(1, 40)):
+            levels ^= draw.choice((0, 0, 1 << draw.randrange(8)))
+            module.scan(levels)
+        commands += [encode.raw_inputs()] * (draw.random() < .2)
+        command = commands.pop() if commands else poller.poll()
+        answer = module.receive(command)
+        yield '>', command
+        if draw.random() < .05:     # the answer is lost: the CPU asks again
+            continue
+        if answer[0] == 182:
+            poller.hear(answer)
+        yield '<', answer
+
+
+def spoilt(draw, frames):
+    """The frames with a fault, perhaps."""
+    frames, at = list(frames), draw.randrange(4, 30)
+    fault = draw.choice(['none', 'none', 'gone', 'twice', 'number'])
+    if fault == 'gone':
+        del frames[at]
+    elif fault == 'twice':
+        frames.insert(at, frames[at])
+    elif fault == 'number':
+        direction, octets = frames[at]
+        frames[at] = direction, octets[:1] + bytes([octets[1] + 77 & 255]) + octets[2:] if octets[0] in (54, 182) else octets
+    return frames
+
+
+def mixed(draw, links):
+    """The exchanges of links in any order, each frame with the index of its link; an exchange is a command with what is below it."""
+    waiting, log = [exchanges_of(frames) for frames in links], []
+    while any(waiting):
+        link = draw.choice([link for link, some in enumerate(waiting) if some])
+        log += [(link, *frame) for frame in waiting[link].pop(0)]
+    return log
+
+
+def exchanges_of(frames):
+    """Frames in parts, each of which begins with a command."""
+    parts = []
+    for direction, octets in frames:
+        if direction == '>' or not parts:
+            parts.append([])
+        parts[-1].append((direction, octets))
+    return parts
+
+
+class Mix(NamedTuple):
+    """A log of several stations. `owners` are the indexes of the stations by line, `cut` those of lines that are cut."""
+    form: str
+    addresses: List[int]
+    lines: List[str]
+    owners: List[int]
+    cut: List[int]
+
+
+def mix_of(seed):
+    """Two to four links with their frames in any order, of which up to two are cut if that shows."""
+    draw = random.Random(seed)
+    form, count = draw.choice(list(FORMS)), draw.randrange(2, 5)
+    addresses = draw.sample([*ADDRESSES, *(0x7d, 0x7e) * form.startswith('flags')], count)
+    links = [spoilt(draw, frames_of(draw, 30)) for _ in addresses]
+    log = mixed(draw, links)
+    lines = ['%d.%03d %s %s' % (place // 50, 20 * place % 1000, SIDES[direction], FORMS[form](bytes([addresses[link], 0x83]), octets))
+             for place, (link, direction, octets) in enumerate(log)]
+    # A frame that has no last flag goes on in the next line, whose station that is.
+    cut = sorted(draw.sample(range(40, len(lines)), draw.randrange(3) * (not form.startswith('flags'))))
+    for place in cut:
+        lines[place] = lines[place][:draw.randrange(len(lines[place]) // 2, len(lines[place]) - 1)].rstrip()
+    return Mix(form, addresses, lines, [frame[0] for frame in log], cut)
