@@ -76,6 +76,11 @@ pub mod LineFrames
 pub mod LineRuns
 pub mod LinePremises
 pub mod LineExamples
+pub mod BusNoise
+pub mod BusStations
+pub mod BusPremises
+pub mod SharedParts
+pub mod SharedLines
 pub mod ExplainableLogs
 pub mod LevelLives
 pub mod Plans

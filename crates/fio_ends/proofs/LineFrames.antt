@@ -26,12 +26,12 @@ place_of [] place frame all is = absurd (cc is)
 place_of (f ∷ fs) zero frame all is = subst (λ (g : SentFrame). IsMessage g.octets) (same_Some _ _ is) all.0
 place_of (f ∷ fs) (suc place) frame all is = place_of fs place frame all.1 is
 
-numbered_of : (frames : List SentFrame) (number : ℕ) (frame : SentFrame) → AreMessages frames → item_numbered frames number ≡ Some frame → IsMessage frame.octets
+pub numbered_of : (frames : List SentFrame) (number : ℕ) (frame : SentFrame) → AreMessages frames → item_numbered frames number ≡ Some frame → IsMessage frame.octets
 numbered_of frames zero frame all is = absurd (cc is)
 numbered_of frames (suc place) frame all is = place_of frames place frame all is
 
 -- what was written for the frame with a number
-written_numbered : (framing : Framing) (frames : List SentFrame) (number : ℕ)
+pub written_numbered : (framing : Framing) (frames : List SentFrame) (number : ℕ)
     → item_numbered (written_of framing frames) number
     ≡ option_map (λ frame. sent framing.address framing.control frame.octets) (item_numbered frames number)
 written_numbered framing frames zero = refl

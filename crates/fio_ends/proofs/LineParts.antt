@@ -20,7 +20,7 @@ flag_said : (part : List ℕ) → HasNoFlag part → said_of fresh (part ++ FLAG
 flag_said part free = part_said part [] free ∙ append-nil (said_in part)
 
 -- a frame as it was written says itself
-frame_said : (address control : ℕ) (message : List ℕ) → IsOctet address → IsOctet control → IsMessage message
+pub frame_said : (address control : ℕ) (message : List ℕ) → IsOctet address → IsOctet control → IsMessage message
     → said_in (stuffed (frame_of address control message)) ≡ Frame (frame_of address control message) ∷ []
 frame_said address control message a c m =
     (sent_frame address control message (record { octets = (a, (c, m.0)); least = m.1.0; most = m.1.1 })).1

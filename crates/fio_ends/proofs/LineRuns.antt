@@ -6,17 +6,17 @@ use Rattle.fio_link.specs.declared.event.Event.TheVariants.{Poll}
 use Rattle.fio_link.specs.Headline.{Headline}
 use Rattle.fio_link.specs.Link.{IsRun}
 use Rattle.fio_link.proofs.Promises.{headline}
-use Rattle.fio_ends.specs.Lines.{MayHappen, after_happening}
+use Rattle.fio_ends.specs.Lines.{MayCome, MayHappen, after_happening}
 use Rattle.fio_ends.specs.LineRuns.{HoldsOverLines, LinesAreRuns, HeadlineOverLines}
 use Rattle.fio_ends.proofs.LineMessages.{command_is_message, reply_is_message}
 use Rattle.fio_ends.proofs.LineFrames.{IsLine, Ended, line_written, line_answered, line_octet, line_lost, line_ended}
 
 -- The ends have what the machine has.
-record Follows (framing : Framing) (first : ℕ) (machine : Machine) (ends : WiredEnds) : Type 0 where
-  history : ends.history ≡ machine.history
-  polling : ends.polling ≡ polling_of first machine
-  to_module : IsLine framing machine.to_module machine.last_to_module ends.to_module
-  to_cpu : IsLine framing machine.to_cpu machine.last_to_cpu ends.to_cpu
+pub record Follows (framing : Framing) (first : ℕ) (machine : Machine) (ends : WiredEnds) : Type 0 where
+  pub history : ends.history ≡ machine.history
+  pub polling : ends.polling ≡ polling_of first machine
+  pub to_module : IsLine framing machine.to_module machine.last_to_module ends.to_module
+  pub to_cpu : IsLine framing machine.to_cpu machine.last_to_cpu ends.to_cpu
 
 module _ (settings : Settings) (range : AreInRange settings) (framing : Framing) (is_framing : IsFraming framing) (first : ℕ) where
   abbrev Goes : Machine → Event → WiredEnds → Type 0
@@ -207,7 +207,14 @@ module _ (settings : Settings) (range : AreInRange settings) (framing : Framing)
       (cpu_quiet machine ends (line_after ends.to_cpu (Arrives Loss)) None f
       (line_lost framing is_framing machine.to_cpu machine.last_to_cpu ends.to_cpu f.to_cpu) refl) lead.1
 
-  begin : first < 256 → Follows framing first start (ends_at_start first)
+  -- one event that may come
+  pub follow_one : (event : WireEvent) (machine : Machine) (ends : WiredEnds) → Follows framing first machine ends
+      → MayCome framing ends event → (end : Machine) × Follows framing first end (after_line_event settings framing ends event)
+  follow_one event machine ends f may =
+      let run = follow_all (event ∷ []) machine ends (after_line_event settings framing ends event) f (may, refl) in
+      (run.0, run.2)
+
+  pub begin : first < 256 → Follows framing first start (ends_at_start first)
   begin fits =
       let number : first ≡ number_of first 0 = omega arith in
       record {

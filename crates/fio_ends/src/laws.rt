@@ -1,6 +1,7 @@
 //! Laws of the definitions. Each function states one in its contract, and does nothing.
 ghost use Rattle.fio_check.specs.declared.content_rules.ContentRule.TheVariants.{Accepted, Alternate, Apart, Cleared, Clock, Done, Fresh, Ignored, Order, State, Watchdog};
 ghost use Rattle.fio_ends.specs.AnsweredLogs.{AnswersAccuseNone, JudgeAccusesNoMaker};
+ghost use Rattle.fio_ends.specs.BusRuns.{HeadlineAtStations, StationsAreLines, StationsAreRuns};
 ghost use Rattle.fio_ends.specs.Calls.{CallsAreRuns};
 ghost use Rattle.fio_ends.specs.ContentPremises.{HasNearTimes};
 ghost use Rattle.fio_ends.specs.ContentRuns.{AccusesNone, Always, ContentNeverAccuses};
@@ -241,6 +242,20 @@ pub fn lines_may_bring_struck_frames()
 #[tactic(auto, using(crate::proofs::LineExamples::lines_bring_records))]
 pub fn lines_bring_records()
     ensures { LinesBringRecords }
+{}
+
+/// Several modules and one CPU on a bus: what comes at each station may come over its lines if it is alone, though nothing is
+/// asked of the frames of the others but that they are no frames of its own. So each station is a run of the link.
+#[tactic(auto, using(crate::proofs::BusStations::stations_are_lines, crate::proofs::BusStations::stations_are_runs))]
+pub fn stations_are_runs()
+    ensures lines { StationsAreLines }
+    ensures runs { StationsAreRuns }
+{}
+
+/// The headline holds of each station of a bus, whatever comes there and at the others.
+#[tactic(auto, using(crate::proofs::BusStations::headline_at_stations))]
+pub fn headline_holds_at_stations()
+    ensures { HeadlineAtStations }
 {}
 
 /// The answers of the module's maker accuse nobody: put into any log directly below his commands 56, 57 and 59, at most one for
