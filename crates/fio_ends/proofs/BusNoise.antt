@@ -1,5 +1,6 @@
 -- A frame of another station is noise.
 use Rattle.fio_ends.proofs.Names.{◌≡◌, ◌∙◌, drop, ℕ, Bool, true, false, List, [], ◌∷◌, ◌++◌, Option, Some, None, option_map, refl, ap, sym, if◌then◌else◌, same_Some, SentFrame, FLAG, Framing, IsFraming, WireLine, frame_of, item_numbered, sent, stuffed}
+use Rattle.std.proofs.lemmas.Bool.{false≢true}
 use Rattle.std.proofs.lemmas.List.{same_from_push}
 use Rattle.fio_wire.specs.declared.heard.WireHeard.{WireHeard}
 use Rattle.fio_wire.specs.declared.heard.WireHeard.TheVariants.{Message, Other}
@@ -12,8 +13,8 @@ use Rattle.fio_ends.proofs.LineParts.{frame_said}
 use Rattle.fio_ends.proofs.LineFrames.{IsLine, numbered_of, written_numbered}
 
 others : (own : Bool) → own ≡ false → (if own then Message else Other) ≡ Other
-others true no = absurd (cc no)
-others false no = refl
+others true e = absurd (false≢true (sym e))
+others false e = refl
 
 module _ (own : frames.WireSettings) (framing : Framing) (f : IsFraming framing) (no : is_own own (framing.address ∷ framing.control ∷ []) ≡ false) where
   -- a message's frame whose address and control octet are not one's own

@@ -16,7 +16,7 @@ parts_of station (Some event) events ends last lead = (lead.0, lead.1)
 module _ (bus : Bus) where
   bring_to : (line : ℕ → WireLine) (station : ℕ) (brought : Brought) → MayBring (bus.station station).framing.own (line station) brought
       → MayBringTo bus line station brought
-  bring_to line station (Arrives (Octet octet)) may flag part same = inl (may flag part same)
+  bring_to line station (Arrives (Octet octet)) may = λ flag part same. inl (may flag part same)
   bring_to line station (Arrives Loss) may = tt
   bring_to line station (EndOf number) may = may
 

@@ -1,5 +1,5 @@
 -- Each station of a bus goes as if it were alone on its lines.
-use Rattle.fio_ends.proofs.Names.{◌≡◌, ◌<◌, inl, inr, ℕ, List, [], ◌∷◌, Option, Some, None, ap, Machine, start, SentFrame, Arrives, AtCpu, AtModule, EndOf, Happens, LeadOverLines, Loss, MayBring, Octet, WireEvent, WireLine, WiredEnds, ends_at_start}
+use Rattle.fio_ends.proofs.Names.{◌≡◌, ◌<◌, ◌⊎◌, inl, inr, ℕ, List, [], ◌∷◌, Option, Some, None, ap, Machine, start, SentFrame, Arrives, AtCpu, AtModule, EndOf, Happens, LeadOverLines, Loss, MayBring, Octet, WireEvent, WireLine, WiredEnds, ends_at_start}
 use Rattle.fio_ends.specs.Lines.{Brought, MayCome, IsNoise}
 use Rattle.fio_ends.specs.Bus.{Bus, BusEnds, BusEvent, IsAnothers, IsBus, LeadOnBus, MayBringTo, MayComeAt, Station, after_bus_event, after_if, at_station, bus_at_start, with_event}
 use Rattle.fio_ends.specs.BusRuns.{HeadlineAtStations, StationsAreLines, StationsAreRuns}
@@ -25,17 +25,20 @@ module _ (bus : Bus) (is : IsBus bus) where
       (station : ℕ) → station < bus.count
       → (sent_frames : List SentFrame) × (last : ℕ) × IsLine (bus.station station).framing sent_frames last (line station)
 
+  noise_alone : (line : ℕ → WireLine) (station : ℕ) → HasFrames line → station < bus.count → (part : List ℕ)
+      → IsNoise (bus.station station).framing.own part ⊎ IsAnothers bus line station part
+      → IsNoise (bus.station station).framing.own part
+  noise_alone line station has within part (inl noise) = noise
+  noise_alone line station has within part (inr anothers) =
+      let sender = has anothers.sender anothers.is_on_bus in
+      written_noise (bus.station station).framing.own (bus.station anothers.sender).framing (is.framing anothers.sender anothers.is_on_bus)
+      (is.apart anothers.sender station anothers.is_on_bus within anothers.is_other) sender.0 sender.1 (line anothers.sender) anothers.number part sender.2 anothers.is_written
+
   -- what a line may bring to a station, it may bring if the station is alone
   bring_alone : (line : ℕ → WireLine) (station : ℕ) → HasFrames line → station < bus.count → (brought : Brought)
       → MayBringTo bus line station brought → MayBring (bus.station station).framing.own (line station) brought
-  bring_alone line station has within (Arrives (Octet octet)) may flag part same =
-      elim (may flag part same) as (λ _. IsNoise (bus.station station).framing.own part) [
-        | inl noise ↦ noise
-        | inr anothers ↦
-            let sender = has anothers.sender anothers.is_on_bus in
-            written_noise (bus.station station).framing.own (bus.station anothers.sender).framing (is.framing anothers.sender anothers.is_on_bus)
-            (is.apart anothers.sender station anothers.is_on_bus within anothers.is_other) sender.0 sender.1 (line anothers.sender) anothers.number part sender.2 anothers.is_written
-      ]
+  bring_alone line station has within (Arrives (Octet octet)) may =
+      λ flag part same. noise_alone line station has within part (may flag part same)
   bring_alone line station has within (Arrives Loss) may = tt
   bring_alone line station has within (EndOf number) may = may
 

@@ -81,6 +81,7 @@ pub mod BusStations
 pub mod BusPremises
 pub mod SharedParts
 pub mod SharedLines
+pub mod SharedExamples
 pub mod ExplainableLogs
 pub mod LevelLives
 pub mod Plans

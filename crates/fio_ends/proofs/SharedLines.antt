@@ -15,7 +15,7 @@ module _ (bus : Bus) where
   -- what a line brings to all, it may bring to each
   brings : (line : ℕ → WireLine) → IsShared line → (station : ℕ) → station < bus.count → (brought : BroughtToAll)
       → MayBringToAll bus line brought → MayBringTo bus line station (brought_to station brought)
-  brings line is station within (ArrivesAtAll (Octet octet)) may flag part same = inl (may flag station within part same)
+  brings line is station within (ArrivesAtAll (Octet octet)) may = λ flag part same. inl (may flag station within part same)
   brings line is station within (ArrivesAtAll Loss) may = tt
   brings line is station within (EndOfFrame sender number) may =
       elim (eqb_tells station sender) as (λ _. MayBringTo bus line station (brought_to station (EndOfFrame sender number))) [

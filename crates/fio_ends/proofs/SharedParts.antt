@@ -80,6 +80,7 @@ module_happening framing ends other = inr refl
 
 cpu_happening : (framing : Framing) (ends : WiredEnds) (event : Event)
     → IsNoneOr ends.to_cpu.part (after_happening framing ends event).to_cpu.part
+cpu_happening framing ends Restart = inr refl
 cpu_happening framing ends other = inr refl
 
 module_if : (station : Station) (ends : WiredEnds) (event : Event) (is : Bool)

@@ -1,15 +1,15 @@
 -- A bus of two lines, one from the CPU to all modules and one from all modules to the CPU: each brings the same to all its
 -- receivers.
-use Rattle.std.specs.Prelude.{◌≡◌, ◌≢◌, ℕ, ◌<◌, ◌≤◌, ◌==◌, if◌then◌else◌, List, [], ◌∷◌, map, Option, Some, None}
-use Rattle.fio_module.specs.Settings.{standard_settings}
+use Rattle.std.specs.Prelude.{◌≡◌, ◌≢◌, ℕ, ◌<◌, ◌≤◌, ◌==◌, if◌then◌else◌, List, [], ◌∷◌, map, Some, None}
 use Rattle.fio_link.specs.declared.event.Event.{Event}
 use Rattle.fio_link.specs.Link.{item_numbered}
 use Rattle.fio_wire.specs.declared.limits.TheConstants.{FLAG}
 use Rattle.fio_wire.specs.Frames.{frame_of}
 use Rattle.fio_wire.specs.Laws.{Arrival, Loss, Octet}
 use Rattle.fio_wire.specs.Octets.{sent, stuffed}
-use Rattle.fio_ends.specs.Lines.{Framing, WireLine, WiredEnds, Brought, Arrives, EndOf, WireEvent, Happens, AtModule, AtCpu, IsNoise, ComesWhole, MayHappen}
-use Rattle.fio_ends.specs.Bus.{Bus, IsBus, BusEnds, BusEvent, LeadOnBus, after_bus_event, bus_at_start}
+use Rattle.fio_ends.specs.Lines.{WireLine, WiredEnds, Brought, Arrives, EndOf, Happens, AtModule, AtCpu, IsNoise, ComesWhole, MayHappen}
+use Rattle.fio_ends.specs.Bus.{Bus, BusEnds, BusEvent, LeadOnBus, after_bus_event, bus_at_start}
+use Rattle.fio_ends.specs.BusRuns.{bus_of}
 
 -- ---- What happens
 
@@ -87,3 +87,9 @@ EachFrameMayComeToAll line_of at =
     × LeadOverShared bus ends
     (part_to_all at (stuffed (frame_of (bus.station sender).framing.address (bus.station sender).framing.control message))
     (EndOfFrame sender number)) later
+
+-- There are lines over which the records of two stations gain something.
+abbrev pub SharedLinesBringRecords : Type 0
+SharedLinesBringRecords =
+    (events : List SharedEvent) × (last : BusEnds)
+    × LeadOverShared (bus_of 2) (bus_at_start (bus_of 2)) events last × ((last 0).polling.items ≢ []) × ((last 1).polling.items ≢ [])

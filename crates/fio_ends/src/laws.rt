@@ -1,7 +1,7 @@
 //! Laws of the definitions. Each function states one in its contract, and does nothing.
 ghost use Rattle.fio_check.specs.declared.content_rules.ContentRule.TheVariants.{Accepted, Alternate, Apart, Cleared, Clock, Done, Fresh, Ignored, Order, State, Watchdog};
 ghost use Rattle.fio_ends.specs.AnsweredLogs.{AnswersAccuseNone, JudgeAccusesNoMaker};
-ghost use Rattle.fio_ends.specs.BusRuns.{HeadlineAtStations, StationsAreLines, StationsAreRuns};
+ghost use Rattle.fio_ends.specs.BusRuns.{BusesExist, HeadlineAtStations, LinesAreStations, StationsAreLines, StationsAreRuns};
 ghost use Rattle.fio_ends.specs.Calls.{CallsAreRuns};
 ghost use Rattle.fio_ends.specs.ContentPremises.{HasNearTimes};
 ghost use Rattle.fio_ends.specs.ContentRuns.{AccusesNone, Always, ContentNeverAccuses};
@@ -14,6 +14,7 @@ ghost use Rattle.fio_ends.specs.Pollers.{GoodIsOfPoller};
 ghost use Rattle.fio_ends.specs.PromptRuns.{FromCommand, HasNoBreach, HasNoBreachAnywhere, IsGood, NeverAccuses, NeverAccusesLater};
 ghost use Rattle.fio_ends.specs.RestartedLogs.{JudgeFindsRestarts, JudgeFindsRestartsAnywhere, RestartsAreFound};
 ghost use Rattle.fio_ends.specs.RunRecords.{KeepsRecord};
+ghost use Rattle.fio_ends.specs.SharedLines.{AtDecoders, AtModules, EachFrameMayComeToAll, SharedLinesAreABus, SharedLinesBringRecords};
 
 /// A good transcript comes from a right CPU's end: a poller that starts with the first poll's number has at each poll that
 /// poll's number, and takes each block answer heard, so none is stale.
@@ -244,18 +245,51 @@ pub fn lines_bring_records()
     ensures { LinesBringRecords }
 {}
 
-/// Several modules and one CPU on a bus: what comes at each station may come over its lines if it is alone, though nothing is
-/// asked of the frames of the others but that they are no frames of its own. So each station is a run of the link.
+/// Several modules and one CPU on a bus: what comes at each station may come over its lines if it is alone, though of another's
+/// frame is asked only that it comes as it was written, and that its address and control octet are not the station's own. So each
+/// station is a run of the link.
 #[tactic(auto, using(crate::proofs::BusStations::stations_are_lines, crate::proofs::BusStations::stations_are_runs))]
 pub fn stations_are_runs()
     ensures lines { StationsAreLines }
     ensures runs { StationsAreRuns }
 {}
 
-/// The headline holds of each station of a bus, whatever comes there and at the others.
+/// The headline holds of each station of a bus.
 #[tactic(auto, using(crate::proofs::BusStations::headline_at_stations))]
 pub fn headline_holds_at_stations()
     ensures { HeadlineAtStations }
+{}
+
+/// The premise excludes nothing that may come at each station if it is alone.
+#[tactic(auto, using(crate::proofs::BusPremises::lines_are_stations))]
+pub fn lines_are_stations()
+    ensures { LinesAreStations }
+{}
+
+/// There are buses of up to 256 stations.
+#[tactic(auto, using(crate::proofs::BusPremises::buses_exist))]
+pub fn buses_exist()
+    ensures { BusesExist }
+{}
+
+/// Two lines that bring the same to all are a bus, though nothing is asked of the other stations where a frame of one ends.
+#[tactic(auto, using(crate::proofs::SharedLines::shared_lines_are_a_bus))]
+pub fn shared_lines_are_a_bus()
+    ensures { SharedLinesAreABus }
+{}
+
+/// Directly after a flag such a line may bring each frame of each station that was written to it whole, if none of that station
+/// after it came before.
+#[tactic(auto, using(crate::proofs::SharedLines::frames_to_all_modules, crate::proofs::SharedLines::frames_to_all_decoders))]
+pub fn shared_lines_may_bring_each_frame()
+    ensures to_modules { EachFrameMayComeToAll (λ ends. ends.to_module) AtModules }
+    ensures to_cpu { EachFrameMayComeToAll (λ ends. ends.to_cpu) AtDecoders }
+{}
+
+/// The premises can be met: over such lines the CPU's records of two stations gain something.
+#[tactic(auto, using(crate::proofs::SharedExamples::shared_lines_bring_records))]
+pub fn shared_lines_bring_records()
+    ensures { SharedLinesBringRecords }
 {}
 
 /// The answers of the module's maker accuse nobody: put into any log directly below his commands 56, 57 and 59, at most one for
