@@ -3,8 +3,9 @@ use Rattle.fio_ends.proofs.Names.{◌≡◌, ◌≢◌, ◌∙◌, ◌<◌, inl,
 use Rattle.fio_wire.proofs.Sent.{free_of_flags}
 use Rattle.fio_ends.specs.Lines.{MayHappen}
 use Rattle.fio_ends.specs.Bus.{Bus, BusEnds, LeadOnBus, MayBringTo, MayComeAt, after_bus_event, bus_at_start}
-use Rattle.fio_ends.specs.SharedLines.{ArrivesAtAll, AtDecoders, AtModules, BroughtToAll, EachFrameMayComeToAll, EndOfFrame, HappensAt, LeadOverShared, MayBringToAll, MayComeToAll, SharedEvent, SharedLinesAreABus, at_each, brought_to, part_to_all}
+use Rattle.fio_ends.specs.SharedLines.{ArrivesAtAll, AtDecoders, AtModules, BroughtToAll, EachFrameMayComeToAll, EndOfFrame, HappensAt, HeadlineOverSharedLines, LeadOverShared, MayBringToAll, MayComeToAll, SharedEvent, SharedLinesAreABus, at_each, brought_to, part_to_all}
 use Rattle.fio_ends.proofs.LinePremises.{frames_to_cpu, frames_to_module}
+use Rattle.fio_ends.proofs.BusStations.{headline_at_stations}
 use Rattle.fio_ends.proofs.SharedParts.{IsNoneOr, IsShared, shared_by_decoders, shared_by_modules}
 
 same_part : (common mine : Option (List ℕ)) (part : List ℕ) → IsNoneOr common mine → mine ≡ Some part → common ≡ Some part
@@ -87,6 +88,10 @@ module _ (bus : Bus) where
 pub shared_lines_are_a_bus : SharedLinesAreABus
 shared_lines_are_a_bus bus events last lead =
     leads bus events (bus_at_start bus) last (None, λ station. inl refl) (None, λ station. inl refl) lead
+
+pub headline_over_shared_lines : HeadlineOverSharedLines
+headline_over_shared_lines bus events last station is lead within =
+    headline_at_stations bus (map at_each events) last station is (shared_lines_are_a_bus bus events last lead) within
 
 pub frames_to_all_modules : EachFrameMayComeToAll (λ ends. ends.to_module) AtModules
 frames_to_all_modules bus ends sender number message within begun order is =

@@ -2,13 +2,14 @@
 -- receivers.
 use Rattle.std.specs.Prelude.{◌≡◌, ◌≢◌, ℕ, ◌<◌, ◌≤◌, ◌==◌, if◌then◌else◌, List, [], ◌∷◌, map, Some, None}
 use Rattle.fio_link.specs.declared.event.Event.{Event}
+use Rattle.fio_link.specs.Headline.{Headline}
 use Rattle.fio_link.specs.Link.{item_numbered}
 use Rattle.fio_wire.specs.declared.limits.TheConstants.{FLAG}
 use Rattle.fio_wire.specs.Frames.{frame_of}
 use Rattle.fio_wire.specs.Laws.{Arrival, Loss, Octet}
 use Rattle.fio_wire.specs.Octets.{sent, stuffed}
-use Rattle.fio_ends.specs.Lines.{WireLine, WiredEnds, Brought, Arrives, EndOf, Happens, AtModule, AtCpu, IsNoise, ComesWhole, MayHappen}
-use Rattle.fio_ends.specs.Bus.{Bus, BusEnds, BusEvent, LeadOnBus, after_bus_event, bus_at_start}
+use Rattle.fio_ends.specs.Lines.{WireLine, WiredEnds, Brought, Arrives, EndOf, Happens, AtModule, AtCpu, IsNoise, ComesWhole, MayHappen, events_on_wire}
+use Rattle.fio_ends.specs.Bus.{Bus, IsBus, BusEnds, BusEvent, LeadOnBus, after_bus_event, at_station, bus_at_start}
 use Rattle.fio_ends.specs.BusRuns.{bus_of}
 
 -- ---- What happens
@@ -67,6 +68,14 @@ abbrev pub SharedLinesAreABus : Type 0
 SharedLinesAreABus =
     (bus : Bus) (events : List SharedEvent) (last : BusEnds)
     → LeadOverShared bus (bus_at_start bus) events last → LeadOnBus bus (bus_at_start bus) (map at_each events) last
+
+-- So the headline holds of each station's record.
+abbrev pub HeadlineOverSharedLines : Type 0
+HeadlineOverSharedLines =
+    (bus : Bus) (events : List SharedEvent) (last : BusEnds) (station : ℕ)
+    → IsBus bus → LeadOverShared bus (bus_at_start bus) events last → station < bus.count
+    → Headline (bus.station station).settings (bus.station station).first
+    (events_on_wire (at_station station (map at_each events))) (last station).polling.items
 
 -- ---- What the premise leaves open
 

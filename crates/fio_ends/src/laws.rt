@@ -14,7 +14,7 @@ ghost use Rattle.fio_ends.specs.Pollers.{GoodIsOfPoller};
 ghost use Rattle.fio_ends.specs.PromptRuns.{FromCommand, HasNoBreach, HasNoBreachAnywhere, IsGood, NeverAccuses, NeverAccusesLater};
 ghost use Rattle.fio_ends.specs.RestartedLogs.{JudgeFindsRestarts, JudgeFindsRestartsAnywhere, RestartsAreFound};
 ghost use Rattle.fio_ends.specs.RunRecords.{KeepsRecord};
-ghost use Rattle.fio_ends.specs.SharedLines.{AtDecoders, AtModules, EachFrameMayComeToAll, SharedLinesAreABus, SharedLinesBringRecords};
+ghost use Rattle.fio_ends.specs.SharedLines.{AtDecoders, AtModules, EachFrameMayComeToAll, HeadlineOverSharedLines, SharedLinesAreABus, SharedLinesBringRecords};
 
 /// A good transcript comes from a right CPU's end: a poller that starts with the first poll's number has at each poll that
 /// poll's number, and takes each block answer heard, so none is stale.
@@ -276,6 +276,12 @@ pub fn buses_exist()
 #[tactic(auto, using(crate::proofs::SharedLines::shared_lines_are_a_bus))]
 pub fn shared_lines_are_a_bus()
     ensures { SharedLinesAreABus }
+{}
+
+/// So the headline holds of each station of a bus over two such lines.
+#[tactic(auto, using(crate::proofs::SharedLines::headline_over_shared_lines))]
+pub fn headline_holds_over_shared_lines()
+    ensures { HeadlineOverSharedLines }
 {}
 
 /// Directly after a flag such a line may bring each frame of each station that was written to it whole, if none of that station

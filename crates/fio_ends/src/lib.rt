@@ -1,13 +1,15 @@
 //! Laws that span several crates. Nothing here runs. They say that the checkers and the judge accuse no right link; that a good
-//! transcript fits its poller; and that calls of both ends in C are a run of the link, as are both ends over two lines of octets.
+//! transcript fits its poller; and that calls of both ends in C are a run of the link, as are both ends over two lines of octets, and
+//! each station of a bus.
 //!
 //! The definitions are in `specs/`, in this order: the poller of a transcript (`Pollers`), the transcript of a run
 //! (`Transcripts`), runs in which an answer comes directly after its command or never (`PromptRuns`), the record in their
 //! transcripts (`RunRecords`), their logs and the rules on content (`ContentRuns`), what a log must fulfil for these
 //! (`ContentPremises`), logs in which lines are lost (`LinkLogs`), logs that a right link explains (`Explainable`), logs of polls,
 //! of which exactly those are accused that no right link explains (`PollLogs`), what a caller in C does with one module and one
-//! poller (`Calls`), what lines bring and both ends do (`Lines`), and that this is a run (`LineRuns`). The laws are the contracts
-//! of the module `laws`.
+//! poller (`Calls`), what lines bring and both ends do (`Lines`), that this is a run (`LineRuns`), what comes at the stations of
+//! a bus (`Bus`), that each is a run (`BusRuns`), and lines that bring the same to all (`SharedLines`). The laws are the contracts of
+//! the module `laws`.
 //!
 //! # What is proved
 //!
@@ -17,8 +19,8 @@
 //! frames are missing at marks (`judge_accuses_no_right_link`), nor one over restarts that a stamp shows
 //! (`judge_finds_restarts`). The transcript's record is the run's (`prompt_runs_are_recorded`). A good transcript's poller has
 //! the number of each poll, and takes each block answer (`good_transcripts_are_of_pollers`). Calls of both ends in C are a run
-//! (`calls_are_runs`), and so are both ends over two lines of octets (`lines_are_runs`). `docs/PROMISES.md` says what is
-//! assumed.
+//! (`calls_are_runs`), and so are both ends over two lines of octets (`lines_are_runs`), and each station of a bus
+//! (`stations_are_runs`). `docs/PROMISES.md` says what is assumed.
 #![tactic(auto)]
 
 pub mod laws;
