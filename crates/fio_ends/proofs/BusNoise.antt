@@ -2,7 +2,6 @@
 use Rattle.fio_ends.proofs.Names.{◌≡◌, ◌∙◌, drop, ℕ, Bool, true, false, List, [], ◌∷◌, ◌++◌, Option, Some, None, option_map, refl, ap, sym, if◌then◌else◌, same_Some, SentFrame, FLAG, Framing, IsFraming, WireLine, frame_of, item_numbered, sent, stuffed}
 use Rattle.std.proofs.lemmas.Bool.{false≢true}
 use Rattle.std.proofs.lemmas.List.{same_from_push}
-use Rattle.fio_wire.specs.declared.heard.WireHeard.{WireHeard}
 use Rattle.fio_wire.specs.declared.heard.WireHeard.TheVariants.{Message, Other}
 use Rattle.fio_wire.specs.Frames.{Frame, is_own, wire_heard}
 use Rattle.fio_wire.specs.Frames as frames

@@ -1,9 +1,9 @@
 -- What the premises of a bus leave open: whatever may come at each station if it is alone, and up to 256 stations.
-use Rattle.fio_ends.proofs.Names.{◌≡◌, ◌≢◌, ◌<◌, ◌≤◌, inl, ℕ, Bool, true, false, List, [], ◌∷◌, Option, Some, None, refl, sym, arith, nat_tests, nat_lt, ◌==◌, ◌||◌, ◌&&◌, Arrives, AtCpu, AtModule, EndOf, Happens, LeadOverLines, Loss, MayBring, Octet, WireEvent, WireLine, WiredEnds}
+use Rattle.fio_ends.proofs.Names.{◌≡◌, ◌≢◌, ◌<◌, inl, ℕ, Bool, true, false, List, [], ◌∷◌, Option, Some, None, refl, sym, arith, nat_tests, ◌&&◌, Arrives, AtCpu, AtModule, EndOf, Happens, LeadOverLines, Loss, MayBring, Octet, WireEvent, WireLine, WiredEnds}
 use Rattle.fio_link.proofs.StandardLinks.{standard_in_range}
 use Rattle.fio_wire.specs.Frames.{admits}
 use Rattle.fio_ends.specs.Lines.{Brought}
-use Rattle.fio_ends.specs.Bus.{Bus, BusEnds, BusEvent, IsBus, LeadOnBus, MayBringTo, MayComeAt, Station, after_bus_event, after_if, at_station, with_event}
+use Rattle.fio_ends.specs.Bus.{Bus, BusEnds, MayBringTo, MayComeAt, Station, after_bus_event, after_if, at_station, with_event}
 use Rattle.fio_ends.specs.BusRuns.{BusesExist, LinesAreStations}
 use Rattle.fio_ends.proofs.BusStations.{MayComeIf}
 

@@ -1,5 +1,5 @@
 -- Each station of a bus goes as if it were alone on its lines.
-use Rattle.fio_ends.proofs.Names.{◌≡◌, ◌<◌, ◌⊎◌, inl, inr, ℕ, List, [], ◌∷◌, Option, Some, None, ap, Machine, start, SentFrame, Arrives, AtCpu, AtModule, EndOf, Happens, LeadOverLines, Loss, MayBring, Octet, WireEvent, WireLine, WiredEnds, ends_at_start}
+use Rattle.fio_ends.proofs.Names.{◌<◌, ◌⊎◌, inl, inr, ℕ, List, [], ◌∷◌, Option, Some, None, ap, Machine, start, SentFrame, Arrives, AtCpu, AtModule, EndOf, Happens, LeadOverLines, Loss, MayBring, Octet, WireEvent, WireLine, WiredEnds}
 use Rattle.fio_ends.specs.Lines.{Brought, MayCome, IsNoise}
 use Rattle.fio_ends.specs.Bus.{Bus, BusEnds, BusEvent, IsAnothers, IsBus, LeadOnBus, MayBringTo, MayComeAt, Station, after_bus_event, after_if, at_station, bus_at_start, with_event}
 use Rattle.fio_ends.specs.BusRuns.{HeadlineAtStations, StationsAreLines, StationsAreRuns}

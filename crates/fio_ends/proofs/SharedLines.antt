@@ -1,5 +1,5 @@
 -- Lines that bring the same to all make a bus.
-use Rattle.fio_ends.proofs.Names.{◌≡◌, ◌≢◌, ◌∙◌, ◌<◌, inl, inr, ℕ, Bool, true, false, List, [], ◌∷◌, ◌++◌, map, Option, Some, None, refl, ap, sym, subst, same_Some, if◌then◌else◌, ◌==◌, eqb_tells, Event, Arrives, AtCpu, AtModule, ComesWhole, EndOf, FLAG, Happens, HasNoFlag, LeadOverLines, Loss, Octet, WireLine, WiredEnds, frame_of, item_numbered, part_brought, stuffed}
+use Rattle.fio_ends.proofs.Names.{◌≡◌, ◌∙◌, ◌<◌, inl, inr, ℕ, Bool, true, false, List, [], ◌∷◌, ◌++◌, map, Option, Some, None, refl, sym, subst, same_Some, if◌then◌else◌, ◌==◌, eqb_tells, Event, Arrives, AtCpu, AtModule, ComesWhole, EndOf, FLAG, Happens, HasNoFlag, LeadOverLines, Loss, Octet, WireLine, WiredEnds, frame_of, item_numbered, part_brought, stuffed}
 use Rattle.fio_wire.proofs.Sent.{free_of_flags}
 use Rattle.fio_ends.specs.Lines.{MayHappen}
 use Rattle.fio_ends.specs.Bus.{Bus, BusEnds, LeadOnBus, MayBringTo, MayComeAt, after_bus_event, bus_at_start}
