@@ -26,18 +26,18 @@ module _ (bus : Bus) where
         | inr other ↦
             subst (λ b. MayBringTo bus line station (if b then EndOf number else Arrives (Octet FLAG))) (sym other.0)
             (λ flag part same. (
-              let whole : ComesWhole (line sender) number = may.1 in
-              let common : Some whole.part ≡ Some part =
-              sym (same_part is.0 (line sender).part whole.part (is.1 sender) whole.is_part)
-              ∙ same_part is.0 (line station).part part (is.1 station) same in
-              inr (record {
-                sender = sender;
-                is_on_bus = may.0;
-                is_other = λ e. other.1 (sym e);
-                number = number;
-                is_written =
-                    subst (λ p. item_numbered (line sender).written number ≡ Some (FLAG ∷ p ++ FLAG ∷ [])) (same_Some _ _ common) whole.is_written;
-              })
+            let whole : ComesWhole (line sender) number = may.1 in
+            let common : Some whole.part ≡ Some part =
+            sym (same_part is.0 (line sender).part whole.part (is.1 sender) whole.is_part)
+            ∙ same_part is.0 (line station).part part (is.1 station) same in
+            inr (record {
+              sender = sender;
+              is_on_bus = may.0;
+              is_other = λ e. other.1 (sym e);
+              number = number;
+              is_written =
+                  subst (λ p. item_numbered (line sender).written number ≡ Some (FLAG ∷ p ++ FLAG ∷ [])) (same_Some _ _ common) whole.is_written;
+            })
             ))
       ]
 

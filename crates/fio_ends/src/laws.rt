@@ -245,9 +245,9 @@ pub fn lines_bring_records()
     ensures { LinesBringRecords }
 {}
 
-/// Several modules and one CPU on a bus: what comes at each station may come over its lines if it is alone, though of another's
-/// frame is asked only that it comes as it was written, and that its address and control octet are not the station's own. So each
-/// station is a run of the link.
+/// On a bus of one CPU and several modules, what comes at each station may come over its lines if it is alone: of another's frame
+/// it is asked only that it is as it was written, and that no frame of one station is another's own. So each station is a run of
+/// the link.
 #[tactic(auto, using(crate::proofs::BusStations::stations_are_lines, crate::proofs::BusStations::stations_are_runs))]
 pub fn stations_are_runs()
     ensures lines { StationsAreLines }
