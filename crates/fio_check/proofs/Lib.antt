@@ -37,3 +37,9 @@ pub mod RestartsOnce
 pub mod RestartsFound
 pub mod LogLaws
 pub mod BothFind
+pub mod EventByEvent
+pub mod CountedTables
+pub mod CountedWaits
+pub mod CountedLogs
+pub mod LateFrames
+pub mod SignsOfLogs

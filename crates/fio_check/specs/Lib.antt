@@ -29,4 +29,8 @@ pub mod LineKinds
 pub mod LogLaws
 pub mod LogSigns
 pub mod LogCounts
+pub mod Counting
+pub mod CountedLogs
+pub mod LateFrames
+pub mod SignsOfLogs
 pub mod Finding
