@@ -36,4 +36,5 @@ pub mod Excuses
 pub mod RestartsOnce
 pub mod RestartsFound
 pub mod LogLaws
+pub mod UnloadedLogs
 pub mod BothFind
