@@ -118,6 +118,8 @@ def check_record(check):
     check.equal('the rows', [('2', ''), ('4', 'restarted'), ('4', '')], [(row[0], row[-1]) for row in rows])
 
 
+# Below a damaged line an entry is before the block above it.
+EARLY = [*ABOVE, CUT_LOAD, '> 3602', '< b602010c03e8000000044c', '> 3603', '< b603018c03e7000000044d']
 # A log, which breaches or restarts are reported in it and where, and what is not judged.
 LOADS = {
     'a load that was sent': ([*ABOVE, *LOAD, *BACK], [], {'frames_below_loads': 1, 'losses_of_sync': 1}),
@@ -127,6 +129,16 @@ LOADS = {
     'that explains two stamps at most': ([*ABOVE, CUT_LOAD, *BACK, *AGAIN, '> 3605', '< b605000000000002'], ['13: restarted'],
                                          {'damaged_lines': 1, 'frames_below_loads': 2, 'losses_of_sync': 4}),
     'none in the log': ([*ABOVE, *BACK], ['6: restarted'], {'losses_of_sync': 1}),
+    'one that explains an entry': (EARLY, [], {'damaged_lines': 1, 'losses_of_sync': 1}),
+}
+# The same with --no-loads: no damaged line is a load, down to a load that is in the log.
+NO_LOADS = {
+    'a load that was sent': LOADS['a load that was sent'],
+    'none in a damaged line': ([*ABOVE, CUT_LOAD, *BACK], ['7: restarted'], {'damaged_lines': 1, 'losses_of_sync': 2}),
+    'none in a second one': ([*ABOVE, CUT_LOAD, *BACK, CUT_LOAD, *AGAIN], ['7: restarted', '12: restarted'], {'damaged_lines': 2, 'losses_of_sync': 4}),
+    'one in a damaged line below a load': ([*ABOVE, *LOAD, *BACK, CUT_LOAD, *AGAIN], [],
+                                           {'damaged_lines': 1, 'frames_below_loads': 2, 'losses_of_sync': 3}),
+    'an entry that is too early': (EARLY, ['9: fresh'], {'damaged_lines': 1, 'losses_of_sync': 1}),
 }
 
 
@@ -135,6 +147,9 @@ def check_loads(check):
     for name, (lines, told, unjudged) in LOADS.items():
         done = checked(lines)
         check.equal('a load: ' + name, (told, 0, unjudged), (done.found(TOLD), done.status, not_judged(lines)))
+    for name, (lines, told, unjudged) in NO_LOADS.items():
+        for words in (['--no-loads'], ['--no-loads', '--whole']):
+            check.equal('%s: %s' % (' '.join(words), name), (told, unjudged), (checked(lines, *words).found(TOLD), not_judged(lines, *words)))
     for count, words in ((1, '1 frame whose stamp a load of the counter may explain'), (2, '2 frames whose stamps a load of the counter may explain')):
         lines = [*ABOVE, *LOAD, *LOAD, *BACK, *(AGAIN if count == 2 else [])]
         check.holds('the words of %d' % count, words in checked(lines).out)
