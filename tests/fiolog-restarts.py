@@ -272,6 +272,25 @@ def fault_of_right_links(links):
     return None if told == restarts >= links // 10 else '%d of %d restarts are reported' % (told, restarts)
 
 
+def fault_of_unloaded_links(links):
+    """Damaged logs of right links whose CPU never loads the counter are accused of nothing with --no-loads, only real restarts are
+    reported, and more of them than without."""
+    from support.restarting import damaged, fault_of, found_in, lines_of, restarting
+    told = {True: 0, False: 0}
+    for seed in range(links):
+        draw, link = random.Random('no loads %d' % seed), restarting(seed, loads=0)
+        lines, begin = lines_of(link.frames), draw.choice(link.beginnings())
+        for first, chance in ((0, 0.005), (0, 0.02), (begin, 0.05), (0, 0.1)):
+            log = damaged(lines[first:], draw, chance)
+            for never in told:
+                found, _ = found_in(log, no_loads=never)
+                told[never] += len(found)
+                fault = fault_of(found, first, link.restarts)
+                if fault:
+                    return 'seed %d, %s of the lines from %d on: %s' % (seed, chance, first + 1, fault)
+    return None if told[True] > told[False] else told
+
+
 def fault_of_links_that_go_on(links):
     """Over restarts that a stamp shows, also if the first one is that of a block that is sent again, nobody is accused, and each is
     said once at most."""
@@ -324,6 +343,7 @@ def main():
         for part in (check_others, check_whole, check_remarks):
             part(check, folder)
     check.fault('right links', fault_of_right_links, check.given.links)
+    check.fault('right links without loads', fault_of_unloaded_links, check.given.links)
     check.fault('links that go on at once', fault_of_links_that_go_on, check.given.links)
     check.end()
 
