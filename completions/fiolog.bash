@@ -20,12 +20,12 @@ _fiolog() {
         *:-*)
             case $command in
             decode) words='-h --help --format --pattern --sdlc --no-check --line --address --like --merge -v --verbose -q --quiet --json --csv --input --type --block --status --unanswered --direction --lines --color' ;;
-            check) words='-h --help --format --pattern --sdlc --no-check --line --address --like --merge -v --verbose -q --quiet --at --start-at-poll --whole --limits --rules --except --tees --explain --late-answers -r --recursive --jobs --json --csv' ;;
+            check) words='-h --help --format --pattern --sdlc --no-check --line --address --like --merge -v --verbose -q --quiet --at --start-at-poll --whole --limits --rules --except --tees --explain --late-answers --no-loads -r --recursive --jobs --json --csv' ;;
             stats) words='-h --help --format --pattern --sdlc --no-check --line --address --like --merge -v --verbose -q --quiet -r --recursive --jobs --json' ;;
             plan) words='-h --help --inputs --filter --group --limits --block --waiting --outage --lost --every --rate --sync --async --answer-time --plot -v --verbose --json' ;;
             convert) words='-h --help --format --pattern --sdlc --no-check --line --address --like --merge -v --verbose -q --quiet --to -o --output --times' ;;
             record) words='-h --help --format --pattern --sdlc --no-check --line --address --like --merge -v --verbose -q --quiet --at --start-at-poll --whole --limits --text --json --csv --vcd --plot --hires --start --signal --on --channels' ;;
-            live) words='-h --help --exec --serial --udp --fifo --address --like --rate --host --transcript --pcapng --force --at --whole --limits --except --late-answers --seconds -v --verbose -q --quiet' ;;
+            live) words='-h --help --exec --serial --udp --fifo --address --like --rate --host --transcript --pcapng --force --at --whole --limits --except --late-answers --no-loads --seconds -v --verbose -q --quiet' ;;
             esac ;;
         esac ;;
     esac

@@ -68,7 +68,8 @@ _fiolog() {
     check|live)
         specs+=(
             '--except[leave out breaches of this rule, and count them; may be given again]:rule:(readable pair number advance same sequence limits rest refusal order fresh alternate apart ignored state clock done accepted cleared watchdog)'
-            '--late-answers[leave out answers that came late or twice, and count them]') ;|
+            '--late-answers[leave out answers that came late or twice, and count them]'
+            '--no-loads[the CPU never loads the counter, then more faults can be found below damage]') ;|
     check|stats)
         specs+=(
             {-r,--recursive}'[read all files below the folders that are named]'

@@ -1265,11 +1265,12 @@ enum fio2070_log_taken {
     FIO2070_LOG_TAKEN_ON_BUS = 3     /**< on the bus between them */
 };
 
-/** How a log begins, or that late answers are left out of it. */
+/** How a log begins, or that late answers are left out of it; added to one of these, that its CPU never loads the counter. */
 enum fio2070_log_begins {
     FIO2070_LOG_BEGINS_ANYWHERE = 0,  /**< anywhere: what was heard above the first frame that was sent is not judged */
     FIO2070_LOG_BEGINS_WITH_ENDS = 1, /**< with the start of both ends: more is found then */
-    FIO2070_LOG_LEAVES_OUT_LATE = 2   /**< anywhere, and late answers are left out */
+    FIO2070_LOG_LEAVES_OUT_LATE = 2,  /**< anywhere, and late answers are left out */
+    FIO2070_LOG_NEVER_LOADS = 4       /**< no line that is lost is taken for a load of the counter, down to a load in the log */
 };
 
 /** A judge of a log. Its fields are the library's own. */
@@ -1288,12 +1289,13 @@ struct fio2070_log_judge {
     uint8_t polled;
     uint8_t first;
     uint8_t answered;
-    uint8_t reserved[5];
+    uint8_t never_loads;
+    uint8_t reserved[4];
 };
 
 /** Starts above the first line of a log of a module with these limits. `place` is one of enum fio2070_log_taken, where a greater
- * number is FIO2070_LOG_TAKEN_ON_BUS; `start` is one of enum fio2070_log_begins, where a greater number is
- * FIO2070_LOG_BEGINS_ANYWHERE. Returns 0; where a limit is out of its range 1, and nothing changes.
+ * number is FIO2070_LOG_TAKEN_ON_BUS; `start` is one of enum fio2070_log_begins, or one of the first three
+ * plus FIO2070_LOG_NEVER_LOADS; any other number is FIO2070_LOG_BEGINS_ANYWHERE. Returns 0; where a limit is out of its range 1, and nothing changes.
  *
  * FIO2070_LOG_TAKEN_AUTO finds the place of each frame: a frame whose line says no direction was logged on the bus; another one
  * at the CPU's end, if down to it at least four of five directions agree with the types of their messages; at the module, if at

@@ -467,14 +467,16 @@ private:
 /// The judge of a log: it says what each frame is that a reader finds, by what the log says of the lines between them too.
 class LogJudge {
 public:
-    /// A judge above the first line of a log of a module with these limits. None where one is out of its range.
+    /// A judge above the first line of a log of a module with these limits. None where one is out of its range. `never_loads` says that
+    /// the CPU never loads the counter.
     static std::optional<LogJudge> start(::fio2070_log_taken place = FIO2070_LOG_TAKEN_AUTO,
                                          ::fio2070_log_begins begins = FIO2070_LOG_BEGINS_ANYWHERE,
                                          std::uint8_t per_block = FIO2070_MOST_ENTRIES,
-                                         std::uint16_t waiting = FIO2070_STANDARD_WAITING) {
+                                         std::uint16_t waiting = FIO2070_STANDARD_WAITING, bool never_loads = false) {
         std::optional<LogJudge> judge{LogJudge()};
+        const int start = begins + (never_loads ? FIO2070_LOG_NEVER_LOADS : 0);
         if (::fio2070_log_judge_start(&judge->judge_, {waiting, per_block, 0}, static_cast<std::uint8_t>(place),
-                                      static_cast<std::uint8_t>(begins)) != FIO2070_STARTED) judge.reset();
+                                      static_cast<std::uint8_t>(start)) != FIO2070_STARTED) judge.reset();
         return judge;
     }
     /// A line may have held a frame, such as a damaged one; or below a frame another part of the log begins.

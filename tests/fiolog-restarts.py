@@ -118,6 +118,8 @@ def check_record(check):
     check.equal('the rows', [('2', ''), ('4', 'restarted'), ('4', '')], [(row[0], row[-1]) for row in rows])
 
 
+# Below a damaged line an entry is before the block above it.
+EARLY = [*ABOVE, CUT_LOAD, '> 3602', '< b602010c03e8000000044c', '> 3603', '< b603018c03e7000000044d']
 # A log, which breaches or restarts are reported in it and where, and what is not judged.
 LOADS = {
     'a load that was sent': ([*ABOVE, *LOAD, *BACK], [], {'frames_below_loads': 1, 'losses_of_sync': 1}),
@@ -127,6 +129,16 @@ LOADS = {
     'that explains two stamps at most': ([*ABOVE, CUT_LOAD, *BACK, *AGAIN, '> 3605', '< b605000000000002'], ['13: restarted'],
                                          {'damaged_lines': 1, 'frames_below_loads': 2, 'losses_of_sync': 4}),
     'none in the log': ([*ABOVE, *BACK], ['6: restarted'], {'losses_of_sync': 1}),
+    'one that explains an entry': (EARLY, [], {'damaged_lines': 1, 'losses_of_sync': 1}),
+}
+# The same with --no-loads: no damaged line is a load, down to a load that is in the log.
+NO_LOADS = {
+    'a load that was sent': LOADS['a load that was sent'],
+    'none in a damaged line': ([*ABOVE, CUT_LOAD, *BACK], ['7: restarted'], {'damaged_lines': 1, 'losses_of_sync': 2}),
+    'none in a second one': ([*ABOVE, CUT_LOAD, *BACK, CUT_LOAD, *AGAIN], ['7: restarted', '12: restarted'], {'damaged_lines': 2, 'losses_of_sync': 4}),
+    'one in a damaged line below a load': ([*ABOVE, *LOAD, *BACK, CUT_LOAD, *AGAIN], [],
+                                           {'damaged_lines': 1, 'frames_below_loads': 2, 'losses_of_sync': 3}),
+    'an entry that is too early': (EARLY, ['9: fresh'], {'damaged_lines': 1, 'losses_of_sync': 1}),
 }
 
 
@@ -135,6 +147,9 @@ def check_loads(check):
     for name, (lines, told, unjudged) in LOADS.items():
         done = checked(lines)
         check.equal('a load: ' + name, (told, 0, unjudged), (done.found(TOLD), done.status, not_judged(lines)))
+    for name, (lines, told, unjudged) in NO_LOADS.items():
+        for words in (['--no-loads'], ['--no-loads', '--whole']):
+            check.equal('%s: %s' % (' '.join(words), name), (told, unjudged), (checked(lines, *words).found(TOLD), not_judged(lines, *words)))
     for count, words in ((1, '1 frame whose stamp a load of the counter may explain'), (2, '2 frames whose stamps a load of the counter may explain')):
         lines = [*ABOVE, *LOAD, *LOAD, *BACK, *(AGAIN if count == 2 else [])]
         check.holds('the words of %d' % count, words in checked(lines).out)
@@ -257,6 +272,25 @@ def fault_of_right_links(links):
     return None if told == restarts >= links // 10 else '%d of %d restarts are reported' % (told, restarts)
 
 
+def fault_of_unloaded_links(links):
+    """Damaged logs of right links whose CPU never loads the counter are accused of nothing with --no-loads, only real restarts are
+    reported, and more of them than without."""
+    from support.restarting import damaged, fault_of, found_in, lines_of, restarting
+    told = {True: 0, False: 0}
+    for seed in range(links):
+        draw, link = random.Random('no loads %d' % seed), restarting(seed, loads=0)
+        lines, begin = lines_of(link.frames), draw.choice(link.beginnings())
+        for first, chance in ((0, 0.005), (0, 0.02), (begin, 0.05), (0, 0.1)):
+            log = damaged(lines[first:], draw, chance)
+            for never in told:
+                found, _ = found_in(log, no_loads=never)
+                told[never] += len(found)
+                fault = fault_of(found, first, link.restarts)
+                if fault:
+                    return 'seed %d, %s of the lines from %d on: %s' % (seed, chance, first + 1, fault)
+    return None if told[True] > told[False] else told
+
+
 def fault_of_links_that_go_on(links):
     """Over restarts that a stamp shows, also if the first one is that of a block that is sent again, nobody is accused, and each is
     said once at most."""
@@ -309,6 +343,7 @@ def main():
         for part in (check_others, check_whole, check_remarks):
             part(check, folder)
     check.fault('right links', fault_of_right_links, check.given.links)
+    check.fault('right links without loads', fault_of_unloaded_links, check.given.links)
     check.fault('links that go on at once', fault_of_links_that_go_on, check.given.links)
     check.end()
 

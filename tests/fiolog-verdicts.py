@@ -244,6 +244,13 @@ def check_hints(check):
     late_block = good + '> 3606\n< b6060000000003e9\n< b6050000000003e8\n'
     for place, is_at_tap in (('auto', False), ('cpu', False), ('bus', True)):
         check.equal('hints: a late answer, --at %s' % place, is_at_tap, late + ' --except advance' in fiolog('check', '--at', place, text=late_block).err)
+    # A line of a day before is damaged: it may have been a load.
+    above, below = ['TX 36 05', 'RX B6 05 00 00 00 00 03 E8'], ['TX 36 06', 'RX B6 06 00 00 05 26 60 00']
+    for name, hour, lines, is_said in (
+            ('a day without a load', 7, [*above, 'TX 36 0'], True), ('an hour less', 6, [*above, 'TX 36 0'], False), ('no damaged line', 7, above, False),
+            ('a load', 7, [*above, 'TX 36 0', 'TX 32 00 00 00 00', 'RX B2 00'], False)):
+        text = ''.join('2026-11-%s %s\n' % (time, line) for time, part in (('22 07:15:02.100', lines), ('23 0%d:15:02.100' % hour, below)) for line in part)
+        check.equal('hints: ' + name, (is_said, False), tuple('try --no-loads' in fiolog('check', *words, text=text).err for words in ([], ['--no-loads'])))
     # The CPU's words at the module's end: most lines say the other direction, and are said to.
     said, unsaid = ['RX 36 %02X\nTX B6 %02X 00 00 00 00 00 01\n' % (number, number) for number in range(2)], 'TX 36 02\nRX B6 02 00 00 00 00 00 02\n'
     for name, text, is_said in (('all lines', ''.join(said), True), ('two of three', ''.join(said) + unsaid, True), ('half of them', said[0] + unsaid, False)):

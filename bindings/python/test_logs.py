@@ -218,6 +218,22 @@ class LogBatches(unittest.TestCase):
         batch.pass_over([1])
         self.assertEqual(batch.verdicts(), [verdicts[0], fio2070.Verdict(2, 'passed over', 'no message', (), (), 7, '<', b'', 183), verdicts[2]])
 
+    def test_never_loads(self):
+        """No lost line is a load of the counter, down to a load in the log."""
+        def outcomes(*frames, **settings):
+            judge = fio2070.LogJudge(never_loads=True, **settings)
+            kinds = []
+            for digits in frames:
+                judge.lose() if not digits else kinds.append(judge.frame(bytes.fromhex(digits), digits < '8').kind)
+            return kinds
+        above, below = ('3605', 'b6050000000003e8', '', '3606'), ('b60600000000000a', '3607')
+        restarted, excused = fio2070.constants.OUTCOME_RESTARTED, fio2070.constants.OUTCOME_EXCUSED
+        for settings in {}, {'begun': True}, {'place': 'bus'}:
+            self.assertEqual(outcomes(*above, *below, **settings)[3], restarted)
+            self.assertEqual(outcomes('3200000000', 'b200', *above, *below, **settings)[5], excused)
+            self.assertEqual(outcomes('3200000000', 'b200', *above, *below, 'b607000000000010', '', '3608', 'b608000000000001', **settings)[-1], excused)
+        self.assertNotIn(excused, outcomes(*above, *below, late_answers=True))
+
     def test_words(self):
         judge = fio2070.LogJudge()
         self.assertEqual(repr(judge), '<LogJudge>')

@@ -148,10 +148,11 @@ LOG_TAKEN_AT_CPU = 1
 LOG_TAKEN_AT_MODULE = 2
 LOG_TAKEN_ON_BUS = 3
 
-# How a log begins, or that late answers are left out of it.
+# How a log begins, or that late answers are left out of it; added to one of these, that its CPU never loads the counter.
 LOG_BEGINS_ANYWHERE = 0
 LOG_BEGINS_WITH_ENDS = 1
 LOG_LEAVES_OUT_LATE = 2
+LOG_NEVER_LOADS = 4
 
 # What kind of log a log looks like.
 LOG_SIGN_NONE = 0

@@ -89,11 +89,12 @@ class LogJudge:
     of the lines between the frames too. Give it the frames and the lines in the order of the log."""
 
     def __init__(self, per_block: int = c.MOST_ENTRIES, waiting: int = c.STANDARD_WAITING, place: str = 'auto', begun: bool = False,
-                 late_answers: bool = False) -> None:
+                 late_answers: bool = False, never_loads: bool = False) -> None:
         """`per_block` and `waiting` are as for `LinkJudge`. `place` says where the log was taken: 'cpu', 'module' or 'bus'; 'auto'
         finds it by the directions that the lines say. With `begun` the log begins with the start of both ends: more is found then.
         With `late_answers` it was taken at a CPU's end that waits for each answer only until a deadline, and late answers are left
-        out; a log can't be both."""
+        out; a log can't be both. With `never_loads` its CPU never loads the counter: down to a load in the log no lost line is taken
+        for one, and more is found."""
         check_limits(per_block, waiting)
         if place not in _PLACES:
             raise ValueError('the place is auto, cpu, module or bus')
@@ -104,7 +105,8 @@ class LogJudge:
         self._judge, self._found = c.CLogJudge(), c.CJudgeOutcome()
         self._outcomes: Any = None      # of a batch
         self._kinds: Any = None
-        c.library.fio2070_log_judge_start(self._judge, c.CLimits(waiting, per_block, 0), _PLACES[place], begins)
+        c.library.fio2070_log_judge_start(self._judge, c.CLimits(waiting, per_block, 0), _PLACES[place],
+                                          begins + constants.LOG_NEVER_LOADS * never_loads)
 
     def __getstate__(self) -> Dict[str, Any]:
         """What is copied: not the outcomes of a batch."""

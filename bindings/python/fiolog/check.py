@@ -3,6 +3,8 @@ come and what came, or with what the breach means."""
 
 from collections import Counter
 
+from fio2070.constants import TYPE_LOAD_COUNTER
+
 from . import judgement, log, options, statuses, terminal
 from .event import OTHER, PART, PASSED
 from .counts import Counts, in_words, unjudged_numbers, unjudged_words
@@ -13,6 +15,10 @@ from .stations import Stations
 from .terminal import shown
 
 
+# Seconds.
+A_DAY = 86400
+
+
 def add_arguments(parser):
     options.add_reading(parser)
     options.add_place(parser)
@@ -20,7 +26,7 @@ def add_arguments(parser):
     options.add(parser, '--except')
     parser.add_argument('--tees', action='store_true', help='leave out the rules that are not of TEES 2009: %s' % ', '.join(options.OWN))
     parser.add_argument('--explain', choices=options.NAMES, metavar='RULE', help='say what this rule says, and read no log')
-    options.add(parser, '--late-answers', '-r --recursive', '--jobs')
+    options.add(parser, '--late-answers', '--no-loads', '-r --recursive', '--jobs')
     form = parser.add_mutually_exclusive_group()
     form.add_argument('--json', action='store_true', help='an object for each breach, with several logs for each log; and one for the summary')
     form.add_argument('--csv', action='store_true', help='a table: a row for each log, with its numbers')
@@ -165,6 +171,8 @@ def hints(option, read, counts, judge, findings):
         yield 'the log begins in the middle of traffic: try --start-at-poll'
     if findings.has_late_answers and not option.late_answers:
         yield 'answers came late or twice: try --late-answers' + ' --except advance' * (option.at == 'bus')
+    if counts.damaged and (counts.seconds or 0) >= A_DAY and not counts.types[TYPE_LOAD_COUNTER] and not option.no_loads:
+        yield 'a day without a load of the counter (50): if the CPU never sends one, try --no-loads'
 
 
 def numbers_words(numbers):

@@ -40,7 +40,7 @@ def add_arguments(parser):
     parser.add_argument('--pcapng', metavar='FILE', help='write it as pcapng; - for `| wireshark -k -i -`')
     parser.add_argument('--force', action='store_true', help='overwrite files that are there already')
     parser.add_argument('--at', choices=('auto', 'cpu', 'module', 'bus'), default='auto', help='where it is heard')
-    options.add(parser, '--whole', '--limits', '--except', '--late-answers')
+    options.add(parser, '--whole', '--limits', '--except', '--late-answers', '--no-loads')
     parser.add_argument('--seconds', type=float, metavar='N', help='end after so long')
     options.add(parser, '-v --verbose')
     parser.add_argument('-q', '--quiet', action='store_true', help='do not write the messages')

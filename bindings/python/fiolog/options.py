@@ -124,6 +124,7 @@ _SHARED = {
     '--except': {'action': 'append', 'choices': NAMES, 'default': [], 'dest': 'excepted', 'metavar': 'RULE',
                  'help': 'leave out breaches of this rule, and count them; may be given again'},
     '--late-answers': {'action': 'store_true', 'help': 'leave out answers that came late or twice, and count them'},
+    '--no-loads': {'action': 'store_true', 'help': 'the CPU never loads the counter: then more faults can be found below damage'},
     '-r --recursive': {'action': 'store_true', 'help': 'read all files below the folders that are named'},
     '--jobs': {'type': number_in(1, MOST_ASKED), 'metavar': 'N', 'help': 'with several logs: read this many at a time (all processors)'},
 }
@@ -149,7 +150,7 @@ def add_place(parser):
 
 def rules_of(option):
     """What the rules that judge a log are given, by the options of the command line. Raises Refused if the limits are none."""
-    given = {name: getattr(option, name) for name in ('at', 'whole', 'limits', 'late_answers') if hasattr(option, name)}
+    given = {name: getattr(option, name) for name in ('at', 'whole', 'limits', 'late_answers', 'no_loads') if hasattr(option, name)}
     entries, waiting = given.get('limits', (1, 1))
     if not (1 <= entries <= BLOCK_ENTRIES and 1 <= waiting <= MOST_WAITING):
         raise Refused('--limits: a block has 1 to %d entries, and 1 to %d wait' % (BLOCK_ENTRIES, MOST_WAITING))

@@ -1,7 +1,7 @@
 -- The judge of a log as C sees it.
 use Rattle.std.specs.Prelude.{ℕ, ◌≡◌, ◌==◌, ◌||◌, Bool, true, false, not, nat_lt, List, [], ◌∷◌, replicate, slice_get, unwrap_or, Option, Some, None, if◌then◌else◌}
 use Rattle.fio_check.specs.LineKinds.{events_below_frame, events_of_line}
-use Rattle.fio_check.specs.LogJudges.{Found, LogEvent, LogJudging, log_below_events, log_with_event, outcome_in_log}
+use Rattle.fio_check.specs.LogJudges.{Found, LogEvent, LogJudging, log_below_events, log_starting, log_unloaded, log_with_event, outcome_in_log}
 use Rattle.fio_check.specs.declared.late_answers.LateAnswers.{LateAnswers}
 use Rattle.fio_check.specs.declared.line_kind.LogLineKind.{LogLineKind}
 use Rattle.fio_check.specs.declared.line_kind.LogLineKind.TheVariants as kinds
@@ -9,6 +9,7 @@ use Rattle.fio_check.specs.declared.log_judge.LogOutcome.{LogOutcome}
 use Rattle.fio_check.specs.declared.log_judge.LogOutcome.TheVariants.{Late, LateAbove, Link}
 use Rattle.fio_check.specs.declared.log_judge.LogStart.{LogStart}
 use Rattle.fio_check.specs.declared.log_judge.LogStart.TheVariants as starts
+use Rattle.fio_check.specs.declared.limits.RuleLimits.{RuleLimits}
 use Rattle.fio_check.specs.declared.missing_frames.MissingFrames.{MissingFrames}
 use Rattle.fio_check.specs.declared.missing_frames.MissingFrames.TheVariants.{AbovePoll, Below, Nowhere}
 use Rattle.fio_check.specs.declared.outcome.LogPlace.{LogPlace}
@@ -32,9 +33,20 @@ place_number (Some Cpu) = 1
 place_number (Some Module) = 2
 place_number (Some Bus) = 3
 
--- how a log begins: 1 with both ends, 2 anywhere and with late answers left out, else anywhere
+-- how a log begins: 1 and 5 with both ends, 2 and 6 anywhere and with late answers left out, else anywhere
 abbrev pub start_in : ℕ → LogStart
-start_in start = if start == 1 then starts.Begun else if start == 2 then starts.LateAnswers else starts.Anywhere
+start_in start = if start == 1 || start == 5 then starts.Begun
+    else if start == 2 || start == 6 then starts.LateAnswers else starts.Anywhere
+
+-- 4, 5 and 6 say that the CPU never loads the counter
+abbrev pub says_unloaded : ℕ → Bool
+says_unloaded start = start == 4 || start == 5 || start == 6
+
+-- a judge above the first line of a log of a module with these limits, taken there, that begins so
+abbrev pub log_started : RuleLimits → ℕ → ℕ → LogJudging
+log_started limits place start = if says_unloaded start
+    then log_unloaded (log_starting limits (place_taken place) (start_in start))
+    else log_starting limits (place_taken place) (start_in start)
 
 -- where frames may be missing: 0 nowhere, 1 below the latest poll and the latest block answer, else above the latest poll
 abbrev pub missing_in : ℕ → MissingFrames
@@ -70,11 +82,12 @@ log_judge_in flat = record {
   contrary = flat.contrary;
   has_frames = not (flat.has_frames == 0);
   missing = missing_in flat.missing;
+  never_loads = not (flat.never_loads == 0);
 }
 
 -- the octets that the struct of a judge of a log reserves are 0, those of its judge of the link too
 abbrev pub LogReservesZeros : FlatLogJudge → Type 0
-LogReservesZeros flat = (flat.reserved ≡ replicate 5 0) × ReservesZeros flat.link
+LogReservesZeros flat = (flat.reserved ≡ replicate 4 0) × ReservesZeros flat.link
 
 -- the outcome of a frame as C sees it
 abbrev pub flat_log_outcome : LogOutcome → JudgeOutcome

@@ -1,13 +1,13 @@
 //! The judge of a log, in memory of the caller.
 ghost use Rattle.std.specs.Prelude.{◌≡◌, ◌==◌, None, Some, false, not, true};
-ghost use Rattle.fio_check.specs.LogJudges.{log_judging, log_lost, log_missing, log_possible, log_starting, log_with, outcome_in_log};
+ghost use Rattle.fio_check.specs.LogJudges.{log_judging, log_lost, log_missing, log_possible, log_with, outcome_in_log};
 ghost use Rattle.fio_flat.specs.Module.{are_flat_limits};
 ghost use Rattle.fio_c.specs.Checkers.{limits_of, octet_if};
-ghost use Rattle.fio_c.specs.LogJudges.{LogReservesZeros, end_in, flat_log_outcome, late_in, log_judge_in, missing_in, missing_number, place_number, place_taken, start_in};
+ghost use Rattle.fio_c.specs.LogJudges.{LogReservesZeros, end_in, flat_log_outcome, late_in, log_judge_in, log_started, missing_in, missing_number, place_number, place_taken, start_in};
 
 use crate::checker::limits_from;
 use crate::judge::{FlatJudge, JudgeOutcome, flat_of, judge_from, outcome_from, without_breach};
-use fio_check::{LateAnswers, LogJudge, LogOutcome, LogPlace, LogStart, MissingFrames};
+use fio_check::{LateAnswers, LogJudge, LogOutcome, LogPlace, LogStart, MissingFrames, RuleLimits};
 use fio_flat::FlatLimits;
 
 /// A judge of a log. Its fields are the library's own: what it keeps of the lines that it took.
@@ -43,14 +43,16 @@ pub struct FlatLogJudge {
     pub first: u8,
     /// 1 if a block with that number is below that poll.
     pub answered: u8,
+    /// 1 if no load of the counter is among lines that are lost.
+    pub never_loads: u8,
     /// 0 in each octet that the library writes.
-    pub reserved: [u8; 5],
+    pub reserved: [u8; 4],
 }
 
 /// Starts a judge above the first line of a log of a module with these limits. `place` says where the log was taken: 0 to be
 /// found out by the directions in the log, 1 at the CPU's end, 2 at the module, any other on the bus. `start` says how the log
-/// begins: 1 with both ends, any other number anywhere; 2 also leaves out late answers. Returns 0, or 1 without any change if a
-/// limit is out of its range.
+/// begins: 1 with both ends, any other number anywhere; 2 also leaves out late answers. 4, 5 and 6 are 0, 1 and 2 for a CPU that
+/// never loads the counter. Returns 0, or 1 without any change if a limit is out of its range.
 #[unsafe(no_mangle)]
 pub extern "C" fn fio2070_log_judge_start(
     judge: &mut FlatLogJudge,
@@ -59,15 +61,26 @@ pub extern "C" fn fio2070_log_judge_start(
     start: u8,
 ) -> u8
     ensures made { are_flat_limits limits ≡ true → (result ≡ 0)
-        × (log_judge_in judge.new ≡ log_starting (limits_of limits) (place_taken place) (start_in start)) }
+        × (log_judge_in judge.new ≡ log_started (limits_of limits) place start) }
     ensures reserved { are_flat_limits limits ≡ true → LogReservesZeros judge.new }
     ensures refused { are_flat_limits limits ≡ false → (result ≡ 1) × (judge.new ≡ judge.old) }
 {
     let Some(limits) = limits_from(limits) else {
         return 1;
     };
-    *judge = log_flat_of(&LogJudge::new(limits, place_taken(place), start_from(start)));
+    *judge = log_flat_of(&judge_above(limits, place, start));
     0
+}
+
+/// Returns a judge above the first line of a log of a module with these limits.
+fn judge_above(limits: RuleLimits, place: u8, start: u8) -> LogJudge
+    ensures { log_judging result ≡ log_started limits place start }
+{
+    let mut judge = LogJudge::new(limits, place_taken(place), start_from(start));
+    if matches!(start, 4..=6) {
+        judge.never_loads();
+    }
+    judge
 }
 
 /// Takes a line that may have held a frame: nothing is judged until the next poll.
@@ -159,6 +172,7 @@ pub(crate) fn log_judge_from(flat: &FlatLogJudge) -> LogJudge
         contrary: flat.contrary,
         has_frames: flat.has_frames != 0,
         missing: missing_from(flat.missing),
+        never_loads: flat.never_loads != 0,
     }
 }
 
@@ -218,7 +232,8 @@ fn flat_without_late(judge: &LogJudge) -> FlatLogJudge
         polled: 0,
         first: 0,
         answered: 0,
-        reserved: [0; 5],
+        never_loads: u8::from(judge.never_loads),
+        reserved: [0; 4],
     }
 }
 
@@ -291,8 +306,8 @@ fn start_from(start: u8) -> LogStart
     ensures { result ≡ start_in start }
 {
     match start {
-        1 => LogStart::Begun,
-        2 => LogStart::LateAnswers,
+        1 | 5 => LogStart::Begun,
+        2 | 6 => LogStart::LateAnswers,
         _ => LogStart::Anywhere,
     }
 }

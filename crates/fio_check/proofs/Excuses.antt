@@ -53,7 +53,7 @@ content_load breach rule is = grind arith
 content_unheard : (breach : ContentBreach) (rule : ContentRule) → outcome_of_content breach rule ≡ Excused Unheard → ⊥
 content_unheard breach rule is = grind arith
 
-found_load : (unheard : Bool) (found : Option Breach) (content : Option ContentBreach) → outcome_found unheard found content ≡ Excused Load → ⊥
+pub found_load : (unheard : Bool) (found : Option Breach) (content : Option ContentBreach) → outcome_found unheard found content ≡ Excused Load → ⊥
 found_load unheard found content is = grind (arith, content_load)
 
 found_unheard : (unheard : Bool) (found : Option Breach) (content : Option ContentBreach) → outcome_found unheard found content ≡ Excused Unheard → unheard ≡ true

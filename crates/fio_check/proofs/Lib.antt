@@ -36,6 +36,7 @@ pub mod Excuses
 pub mod RestartsOnce
 pub mod RestartsFound
 pub mod LogLaws
+pub mod UnloadedLogs
 pub mod BothFind
 pub mod EventByEvent
 pub mod CountedTables

@@ -52,7 +52,7 @@ if-none : (judges : Bool) (taken content : ContentChecking) → taken.kept.facts
 if-none true taken content one other = one
 if-none false taken content one other = other
 
-none-with : (content : ContentChecking) (from_cpu : Bool) (octets : List ℕ) → content.kept.facts.excuses ≡ 0 → is_load from_cpu octets ≡ false
+pub none-with : (content : ContentChecking) (from_cpu : Bool) (octets : List ℕ) → content.kept.facts.excuses ≡ 0 → is_load from_cpu octets ≡ false
     → (checking_with content from_cpu octets).kept.facts.excuses ≡ 0
 none-with content from_cpu octets none other =
     if-none (from_cpu || content.begun) (record { begun = true; kept = kept_with content.kept from_cpu octets }) content
@@ -60,7 +60,7 @@ none-with content from_cpu octets none other =
     (events-calm content.kept.number (command_from from_cpu octets) (answer_from from_cpu octets) other))
     none
 
-loads-here : (judging : Judging) (skips : Skips) → (checking_above judging skips).kept.facts.excuses ≡ loads_left judging
+pub loads-here : (judging : Judging) (skips : Skips) → (checking_above judging skips).kept.facts.excuses ≡ loads_left judging
 loads-here judging skips = grind arith
 
 -- ---- a frame that keeps all rules

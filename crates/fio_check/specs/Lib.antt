@@ -27,6 +27,7 @@ pub mod MissingFrames
 pub mod LogJudges
 pub mod LineKinds
 pub mod LogLaws
+pub mod UnloadedLogs
 pub mod LogSigns
 pub mod LogCounts
 pub mod Counting

@@ -5,10 +5,10 @@
 use Rattle.std.specs.Prelude.{ℕ, ◌+◌, nat_le, ◌*◌, ◌&&◌, ◌||◌, Bool, List, [], ◌∷◌, ◌++◌, true, false, not, nat_lt, Option, Some, None, option_map, if◌then◌else◌}
 use Rattle.fio_check.specs.Checkers.{checker_with, found_by, passes_over}
 use Rattle.fio_check.specs.LateAnswers.{late_above, late_with, lateness_of}
-use Rattle.fio_check.specs.LinkJudges.{Judging, checking_again, judging_anywhere, judging_begun, judging_lost, judging_with, loads_left, outcome_found, outcome_in, unjudged_by}
+use Rattle.fio_check.specs.LinkJudges.{Judging, checker_below_lines, checking_again, judging_anywhere, judging_begun, judging_lost, judging_with, loads_left, outcome_found, outcome_in, unjudged_by}
 use Rattle.fio_check.specs.LinkKept.{judging}
 use Rattle.fio_check.specs.MissingFrames.{do_explain, missing_below}
-use Rattle.fio_check.specs.Observations.{observation_in}
+use Rattle.fio_check.specs.Observations.{observation_in, says_load}
 use Rattle.fio_check.specs.Places.{is_some_and}
 use Rattle.fio_check.specs.declared.checker.Breach.{Breach}
 use Rattle.fio_check.specs.declared.checker.Skips.{Skips}
@@ -49,6 +49,8 @@ pub record LogJudging : Type 0 where
   pub has_frames : Bool
   -- where frames may be missing, since a line speaks of loss
   pub missing : MissingFrames
+  -- no load of the counter is among lines that are lost
+  pub never_loads : Bool
 
 -- a judge, by its fields
 abbrev pub log_judging : LogJudge → LogJudging
@@ -60,6 +62,7 @@ log_judging judge = record {
   contrary = judge.contrary;
   has_frames = judge.has_frames;
   missing = judge.missing;
+  never_loads = judge.never_loads;
 }
 
 -- ---- where it begins
@@ -84,9 +87,24 @@ log_starting limits place start = record {
   contrary = 0;
   has_frames = false;
   missing = Nowhere;
+  never_loads = false;
 }
 
+-- the judge of the log of a CPU that never loads the counter
+abbrev pub log_unloaded : LogJudging → LogJudging
+log_unloaded log = record log { never_loads = true }
+
 -- ---- lines between frames
+
+-- the judge of a link where lines are lost, but no load of the counter
+abbrev pub judging_lost_unloaded : Judging → Judging
+judging_lost_unloaded judging =
+    record judging { checker = checker_below_lines judging.checker judging.checker.skips }
+
+-- the judge of a link where lines are lost: one of them may have been a load of the counter, unless the CPU never loads it
+abbrev pub link_lost : Bool → Judging → Judging
+link_lost true judging = judging_lost_unloaded judging
+link_lost false judging = judging_lost judging
 
 -- an answer to a command above can still come
 abbrev pub unsettled : LateAnswers → LateAnswers
@@ -94,7 +112,7 @@ unsettled late = record late { settled = false }
 
 -- the judge after a line that may have held a frame
 abbrev pub log_lost : LogJudging → LogJudging
-log_lost log = record log { link = judging_lost log.link; late = option_map unsettled log.late }
+log_lost log = record log { link = link_lost log.never_loads log.link; late = option_map unsettled log.late }
 
 -- whether a checker judges each frame from its first one on, as it does where a log begins with both ends
 abbrev pub judges_each : Skips → Bool
@@ -147,11 +165,13 @@ abbrev pub log_above : LogJudging → Bool → Observation → LogJudging
 log_above log from_cpu observation =
     if is_explained log from_cpu observation then log_lost log else log
 
--- that judge after counting the directions of this frame, which may end what a remark of loss explains
+-- that judge after counting the directions of this frame, which may end what a remark of loss explains; a load of the counter says
+-- that the CPU loads it
 abbrev pub log_reaching : LogJudging → Bool → Option Bool → Observation → LogJudging
 log_reaching log from_cpu said observation = record (log_above (log_counting log from_cpu said) from_cpu observation) {
   has_frames = true;
   missing = missing_below log.missing observation;
+  never_loads = log.never_loads && not (says_load observation);
 }
 
 -- Where a frame with a direction was logged: at the CPU's end, if at least four of five directions agree with the types of the
@@ -258,7 +278,7 @@ log_by_lateness InTime log late at from_cpu octets =
     (outcome_in_time log.link at from_cpu octets)
 log_by_lateness LateOne log late at from_cpu octets = log_forgetting log late
 log_by_lateness LateButTaken log late at from_cpu octets =
-    log_forgetting (record log { link = judging_lost log.link }) late
+    log_forgetting (record log { link = link_lost log.never_loads log.link }) late
 
 -- the judge after a frame in a log from which late answers are left out
 abbrev pub log_with_late : LogJudging → LateAnswers → LogPlace → Bool → List ℕ → LogJudging

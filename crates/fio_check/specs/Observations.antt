@@ -1,12 +1,12 @@
 -- What a line of a transcript says to the rules.
-use Rattle.std.specs.Prelude.{ℕ, ◌+◌, Bool, false, List, length, Option, Some, None, slice_get, nat_le, not}
+use Rattle.std.specs.Prelude.{ℕ, ◌+◌, ◌==◌, Bool, false, List, length, Option, Some, None, slice_get, nat_le, not}
 use Rattle.std.specs.List.{list_any}
 use Rattle.std.specs.Option.{option_map_or}
 use Rattle.fio_message.specs.Answers.{answer_code}
 use Rattle.fio_message.specs.Commands.{command_code}
 use Rattle.fio_message.specs.Status.{says_error}
 use Rattle.fio_message.specs.declared.limits.TheConstants.{INPUTS}
-use Rattle.fio_message.specs.declared.types.TheConstants.{ANSWER}
+use Rattle.fio_message.specs.declared.types.TheConstants.{ANSWER, LOAD_COUNTER_ANSWER}
 use Rattle.fio_message.specs.declared.answers.Answer.{Answer}
 use Rattle.fio_message.specs.declared.answers.Answer.TheVariants as answers
 use Rattle.fio_message.specs.declared.commands.Command.{Command}
@@ -51,6 +51,11 @@ abbrev pub observation_of : Option Command → Option Answer → Observation
 observation_of (Some command) heard = observation_of_command command
 observation_of None (Some answer) = observation_of_answer answer
 observation_of None None = seen.Unreadable
+
+-- a command is a load of the counter, by what it says
+abbrev pub says_load : Observation → Bool
+says_load (seen.Command answer names) = answer == LOAD_COUNTER_ANSWER
+says_load observation = false
 
 -- ---- by the octets
 

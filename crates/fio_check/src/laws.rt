@@ -1,5 +1,5 @@
 //! Laws of the definitions that the contracts cite. Each function states one in its contract, and does nothing.
-ghost use Rattle.std.specs.Prelude.{◌≡◌, ℕ, Bool, List, None, Option, option_map};
+ghost use Rattle.std.specs.Prelude.{◌≡◌, ℕ, Bool, List, None, Option, false, option_map};
 ghost use Rattle.fio_check.specs.Checkers.{BeginsAnywhere, GoesOn, verdict_of_checker};
 ghost use Rattle.fio_check.specs.ContentCheckers.{ContentChecking, checking_at_start, fault_found, found_first};
 ghost use Rattle.fio_check.specs.ContentEvents.{LineEvent};
@@ -17,6 +17,7 @@ ghost use Rattle.fio_check.specs.LogJudges.{LogEvent, LogJudging, late_starting,
 ghost use Rattle.fio_check.specs.LogLaws.{IsJudgedAsLink, JudgesFramesAlike, around_in, nothing_around};
 ghost use Rattle.fio_check.specs.Observations.{observation_at};
 ghost use Rattle.fio_check.specs.SignsOfLogs.{KeepsSigns, SignFrame};
+ghost use Rattle.fio_check.specs.UnloadedLogs.{JudgesUnloaded, SupposesNoLoad};
 ghost use Rattle.fio_check.specs.Verdicts.{verdict_on};
 ghost use Rattle.fio_check.specs.declared.checker.Checker.{Checker};
 ghost use Rattle.fio_check.specs.declared.limits.RuleLimits.{RuleLimits};
@@ -158,12 +159,13 @@ pub fn judges_excuse_what_is_shown()
 {}
 
 /// Without late answers the judge of a log gives each frame the outcome of the judge of a link, of the frames and of marks that are
-/// those of the events: from the first event of a log on, and below whatever the judge took. So the laws of the judge of a link are
-/// laws of logs.
+/// those of the events: from the first event of a log on, and below whatever the judge took, if the CPU may load the counter. So the
+/// laws of the judge of a link are laws of logs.
 pub fn logs_are_judged_as_links()
     ensures whole { (limits : RuleLimits) (place : Option LogPlace) (start : LogStart) (events : List LogEvent)
         → late_starting start ≡ None → IsJudgedAsLink nothing_around (log_starting limits place start) events }
-    ensures below { (log : LogJudging) (events : List LogEvent) → log.late ≡ None → IsJudgedAsLink (around_in log) log events }
+    ensures below { (log : LogJudging) (events : List LogEvent) → log.late ≡ None → log.never_loads ≡ false
+        → IsJudgedAsLink (around_in log) log events }
     ensures frames { (log : LogJudging) (at : LogPlace) (events : List LogEvent) → JudgesFramesAlike log at events }
 {}
 
@@ -184,4 +186,11 @@ pub fn signs_are_kept()
 /// command and poll, which answers of theirs are above, and whether another one can still come.
 pub fn late_answers_are_kept()
     ensures { (frames : List Observation) → KeepsLate frames }
+{}
+
+/// The judge of the log of a CPU that never loads the counter says of no frame that a load took effect, whatever lines are lost, and
+/// supposes no load among these. That ends at a load in the log.
+pub fn unloaded_logs_excuse_no_load()
+    ensures none { (log : LogJudging) (events : List LogEvent) → SupposesNoLoad log events }
+    ensures lines { (log : LogJudging) (at : LogPlace) (events : List LogEvent) → JudgesUnloaded log at events }
 {}

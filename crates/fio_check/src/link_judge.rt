@@ -3,7 +3,7 @@ ghost use Rattle.std.specs.Prelude.{◌≡◌, None, false, if◌then◌else◌,
 ghost use Rattle.fio_message.specs.Views.{answer_of};
 ghost use Rattle.fio_check.specs.LinkJudges.{any_stamp_in, is_answer_set_back, is_set_back, judging_anywhere, judging_begun, judging_below_outcome, judging_lost, judging_passed, judging_with, loads_below, loads_left, may_answer_anew, may_be_anew, outcome_anew, outcome_in, outcome_judged, outcome_set_back, place_lost, stamp_above, unjudged_by};
 ghost use Rattle.fio_check.specs.LinkKept.{judging};
-ghost use Rattle.fio_check.specs.LogJudges.{without_content};
+ghost use Rattle.fio_check.specs.LogJudges.{judging_lost_unloaded, without_content};
 ghost use Rattle.fio_check.specs.Observations.{observation_in};
 
 use crate::checker::{Checker, Skips};
@@ -81,10 +81,17 @@ impl LinkJudge {
     pub fn lose(&mut self)
         ensures { judging self.new ≡ judging_lost (judging self.old) }
     {
+        self.lose_unloaded();
+        self.content.may_miss_load();
+    }
+
+    /// Takes such a place, if none of the lines that are lost was a load of the counter.
+    pub fn lose_unloaded(&mut self)
+        ensures { judging self.new ≡ judging_lost_unloaded (judging self.old) }
+    {
         if !matches!(self.checker.skips, Skips::ToCommand) {
             self.checker = Checker::skipping(Skips::ToPoll, self.checker.limits);
         }
-        self.content.may_miss_load();
     }
 
     /// Takes a frame that was logged at `at` and that the CPU's end sent or heard, and returns its outcome.

@@ -2,7 +2,7 @@
 //! between them.
 ghost use Rattle.std.specs.Prelude.{◌≡◌};
 ghost use Rattle.fio_check.specs.LinkKept.{judging};
-ghost use Rattle.fio_check.specs.LogJudges.{end_of, is_excused_late, is_explained, is_of_late, judging_in_time, log_counting, log_forgetting, log_heading, log_judging, log_kept_late, log_lost, log_missing, log_possible, log_reaching, log_starting, log_with, log_with_late, outcome_in_log, outcome_in_time, outcome_kept_late, outcome_late, place_of};
+ghost use Rattle.fio_check.specs.LogJudges.{end_of, is_excused_late, is_explained, is_of_late, judging_in_time, link_lost, log_counting, log_forgetting, log_heading, log_judging, log_kept_late, log_lost, log_missing, log_possible, log_reaching, log_starting, log_unloaded, log_with, log_with_late, outcome_in_log, outcome_in_time, outcome_kept_late, outcome_late, place_of};
 ghost use Rattle.fio_check.specs.Observations.{observation_in};
 ghost use Rattle.fio_check.specs.declared.log_judge.LogOutcome.TheVariants.{Late};
 
@@ -76,6 +76,8 @@ pub struct LogJudge {
     pub has_frames: bool,
     /// Where frames may be missing, since a line speaks of loss.
     pub missing: MissingFrames,
+    /// Whether no load of the counter is among lines that are lost.
+    pub never_loads: bool,
 }
 
 impl LogJudge {
@@ -97,16 +99,38 @@ impl LogJudge {
             contrary: 0,
             has_frames: false,
             missing: MissingFrames::Nowhere,
+            never_loads: false,
         }
+    }
+
+    /// Takes that the CPU of this log never loads the counter, so that no load is among lines that are lost. That ends at a load in
+    /// the log.
+    pub fn never_loads(&mut self)
+        ensures { log_judging self.new ≡ log_unloaded (log_judging self.old) }
+    {
+        self.never_loads = true;
     }
 
     /// Takes a line that may have held a frame: nothing is judged until the next poll.
     pub fn lose(&mut self)
         ensures { log_judging self.new ≡ log_lost (log_judging self.old) }
     {
-        self.link.lose();
+        self.lose_link();
         if let Some(late) = &mut self.late {
             late.settled = false;
+        }
+    }
+
+    /// Takes lines that are lost to the judge of the link: one of them may have been a load of the counter, unless the CPU never
+    /// loads it.
+    fn lose_link(&mut self)
+        ensures { log_judging self.new
+            ≡ (record (log_judging self.old) { link = link_lost self.old.never_loads (judging self.old.link) }) }
+    {
+        if self.never_loads {
+            self.link.lose_unloaded();
+        } else {
+            self.link.lose();
         }
     }
 
@@ -154,7 +178,8 @@ impl LogJudge {
 
     // ---- Above a frame
 
-    /// Notes who sent a frame that says this, and loses the place if frames that are missing above explain what it breaks.
+    /// Notes who sent a frame that says this and whether it is a load, and loses the place if frames that are missing above explain
+    /// what it breaks.
     fn reach(&mut self, from_cpu: bool, said: Option<bool>, observation: Observation)
         ensures { log_judging self.new ≡ log_reaching (log_judging self.old) from_cpu said observation }
     {
@@ -164,6 +189,7 @@ impl LogJudge {
         }
         self.missing = self.missing.below(observation);
         self.has_frames = true;
+        self.never_loads = self.never_loads && !observation.is_load();
     }
 
     /// Counts whether the log names the end that sent a frame, or the other one.
@@ -239,7 +265,7 @@ impl LogJudge {
             }
             Lateness::Late => self.leave_out(below),
             Lateness::LateButTaken => {
-                self.link.lose();
+                self.lose_link();
                 self.leave_out(below)
             }
         }

@@ -3,10 +3,10 @@ ghost use Rattle.std.specs.Prelude.{◌≡◌, None};
 ghost use Rattle.std.specs.List.{list_any};
 ghost use Rattle.fio_message.specs.Decoding.{answer_in, command_in};
 ghost use Rattle.fio_message.specs.Views.{answer_of, command_of, entries_of, items_of};
-ghost use Rattle.fio_check.specs.Observations.{is_absent, observation_in, observation_of, observation_of_answer, observation_of_command, observation_on};
+ghost use Rattle.fio_check.specs.Observations.{is_absent, observation_in, observation_of, observation_of_answer, observation_of_command, observation_on, says_load};
 
 use crate::line::Line;
-use fio_message::types::{ANSWER, CONFIGURE_INPUTS_ANSWER};
+use fio_message::types::{ANSWER, CONFIGURE_INPUTS_ANSWER, LOAD_COUNTER_ANSWER};
 use fio_message::{
     AnswerView, CommandView, EntriesView, INPUTS, InputNumber, ItemsView, read_answer,
     read_command, says_error,
@@ -93,6 +93,13 @@ impl Observation {
                 names_absent: false,
             },
         }
+    }
+
+    /// Returns whether a frame that says this is a load of the counter.
+    pub fn is_load(self) -> bool
+        ensures { result ≡ says_load self }
+    {
+        matches!(self, Observation::Command { answer, .. } if answer == LOAD_COUNTER_ANSWER)
     }
 
     /// Returns what a frame that the CPU heard says.

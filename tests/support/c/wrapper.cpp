@@ -228,6 +228,13 @@ static void has_checkers() {
     fio2070::LogCounts counts;
     CHECK(!counts.frame(empty, 0) && counts->frames == 1 && counts->polls == 0);
     CHECK(fio2070::LogJudge::start(FIO2070_LOG_TAKEN_AT_CPU, FIO2070_LOG_LEAVES_OUT_LATE)->frame(empty, false).why == FIO2070_WHY_LATE);
+    for (bool never_loads : {false, true}) {
+        auto judge = fio2070::LogJudge::start(FIO2070_LOG_TAKEN_AUTO, FIO2070_LOG_BEGINS_ANYWHERE, 255, 1024, never_loads);
+        judge->frame(List({54, 5}), true), judge->frame(List({182, 5, 0, 0, 0, 0, 3, 232}), false);
+        judge->lose();
+        judge->frame(List({54, 6}), true);
+        CHECK(judge->frame(List({182, 6, 0, 0, 0, 0, 0, 10}), false).kind == (never_loads ? FIO2070_OUTCOME_RESTARTED : FIO2070_OUTCOME_EXCUSED));
+    }
 }
 
 // What breaks a rule where a poll was sent, and the answer is another.

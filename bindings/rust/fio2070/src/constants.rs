@@ -146,10 +146,11 @@ pub const LOG_TAKEN_AT_CPU: u8 = 1;
 pub const LOG_TAKEN_AT_MODULE: u8 = 2;
 pub const LOG_TAKEN_ON_BUS: u8 = 3;
 
-/// How a log begins, or that late answers are left out of it.
+/// How a log begins, or that late answers are left out of it; added to one of these, that its CPU never loads the counter.
 pub const LOG_BEGINS_ANYWHERE: u8 = 0;
 pub const LOG_BEGINS_WITH_ENDS: u8 = 1;
 pub const LOG_LEAVES_OUT_LATE: u8 = 2;
+pub const LOG_NEVER_LOADS: u8 = 4;
 
 /// What kind of log a log looks like.
 pub const LOG_SIGN_NONE: u8 = 0;

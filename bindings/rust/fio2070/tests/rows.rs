@@ -292,6 +292,22 @@ fn judges_of_logs_take_frames_and_lines() {
 }
 
 #[test]
+fn lost_lines_of_a_cpu_that_never_loads_the_counter_are_no_load() {
+    for (start, expected) in [
+        (LOG_BEGINS_WITH_ENDS, OUTCOME_EXCUSED),
+        (LOG_BEGINS_WITH_ENDS + LOG_NEVER_LOADS, OUTCOME_RESTARTED),
+    ] {
+        let mut judge = LogJudge::new(LOG_TAKEN_AT_CPU, start, 255, 1024).unwrap();
+        judge.frame(true, LOG_FROM_CPU, &[0x36, 5]);
+        judge.frame(false, LOG_FROM_MODULE, &[0xb6, 5, 0, 0, 0, 0, 3, 0xe8]);
+        judge.lose();
+        judge.frame(true, LOG_FROM_CPU, &[0x36, 6]);
+        let back = judge.frame(false, LOG_FROM_MODULE, &[0xb6, 6, 0, 0, 0, 0, 0, 10]);
+        assert_eq!(back.kind, expected);
+    }
+}
+
+#[test]
 fn frames_of_logs_are_counted_and_have_signs() {
     let mut counts = LogCounts::new();
     assert_eq!(counts.frame(&POLL, Some(10)), None);
