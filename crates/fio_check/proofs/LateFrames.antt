@@ -1,5 +1,5 @@
 -- What decides which answers are late, as it is kept frame by frame, is what the frames above decide.
-use Rattle.fio_check.proofs.Names.{◌≡◌, ◌∙◌, ◌+◌, ◌%◌, ◌==◌, ◌&&◌, ◌||◌, ◌⊎◌, inl, inr, ℕ, zero, suc, Bool, true, false, List, Option, Some, None, refl, sym, ap, not, slice_get, fold, if◌then◌else◌, is_some, option_or, option_map, option_and_then, latest_above, is_some_and, Placed, Observation, Poll, Unreadable}
+use Rattle.fio_check.proofs.Names.{◌≡◌, ◌∙◌, ◌+◌, ◌%◌, ◌==◌, ◌&&◌, ◌||◌, ◌⊎◌, inl, inr, ℕ, zero, suc, Bool, true, false, List, Option, Some, None, refl, sym, not, slice_get, if◌then◌else◌, is_some, option_or, option_map, option_and_then, latest_above, is_some_and, Placed, Observation, Poll, Unreadable}
 use Rattle.fio_check.proofs.EventByEvent.{fold_is}
 use Rattle.fio_check.specs.Facts.{awaited_below}
 use Rattle.fio_check.specs.LateAnswers.{awaits, late_above, late_below_answer, late_with, lateness_of, lateness_of_block, lateness_of_polled, unawaited_block}

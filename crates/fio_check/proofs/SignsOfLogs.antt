@@ -1,13 +1,13 @@
 -- The signs of a log that are kept frame by frame are those of the frames above the next one.
-use Rattle.fio_check.proofs.Names.{◌≡◌, ◌∙◌, ◌+◌, ◌-◌, ◌^◌, ◌%◌, ◌==◌, ◌&&◌, ℕ, zero, suc, Bool, true, false, List, [], ◌∷◌, Option, Some, None, refl, sym, ap, arith, length, not, slice_get, fold, nat_tests, if◌then◌else◌, is_some, option_map, option_and_then, is_some_and}
-use Rattle.std.specs.List.{cons_option, filter_map}
-use Rattle.std.specs.Prelude.{min, nat_le}
+use Rattle.fio_check.proofs.Names.{◌≡◌, ◌∙◌, ◌+◌, ◌==◌, ◌&&◌, ℕ, zero, suc, Bool, true, false, List, [], ◌∷◌, Option, Some, None, refl, sym, ap, arith, length, not, slice_get, fold, nat_tests, if◌then◌else◌, option_map, option_and_then, is_some_and}
+use Rattle.std.specs.List.{cons_option}
+use Rattle.std.specs.Prelude.{nat_le}
 use Rattle.std.specs.Str.{bytes_eq}
 use Rattle.fio_message.specs.Bits.{bit_of}
 use Rattle.fio_message.specs.declared.limits.TheConstants.{FRAME_OCTETS}
 use Rattle.fio_check.proofs.EventByEvent.{fold_is}
 use Rattle.fio_check.specs.LogJudges.{one_more}
-use Rattle.fio_check.specs.LogSigns.{are_contrary, block_seen, is_backward, is_second, no_blocks, no_repeats, no_rows, no_signs, octets_kept, one_more_if, order_with, repeats_above, repeats_with, repeats_with_answer, rows_with, signs_with, signs_with_block}
+use Rattle.fio_check.specs.LogSigns.{are_contrary, block_seen, is_backward, is_second, no_blocks, no_repeats, no_rows, no_signs, octets_kept, one_more_if, order_with, repeats_above, repeats_with, repeats_with_answer, rows_with, signs_with_block}
 use Rattle.fio_check.specs.Places.{place_above}
 use Rattle.fio_check.specs.SignsOfLogs.{KeepsSigns, SignFrame, at_most, is_repeat_at, latest_block_seen, named_at, numbers_of, octets_at, order_at, repeats_at, repeats_octets, signs_of, signs_with_frame}
 use Rattle.fio_check.specs.declared.block_order.BlockOrder.{BlockOrder}

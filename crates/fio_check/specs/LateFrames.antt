@@ -1,5 +1,5 @@
 -- What decides which answers are late, by all that is above a place of the log.
-use Rattle.std.specs.Prelude.{◌≡◌, ℕ, suc, ◌+◌, ◌%◌, ◌==◌, ◌&&◌, ◌||◌, Bool, true, false, not, List, length, slice_get, fold, Option, Some, None, is_some, option_map, option_and_then, unwrap_or, if◌then◌else◌}
+use Rattle.std.specs.Prelude.{◌≡◌, ℕ, suc, ◌+◌, ◌%◌, ◌==◌, ◌&&◌, ◌||◌, Bool, true, false, not, List, length, slice_get, fold, Option, Some, None, is_some, option_map, option_and_then, if◌then◌else◌}
 use Rattle.fio_check.specs.Facts.{awaited_below, number_polled}
 use Rattle.fio_check.specs.LateAnswers.{late_above, late_with, lateness_of}
 use Rattle.fio_check.specs.Places.{Placed, is_some_and, latest_above}

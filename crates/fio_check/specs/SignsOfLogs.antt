@@ -1,5 +1,5 @@
 -- The signs of a log, by all that is above a place of the log: how many frames there are such. Numbers are at most 2^32 - 1.
-use Rattle.std.specs.Prelude.{◌≡◌, ℕ, suc, ◌-◌, ◌^◌, ◌==◌, ◌&&◌, Bool, false, not, nat_le, min, List, [], length, slice_get, fold, Option, Some, None, is_some, option_map, option_and_then}
+use Rattle.std.specs.Prelude.{◌≡◌, ℕ, ◌-◌, ◌^◌, ◌==◌, ◌&&◌, Bool, not, nat_le, min, List, [], length, slice_get, fold, Option, is_some, option_map, option_and_then}
 use Rattle.std.specs.List.{filter_map}
 use Rattle.std.specs.Option.{option_map_or}
 use Rattle.std.specs.Str.{bytes_eq}
