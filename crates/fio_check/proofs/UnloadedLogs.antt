@@ -163,16 +163,18 @@ module _ (log : LogJudging) (at : LogPlace) (from_cpu : Bool) (octets : List ℕ
       × (is_by_load (outcome_by_lateness lateness late (outcome_in_time log.link at from_cpu octets)) ≡ false)
   lateness_unloaded InTime late =
       let outcome = outcome_in_time log.link at from_cpu octets in
-      let below : LogJudging = record log { link = judging_in_time log.link at from_cpu octets } in
-      (settled_unloaded (late_settled late outcome) below (record late { settled = true }) (unsettled late) (record { never = unloaded.never; none = timely_none }),
-      kept_late_by (is_excused_late (late_settled late outcome) outcome) outcome timely_outcome)
+      let below : LogJudging = record log { link = judging_in_time log.link at from_cpu octets } in (
+        settled_unloaded (late_settled late outcome) below (record late { settled = true }) (unsettled late) (record { never = unloaded.never; none = timely_none }),
+        kept_late_by (is_excused_late (late_settled late outcome) outcome) outcome timely_outcome,
+      )
   lateness_unloaded LateOne late = (record { never = unloaded.never; none = unloaded.none }, refl)
   lateness_unloaded LateButTaken late = (record { never = unloaded.never; none = link_none log.never_loads log.link unloaded.never unloaded.none }, refl)
 
   below_unloaded : (late : Option LateAnswers) → IsUnloaded (log_below log late at from_cpu octets) × (is_by_load (outcome_here log late at from_cpu octets) ≡ false)
-  below_unloaded None =
-      (record { never = unloaded.never; none = with_none log.link at from_cpu octets unloaded.none quiet },
-      by_none (outcome_in log.link at from_cpu octets) (not_load log.link at from_cpu octets unloaded.none))
+  below_unloaded None = (
+    record { never = unloaded.never; none = with_none log.link at from_cpu octets unloaded.none quiet },
+    by_none (outcome_in log.link at from_cpu octets) (not_load log.link at from_cpu octets unloaded.none),
+  )
   below_unloaded (Some late) =
       lateness_unloaded (lateness_of late (observation_in from_cpu octets)) (late_with late (observation_in from_cpu octets))
 
