@@ -1,13 +1,12 @@
 -- Without late answers the judge of a log is the judge of a link.
 use Rattle.std.proofs.Common.{arith}
 use Rattle.fio_check.proofs.Names.{Bool, Breach, Frame, FrameOutcome, Judging, Link, List, LogJudging, LogLine, LogPlace, None, Observation, Option, Some, [], ap, append_assoc, ap₂, false, flat_map, if◌then◌else◌, inl, inr, is_some_and, judging_below, judging_with, log_reached, map, map-append, not, observation_in, outcome_in, outcome_reached, outcomes_of, place_of, refl, subst, sym, true, ℕ, ◌&&◌, ◌++◌, ◌∙◌, ◌∷◌, ◌≡◌, ◌⊎◌}
-use Rattle.std.specs.List.{list_all}
 use Rattle.std.specs.Prelude.{nat_le, nat_lt, ◌+◌, ◌*◌, ◌||◌}
 use Rattle.fio_check.specs.Checkers.{found_by}
 use Rattle.fio_check.specs.LinkJudges.{judging_with_line, outcome_on}
 use Rattle.fio_check.specs.LinkJudges.{Lost as Mark}
 use Rattle.fio_check.specs.LogJudges.{Found, Heading, LogEvent, Lost, Missing, Possible, end_of, is_breach_explained, is_explained, judges_each, log_below_events, log_counting, log_lost, log_with, log_with_event, one_more, outcome_in_log, outcome_of_event, outcomes_in_log, place_by}
-use Rattle.fio_check.specs.LogLaws.{AreLinesOf, AreLinesOfEvent, Around, IsJudgedAsLink, JudgesFramesAlike, around_frame, around_in, around_said, around_with, is_direct, is_found, is_remarked, is_rule_of_loss, line_at, mark_if}
+use Rattle.fio_check.specs.LogLaws.{AreLinesOf, AreLinesOfEvent, Around, IsJudgedAsLink, JudgesFramesAlike, around_frame, around_in, around_said, around_with, is_direct, is_remarked, is_rule_of_loss, line_at, mark_if}
 use Rattle.fio_check.specs.Observations.{says_load}
 use Rattle.fio_check.specs.MissingFrames.{do_explain, missing_below}
 use Rattle.fio_check.specs.declared.late_answers.LateAnswers.{LateAnswers}

@@ -1,7 +1,6 @@
 -- The judge of the log of a CPU that never loads the counter.
 use Rattle.std.proofs.Common.{arith}
-use Rattle.fio_check.proofs.Names.{Bool, Command, ContentBreach, Breach, ContentChecking, Frame, FrameOutcome, Judging, Link, List, LogJudging, LogLine, LogPlace, None, Observation, Option, Some, [], ap, ap₂, checking_above, checking_with, command_from, content_here, false, flat_map, found_by, if◌then◌else◌, is_loading, is_some, is_some_and, judging_with, list_any, loads_below, loads_left, log_reached, map, nat_lt, not, observation_in, outcome_found, outcome_in, outcome_reached, passes_over, place_lost, place_of, refl, subst, sym, true, ℕ, ◌&&◌, ◌++◌, ◌∙◌, ◌∷◌, ◌≡◌, ◌||◌}
-use Rattle.std.specs.List.{list_all}
+use Rattle.fio_check.proofs.Names.{Bool, Command, Breach, ContentChecking, FrameOutcome, Judging, Link, List, LogJudging, LogPlace, None, Observation, Option, Some, [], ap, ap₂, checking_with, command_from, content_here, false, flat_map, found_by, if◌then◌else◌, is_loading, is_some, is_some_and, judging_with, list_any, loads_below, loads_left, map, nat_lt, not, observation_in, outcome_found, outcome_in, passes_over, place_of, refl, sym, true, ℕ, ◌&&◌, ◌++◌, ◌∙◌, ◌∷◌, ◌≡◌, ◌||◌}
 use Rattle.std.specs.Prelude.{option_map}
 use Rattle.fio_message.specs.declared.answers.Answer.{Answer}
 use Rattle.fio_check.specs.Checkers.{checker_with}
@@ -9,19 +8,16 @@ use Rattle.fio_check.specs.ContentEvents.{Sent}
 use Rattle.fio_check.specs.LateAnswers.{late_with, lateness_of}
 use Rattle.fio_check.specs.Lines.{answer_from}
 use Rattle.fio_check.specs.LinkJudges.{judging_at, judging_below_outcome, judging_passed, judging_taken, stamp_in, unjudged_by}
-use Rattle.fio_check.specs.LinkJudges.{Lost as Mark}
 use Rattle.fio_check.specs.LinkLaws.{is_load}
-use Rattle.fio_check.specs.LogJudges.{Found, Heading, LogEvent, Lost, Missing, Possible, has_content, is_excused_late, is_explained, is_same_end, judges_each, judging_in_time, judging_lost_unloaded, late_settled, link_lost, log_above, log_below, log_below_events, log_by_lateness, log_counting, log_forgetting, log_heading, log_kept_late, log_lost, log_missing, log_possible, log_reaching, log_with, log_with_event, one_more, outcome_by_lateness, outcome_here, outcome_in_log, outcome_in_time, outcome_kept_late, outcome_of_event, outcome_without_content, outcomes_in_log, unsettled}
-use Rattle.fio_check.specs.Observations.{observation_of, observation_of_answer, says_load}
-use Rattle.fio_check.specs.UnloadedLogs.{JudgesUnloaded, SupposesNoLoad, is_by_load, is_found_or_lost, is_load_event, line_or_mark_at, unloaded_outcomes_of}
+use Rattle.fio_check.specs.LogJudges.{Found, Heading, LogEvent, Lost, Missing, Possible, has_content, is_excused_late, is_explained, is_same_end, judges_each, judging_in_time, late_settled, link_lost, log_below, log_below_events, log_by_lateness, log_counting, log_forgetting, log_heading, log_lost, log_missing, log_possible, log_reaching, log_with, log_with_event, one_more, outcome_by_lateness, outcome_here, outcome_in_log, outcome_in_time, outcome_without_content, outcomes_in_log, unsettled}
+use Rattle.fio_check.specs.Observations.{observation_of, says_load}
+use Rattle.fio_check.specs.UnloadedLogs.{JudgesUnloaded, SupposesNoLoad, is_by_load, is_load_event, line_or_mark_at, unloaded_outcomes_of}
 use Rattle.fio_check.specs.declared.late_answers.LateAnswers.{LateAnswers}
 use Rattle.fio_check.specs.declared.late_answers.Lateness.{Lateness}
 use Rattle.fio_check.specs.declared.late_answers.Lateness.TheVariants.{InTime, LateButTaken}
 use Rattle.fio_check.specs.declared.late_answers.Lateness.TheVariants.{Late as LateOne}
 use Rattle.fio_check.specs.declared.log_judge.LogOutcome.{LogOutcome}
 use Rattle.fio_check.specs.declared.log_judge.LogOutcome.TheVariants.{LateAbove}
-use Rattle.fio_check.specs.declared.missing_frames.MissingFrames.TheVariants.{Nowhere}
-use Rattle.fio_check.specs.declared.outcome.Excuse.{Excuse}
 use Rattle.fio_check.specs.declared.outcome.Excuse.TheVariants.{Load, Unheard}
 use Rattle.fio_check.specs.declared.outcome.FrameOutcome.TheVariants.{Broken, BrokenContent, Excused, Kept, NotJudged, Restarted}
 use Rattle.fio_check.specs.declared.outcome.Unjudged.{Unjudged}

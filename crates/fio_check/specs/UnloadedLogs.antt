@@ -1,5 +1,5 @@
 -- Laws of the judge of the log of a CPU that never loads the counter: it supposes no load among lines that are lost.
-use Rattle.std.specs.Prelude.{◌≡◌, Bool, ◌&&◌, true, false, not, List, [], ◌∷◌, ◌++◌, Some, None, ℕ, map}
+use Rattle.std.specs.Prelude.{◌≡◌, Bool, ◌&&◌, true, false, not, List, [], ◌∷◌, ◌++◌, Some, None, map}
 use Rattle.std.specs.List.{flat_map, list_all, list_any}
 use Rattle.fio_check.specs.LinkJudges.{Frame, Judging, LogLine, judging_with, loads_left, outcome_on}
 use Rattle.fio_check.specs.LinkJudges.{Lost as Mark}
