@@ -45,14 +45,15 @@
 //! by what the log says of the lines between the frames too (`outcome` and `next` of `LogJudge::frame`; the clauses of
 //! `LogJudge::line`, `LogJudge::below_frame` and of the calls that they make). Without late answers it is the judge of a link, of the frames
 //! with marks that the events of the log decide (`logs_are_judged_as_links`). So what is proved of that
-//! judge holds of this one, if its premises hold with these marks.
+//! judge holds of this one, if its premises hold with these marks. Of a CPU that never loads the counter it supposes no load among lost
+//! lines (`unloaded_logs_excuse_no_load`).
 //!
 //! `LogCounts` counts of each frame what `counts_with` says, and returns how long the module took for an answer (`next` and
 //! `time` of `LogCounts::frame`; the clause of `LogCounts::lose`). `LogSigns` counts as `signs_with` says (clause of
 //! `LogSigns::frame`), and says the sign that `sign_of` defines by the counts (clause of `LogSigns::sign`).
 //!
-//! Only tested: that no right end is accused where late answers are left out, or where the judge finds by itself where the log
-//! was taken; that the logs of right links have no sign, and the four other kinds of logs theirs.
+//! Only tested: that no right end is accused where late answers are left out, where the CPU never loads the counter, or where the
+//! judge finds by itself where the log was taken; that the logs of right links have no sign, and the four other kinds of logs theirs.
 #![tactic(auto)]
 
 mod block_order;
