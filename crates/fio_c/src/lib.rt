@@ -75,6 +75,7 @@ mod log_counts;
 mod log_forms;
 mod log_judge;
 mod log_judge_batch;
+mod log_parts;
 mod log_signs;
 mod log_verdicts;
 mod makers;
