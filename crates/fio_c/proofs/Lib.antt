@@ -15,6 +15,7 @@ pub mod Batches
 pub mod BatchItems
 pub mod LogParts
 pub mod TakenLines
+pub mod PartLaws
 pub mod Returned
 pub mod Lent
 pub mod TakenOctets

@@ -8,14 +8,25 @@ use Rattle.fio_c.specs.declared.log_batch.LogVerdict.{LogVerdict}
 
 -- ---- the frames of a part, line by line
 
+take-none : (n : ℕ) → take {A = List ℕ} n [] ≡ []
+take-none zero = refl
+take-none (suc n) = refl
+
+drop-none : (n : ℕ) → drop {A = List ℕ} n [] ≡ []
+drop-none zero = refl
+drop-none (suc n) = refl
+
+own-none : (is_own : Bool) {rest : List (List ℕ)} → rest ≡ [] → (if is_own then [] else []) ++ rest ≡ []
+own-none true is = is
+own-none false is = is
+
 -- without frames there are none
 no-frames : (mask : List ℕ) (verdicts : List LogVerdict) → frames_in_part mask verdicts [] ≡ []
 no-frames mask [] = refl
-no-frames mask (verdict ∷ verdicts) = own-none (slice_index mask 0 == 1) (no-frames (drop 1 mask) verdicts)
-  where
-    own-none : (is_own : Bool) {rest : List (List ℕ)} → rest ≡ [] → (if is_own then [] else []) ++ rest ≡ []
-    own-none true is = is
-    own-none false is = is
+no-frames mask (verdict ∷ verdicts) =
+    ap₂ (λ (own rest : List (List ℕ)). (if slice_index mask 0 == 1 then own else []) ++ frames_in_part (drop 1 mask) verdicts rest)
+    (take-none verdict.frames) (drop-none verdict.frames)
+    ∙ own-none (slice_index mask 0 == 1) (no-frames (drop 1 mask) verdicts)
 
 -- the first frames of a part, if those below are some of these below
 first-own : (below : List (List ℕ) → List (List ℕ)) (none : below [] ≡ []) (n : ℕ) (frames : List (List ℕ))
