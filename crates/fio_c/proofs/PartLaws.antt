@@ -1,7 +1,7 @@
 -- The judge, the counts and the signs hear of a part of a batch what its mask takes.
-use Rattle.std.proofs.Common.{◌≡◌, ℕ, Bool, List, [], ◌∷◌, ◌++◌, fold, length, map, Option, None, Some, refl, ap, ap₂, ◌∙◌}
+use Rattle.std.proofs.Common.{◌≡◌, ℕ, Bool, List, [], ◌∷◌, ◌++◌, fold, map, Option, None, Some, refl, ap, ap₂, ◌∙◌}
 use Rattle.std.proofs.Math.Seq.{take-append_seam, drop-append_seam}
-use Rattle.std.specs.List.{cons_option, flat_map}
+use Rattle.std.specs.List.{cons_option}
 use Rattle.fio_check.specs.LogJudges.{LogJudging}
 use Rattle.fio_check.specs.declared.log_counts.LogCounts.{LogCounts}
 use Rattle.fio_check.specs.declared.log_signs.LogSigns.{LogSigns}
@@ -11,7 +11,7 @@ use Rattle.fio_c.specs.LogJudges.{log_below_item, outcome_of_item, outcomes_of_i
 use Rattle.fio_c.specs.LogSigns.{signs_with_item}
 use Rattle.fio_c.specs.Logs.{content_of, flat_told}
 use Rattle.fio_c.specs.PartLaws.{CountsTaken, JoinsTaken, JudgesTaken, SignsTaken}
-use Rattle.fio_c.specs.TakenLines.{anywhere, taken_items, taken_of, taken_of_verdicts}
+use Rattle.fio_c.specs.TakenLines.{anywhere, taken_of, taken_of_verdicts}
 use Rattle.fio_c.specs.Told.{Told}
 use Rattle.fio_c.specs.declared.log_batch.LogVerdict.{LogVerdict}
 use Rattle.fio_c.proofs.TakenLines.{Hears, taken_said}
@@ -53,9 +53,10 @@ outcomes-hear as_said = record {
 }
 
 pub judges_taken : JudgesTaken
-judges_taken as_said judge mask content =
-    (taken_said (fold (log_below_item as_said)) (judge-hears as_said) mask content judge,
-    taken_said (outcomes_of_items as_said) (outcomes-hear as_said) mask content judge)
+judges_taken as_said judge mask content = (
+  taken_said (fold (log_below_item as_said)) (judge-hears as_said) mask content judge,
+  taken_said (outcomes_of_items as_said) (outcomes-hear as_said) mask content judge,
+)
 
 -- ---- the counts
 

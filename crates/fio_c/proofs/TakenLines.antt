@@ -1,9 +1,9 @@
 -- What is said of the part of a batch is what is said of what its mask takes.
 use Rattle.std.proofs.Common.{◌≡◌, ℕ, suc, zero, ◌==◌, Bool, true, false, List, [], ◌∷◌, ◌++◌, take, drop, Option, None, Some, refl, sym, ap, ap₂, ◌∙◌, slice_index, if◌then◌else◌}
 use Rattle.fio_c.specs.BatchItems.{BatchItem, frame_items, items_of_content, items_of_verdicts}
-use Rattle.fio_c.specs.LogParts.{frames_in_part, line_in_part, lines_in_part, part_of}
+use Rattle.fio_c.specs.LogParts.{frames_in_part, lines_in_part, part_of}
 use Rattle.fio_c.specs.Logs.{Content}
-use Rattle.fio_c.specs.TakenLines.{anywhere, damaged_line, taken_items, taken_of, taken_of_verdicts}
+use Rattle.fio_c.specs.TakenLines.{anywhere, damaged_line, taken_items, taken_of_verdicts}
 use Rattle.fio_c.specs.declared.log_batch.LogVerdict.{LogVerdict}
 
 -- ---- the frames of a part, line by line
@@ -68,13 +68,13 @@ module _ {S R : Type 0} (says : S → List BatchItem → R) (hears : Hears says)
       (below : List (List ℕ) → List (List ℕ)) (others : List BatchItem) → below [] ≡ []
       → ((state : S) → says state (items_of_verdicts lines (below (drop verdict.frames frames))) ≡ says state others)
       → (state : S) → says state (items_of_verdicts
-          ((if is_own then record verdict { places = 0 }
-          else if is_damaged then record verdict { frames = 0; places = 0; kind = 4; reason = 2 }
-          else record verdict { frames = 0; places = 0; kind = 0; reason = 0 }) ∷ lines)
-          ((if is_own then take verdict.frames frames else []) ++ below (drop verdict.frames frames)))
+      ((if is_own then record verdict { places = 0 }
+      else if is_damaged then record verdict { frames = 0; places = 0; kind = 4; reason = 2 }
+      else record verdict { frames = 0; places = 0; kind = 0; reason = 0 }) ∷ lines)
+      ((if is_own then take verdict.frames frames else []) ++ below (drop verdict.frames frames)))
       ≡ says state ((if is_own then (anywhere verdict, None) ∷ frame_items (anywhere verdict) (take verdict.frames frames)
-          else if is_damaged then (damaged_line, None) ∷ []
-          else []) ++ others)
+      else if is_damaged then (damaged_line, None) ∷ []
+      else []) ++ others)
   line-said true is_damaged verdict lines frames below others none rest state =
       let count = verdict.frames in
       let own = take count frames in

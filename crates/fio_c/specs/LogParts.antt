@@ -1,6 +1,5 @@
 -- A part of a batch of the reader of logs: some of its lines, and blank ones in place of the others.
-use Rattle.std.specs.Prelude.{ℕ, ◌==◌, List, [], ◌∷◌, ◌++◌, take, drop, None, slice_index, if◌then◌else◌}
-use Rattle.fio_c.specs.BatchItems.{BatchItem, frame_items}
+use Rattle.std.specs.Prelude.{ℕ, ◌==◌, List, [], ◌∷◌, ◌++◌, take, drop, slice_index, if◌then◌else◌}
 use Rattle.fio_c.specs.Logs.{Content}
 use Rattle.fio_c.specs.declared.log_batch.LogVerdict.{LogVerdict}
 
