@@ -1194,6 +1194,14 @@ size_t fio2070_log_read(struct fio2070_log_reader *reader, const uint8_t *octets
  * that are left; call it until it gives none. A verdict that was due before stays as it was. */
 void fio2070_log_end(struct fio2070_log_reader *reader);
 
+/** Writes a part of a batch that fio2070_log_read wrote over what `part` held, and returns how many frames it has. A part has a
+ * verdict for each line of the batch. `mask` has an octet for each: 1 takes the line as it is, with its frames; 2 as damaged,
+ * with the reason FIO2070_LOG_NO_MESSAGE; 0 not at all: it is blank. Lines that `mask` does not reach are not taken. A part has
+ * no places. What the judge, the counts and the signs say of a part depends on the lines alone that are taken (proved). */
+FIO2070_MUST_USE
+uint32_t fio2070_log_batch_part(const struct fio2070_log_batch *batch, const uint8_t *mask, size_t length,
+                                struct fio2070_log_batch *part);
+
 /** Lines of one form: what is before their octets, and how many there are. */
 struct fio2070_log_read_as {
     /** The number of the first line that was read by it, from 1; 0 if there was none. */

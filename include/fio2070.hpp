@@ -464,6 +464,12 @@ private:
     ::fio2070_log_reader reader_;
 };
 
+/// Writes a part of a batch that `LogReader::read` wrote, and returns how many frames it has: the lines that `mask` has 1 for, those
+/// that it has 2 for as damaged, and blank ones in place of the others. It has no places.
+inline std::uint32_t take_part(const ::fio2070_log_batch &batch, Octets mask, ::fio2070_log_batch &part) {
+    return ::fio2070_log_batch_part(&batch, mask.data(), mask.size(), &part);
+}
+
 /// The judge of a log: it says what each frame is that a reader finds, by what the log says of the lines between them too.
 class LogJudge {
 public:

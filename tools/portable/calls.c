@@ -575,6 +575,22 @@ uint32_t fio2070_log_judge_batch(struct fio2070_log_judge *judge, uint8_t as_sai
     return count;
 }
 
+uint32_t fio2070_log_batch_part(const struct fio2070_log_batch *batch, const uint8_t *mask, size_t length,
+                                struct fio2070_log_batch *part) {
+    const uint32_t verdicts = batch->verdict_count, frames = batch->frame_count, places = batch->place_count;
+    uint32_t count;
+    MACHINE(fio2070_log_batch_part);
+    settle_given(batch, verdicts, frames, places);
+    {
+        uint64_t a = READS(batch, sizeof *batch), b = READS(mask, length), c = WRITES(part, sizeof *part);
+        count = (uint32_t)call_fio2070_log_batch_part(&machine, a, b, length, c);
+    }
+    settle_given(batch, verdicts, frames, places);
+    if (!IS_LITTLE)
+        settle_batch(part, get32((const uint8_t *)&part->verdict_count), get32((const uint8_t *)&part->frame_count), 0);
+    return count;
+}
+
 SAME(size_of_log_signs, sizeof(struct fio2070_log_signs), 816);
 
 OVER(log_signs, start, 1, void, , (struct fio2070_log_signs * log_signs), it)

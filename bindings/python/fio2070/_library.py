@@ -265,6 +265,7 @@ _declare('fio2070_log_judge_miss', None, POINTER(CLogJudge))
 _declare('fio2070_log_judge_frame', c_uint8, POINTER(CLogJudge), c_uint8, c_uint8, c_char_p, c_size_t,
          POINTER(CJudgeOutcome))
 _declare('fio2070_log_judge_batch', c_uint32, POINTER(CLogJudge), c_uint8, POINTER(CLogBatch), POINTER(CJudgeOutcome))
+_declare('fio2070_log_batch_part', c_uint32, POINTER(CLogBatch), c_char_p, c_size_t, POINTER(CLogBatch))
 _declare('fio2070_log_signs_start', None, POINTER(CLogSigns))
 _declare('fio2070_log_signs_frame', None, POINTER(CLogSigns), c_uint8, c_uint8, c_char_p, c_size_t)
 _declare('fio2070_log_signs_batch', None, POINTER(CLogSigns), c_uint8, POINTER(CLogBatch))

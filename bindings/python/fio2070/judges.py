@@ -9,7 +9,6 @@ from . import _library as c
 from . import constants
 from .encode import Octets, check_range, octets_of
 from .log_batches import MOST_FRAMES, LogBatch
-from .log_parts import TAKEN, masked
 from .records import Breach, ContentBreach, Outcome
 
 _PLACES = {'auto': constants.LOG_TAKEN_AUTO, 'cpu': constants.LOG_TAKEN_AT_CPU, 'module': constants.LOG_TAKEN_AT_MODULE,
@@ -19,8 +18,8 @@ _SIDES = {'': constants.LOG_NO_SIDE, '>': constants.LOG_FROM_CPU, '<': constants
 _SIGNS = {constants.LOG_SIGN_NONE: '', constants.LOG_SIGN_TWICE: 'twice', constants.LOG_SIGN_BOTH_ENDS: 'both ends',
           constants.LOG_SIGN_REVERSED: 'reversed', constants.LOG_SIGN_TWO_LINKS: 'two links'}
 
-# The octets of an outcome, of which the first is its kind; and the kinds of frames that are not kept, all or those that are judged.
-_OUTCOME, _NOT_KEPT, _FOUND = ctypes.sizeof(c.CJudgeOutcome), re.compile(b'[^\0]'), re.compile(b'[^\0%c]' % constants.OUTCOME_NOT_JUDGED)
+# The octets of an outcome, of which the first is its kind; and the kinds of frames that are not kept.
+_OUTCOME, _NOT_KEPT = ctypes.sizeof(c.CJudgeOutcome), re.compile(b'[^\0]')
 
 
 def check_limits(per_block: int, waiting: int) -> None:
@@ -143,13 +142,8 @@ class LogJudge:
             self._outcomes = (c.CJudgeOutcome * MOST_FRAMES)()
             self._kinds = memoryview(self._outcomes).cast('B')
         count = c.library.fio2070_log_judge_batch(self._judge, as_said, batch._batch, self._outcomes)
-        kinds, taken = bytes(self._kinds[:_OUTCOME * count:_OUTCOME]), batch.taken
-        if taken is None:
-            return [(one.start(), _outcome(self._outcomes[one.start()])) for one in _NOT_KEPT.finditer(kinds)]
-        # It says of the frames of other lines that they are not judged.
-        is_all_judged = kinds.count(constants.OUTCOME_NOT_JUDGED) == taken.count(0)
-        found = _FOUND.finditer(kinds) if is_all_judged else _NOT_KEPT.finditer(masked(kinds, taken))
-        return [(taken.count(TAKEN, 0, one.start()), _outcome(self._outcomes[one.start()])) for one in found]
+        kinds = bytes(self._kinds[:_OUTCOME * count:_OUTCOME])
+        return [(one.start(), _outcome(self._outcomes[one.start()])) for one in _NOT_KEPT.finditer(kinds)]
 
 
 class LogSigns:

@@ -106,11 +106,6 @@ class LogBatch:
         """At how many places these are written."""
         return int(self._batch.place_count)
 
-    @property
-    def taken(self) -> Optional[bytes]:
-        """Of a part which frames of the whole batch it has; None of a whole one."""
-        return None
-
     def _each(self, field: int) -> bytes:
         """A number of each verdict that is an octet."""
         return bytes(self._verdicts[field:_VERDICT.size * len(self):_VERDICT.size])
@@ -236,22 +231,12 @@ class LogBatch:
         self._fill(bytes(self._verdicts[:_VERDICT.size * len(self)]), array.array('H', map(len, left)).tobytes(), b''.join(left))
 
     def parts(self, masks: Iterable[bytes]) -> Iterator['LogBatch']:
-        """For each mask this batch with blank lines in place of some, until the next one: the mask has 1 for each line that is taken, 2 for
-        one that is taken as damaged, 0 for one that is as blank. After the last one all is as before."""
-        from .log_parts import Part     # which needs this module
-        part = Part(self)
-        try:
-            for mask in masks:
-                part._take(mask)
-                yield part
-        finally:
-            part._end()
-
-    def _put(self, kinds: bytes, reasons: Optional[bytes]) -> None:
-        """Writes the kind of each line, and perhaps the reason."""
-        self._verdicts[_KIND:_VERDICT.size * len(kinds):_VERDICT.size] = kinds
-        if reasons is not None:
-            self._verdicts[_REASON:_VERDICT.size * len(reasons):_VERDICT.size] = reasons
+        """For each mask this batch with blank lines in place of some, and without places, until the next one: the mask has 1 for each line
+        that is taken, 2 for one that is taken as damaged, 0 for one that is as blank; lines that it does not reach are."""
+        part = LogBatch()
+        for mask in masks:
+            c.library.fio2070_log_batch_part(self._batch, bytes(mask), len(mask), part._batch)
+            yield part
 
     def _fill(self, verdicts: bytes, lengths: bytes, octets: bytes) -> None:
         """Writes verdicts, and the lengths and the octets of their frames; there are no places."""

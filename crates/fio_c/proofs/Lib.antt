@@ -13,6 +13,9 @@ mod Rings
 mod Replies
 pub mod Batches
 pub mod BatchItems
+pub mod LogParts
+pub mod TakenLines
+pub mod PartLaws
 pub mod Returned
 pub mod Lent
 pub mod TakenOctets

@@ -1,5 +1,5 @@
 -- What a batch of the reader of logs says, one after another: each verdict, and below it each of its frames.
-use Rattle.std.specs.Prelude.{ℕ, ◌+◌, List, [], ◌∷◌, ◌++◌, map, take, drop, Option, Some, None}
+use Rattle.std.specs.Prelude.{ℕ, ◌+◌, ◌<◌, ◌^◌, List, [], ◌∷◌, ◌++◌, length, map, take, drop, Option, Some, None}
 use Rattle.std.specs.List.{flat_map}
 use Rattle.fio_c.specs.Logs.{Content, flat_told}
 use Rattle.fio_c.specs.Told.{Told}
@@ -37,3 +37,21 @@ abbrev pub frame_count : List BatchItem → ℕ
 frame_count [] = 0
 frame_count ((verdict, None) ∷ items) = frame_count items
 frame_count ((verdict, Some octets) ∷ items) = 1 + frame_count items
+
+-- how many of them are verdicts
+abbrev pub line_count : List BatchItem → ℕ
+line_count [] = 0
+line_count ((verdict, None) ∷ items) = 1 + line_count items
+line_count ((verdict, Some octets) ∷ items) = line_count items
+
+-- how many octets these frames have
+abbrev pub octet_count : List BatchItem → ℕ
+octet_count [] = 0
+octet_count ((verdict, None) ∷ items) = octet_count items
+octet_count ((verdict, Some octets) ∷ items) = length octets + octet_count items
+
+-- the number of octets of each frame fits 16 bits
+abbrev pub AreShort : List BatchItem → Type 0
+AreShort [] = Unit {0}
+AreShort ((verdict, None) ∷ items) = AreShort items
+AreShort ((verdict, Some octets) ∷ items) = (length octets < 2 ^ 16) × AreShort items

@@ -8,6 +8,9 @@ pub mod Told
 pub mod BatchItems
 pub mod LogCounts
 pub mod LogJudges
+pub mod LogParts
+pub mod TakenLines
+pub mod PartLaws
 pub mod LogSigns
 pub mod Plans
 pub mod Texts

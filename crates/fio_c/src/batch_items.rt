@@ -1,10 +1,10 @@
 //! What a batch of the reader of logs says, one after another.
-ghost use Rattle.std.specs.Prelude.{◌≡◌, ◌≤◌, [], ◌∷◌, List, IfNone, IfSome};
-ghost use Rattle.fio_c.specs.BatchItems.{frame_count, frames_by_counts, items_of_content, items_of_told};
+ghost use Rattle.std.specs.Prelude.{◌≡◌, ◌≤◌, [], ◌∷◌, List, length, IfNone, IfSome};
+ghost use Rattle.fio_c.specs.BatchItems.{AreShort, frame_count, frames_by_counts, items_of_content, items_of_told, items_of_verdicts, line_count, octet_count};
 ghost use Rattle.fio_c.specs.Logs.{Content, Holds, content_of};
 ghost use Rattle.fio_c.specs.Told.{Told};
 
-use crate::log_batch::{LOG_FRAMES, LOG_VERDICTS, LogBatch, LogVerdict};
+use crate::log_batch::{LOG_FRAMES, LOG_OCTETS, LOG_VERDICTS, LogBatch, LogVerdict};
 use std::marker::Model;
 
 /// What a batch says that remains to be taken: each verdict, and below it each of its frames. Contracts describe it as the list
@@ -38,13 +38,37 @@ pub(crate) fn items_of(batch: &LogBatch) -> BatchItems<'_>
     ensures items { (content : Content) → Holds batch.now content → result ≡ items_of_content content }
     ensures told { (told : List Told) → Holds batch.now (content_of told) → result ≡ items_of_told told }
     ensures few { frame_count result ≤ LOG_FRAMES }
+    ensures lines { line_count result ≤ LOG_VERDICTS }
+    ensures octets { octet_count result ≤ LOG_OCTETS }
+    ensures short { AreShort result }
+{
+    items_from(
+        &batch.verdicts[0],
+        &batch.verdicts[..(batch.verdict_count as usize).min(LOG_VERDICTS)],
+        &batch.lengths[..(batch.frame_count as usize).min(LOG_FRAMES)],
+        &batch.octets,
+    )
+}
+
+/// Returns what verdicts say that have frames with these lengths and octets. Of `any` there is nothing.
+fn items_from<'a>(
+    any: &'a LogVerdict,
+    verdicts: &'a [LogVerdict],
+    lengths: &'a [u16],
+    octets: &'a [u8],
+) -> BatchItems<'a>
+    ensures items { result ≡ items_of_verdicts verdicts.now (frames_by_counts lengths.now octets.now) }
+    ensures few { frame_count result ≤ length lengths.now }
+    ensures lines { line_count result ≡ length verdicts.now }
+    ensures octets { octet_count result ≤ length octets.now }
+    ensures short { AreShort result }
 {
     BatchItems {
-        verdict: &batch.verdicts[0],
+        verdict: any,
         left: 0,
-        verdicts: &batch.verdicts[..(batch.verdict_count as usize).min(LOG_VERDICTS)],
-        lengths: &batch.lengths[..(batch.frame_count as usize).min(LOG_FRAMES)],
-        octets: &batch.octets,
+        verdicts,
+        lengths,
+        octets,
     }
 }
 

@@ -26,7 +26,8 @@
 //!
 //! The definitions are in `specs/`: flat forms of commands, answers and blocks (`Flat`), what C gives to write a message
 //! (`Given`, whose laws are the contracts of the module `laws`), checkers (`Checkers`), the judge of a
-//! link (`Judges`), the judge of a log (`LogJudges`), logs (`Logs`, `Told`), batches of the reader (`BatchItems`), counts
+//! link (`Judges`), the judge of a log (`LogJudges`), logs (`Logs`, `Told`), batches of the reader (`BatchItems`), parts of these (`LogParts`,
+//! `TakenLines`, `PartLaws`), counts
 //! (`LogCounts`), texts (`Texts`), versions (`Version`), lines (`Wires`), paces (`Plans`). `fio_flat` has the other structs, and what calls do to
 //! them and to the caller's arrays.
 //!
@@ -43,7 +44,8 @@
 //! `fio2070_log_counts_frame` counts a frame, and writes and returns what is known of its time (`next`, `taken`, `known`).
 //! `fio2070_log_counts_batch` counts the frames of a batch, takes the lines between them, and writes the times that are known,
 //! in order, and nothing else (`next`, `taken`, `count`; of what a reader returned `told`). `fio2070_log_signs_batch` takes its
-//! frames (`next`, `told`).
+//! frames (`next`, `told`). `fio2070_log_batch_part` writes the part of a batch that a mask takes (`part`, `lines`, `count`); what
+//! these three calls say of it is what they say of its lines alone (`laws::parts_stand_alone`).
 //!
 //! `fio2070_log_start` sets the octets of its reader, which may be fewer than the room. The verdicts that `fio2070_log_read`
 //! puts into a batch are those that `Reader` of `fio_log` returns of the next lines, each once, in order and no other, octet
@@ -75,6 +77,7 @@ mod log_counts;
 mod log_forms;
 mod log_judge;
 mod log_judge_batch;
+mod log_parts;
 mod log_signs;
 mod log_verdicts;
 mod makers;

@@ -1,8 +1,7 @@
 //! What the reader of logs says of lines, in memory of the caller.
-ghost use Rattle.std.specs.Prelude.{◌≡◌, ◌<◌, ◌≤◌, ◌+◌, true, length};
+ghost use Rattle.std.specs.Prelude.{◌≡◌, ◌<◌, ◌≤◌, ◌+◌, ◌^◌, true, length};
 
 use crate::written::write_at;
-use fio_message::FRAME_OCTETS;
 
 /// The most verdicts of a batch.
 pub const LOG_VERDICTS: usize = 4_096;
@@ -97,6 +96,9 @@ impl LogBatch {
     pub(crate) fn clear(&mut self)
         ensures empty { Holds self.new (record { verdicts = []; frames = []; places = [] }) }
         ensures room { has_room self.new ≡ true }
+        ensures verdicts { self.new.verdict_count ≡ 0 }
+        ensures frames { self.new.frame_count ≡ 0 }
+        ensures octets { self.new.octet_count ≡ 0 }
     {
         self.verdict_count = 0;
         self.frame_count = 0;
@@ -120,6 +122,8 @@ impl LogBatch {
         ensures added { (content : Content) → Holds self.old content
             → Holds self.new (record content { verdicts = content.verdicts ++ verdict ∷ [] }) }
         ensures count { self.new.verdict_count ≡ self.old.verdict_count + 1 }
+        ensures frames { self.new.frame_count ≡ self.old.frame_count }
+        ensures octets { self.new.octet_count ≡ self.old.octet_count }
     {
         let at = self.verdict_count as usize;
         self.verdicts[at] = verdict;
@@ -130,7 +134,7 @@ impl LogBatch {
     pub(crate) fn push_frame(&mut self, octets: &[u8])
         requires frames { self.old.frame_count < LOG_FRAMES }
         requires octets { self.old.octet_count + length octets.now ≤ LOG_OCTETS }
-        requires short { length octets.now ≤ FRAME_OCTETS }
+        requires short { length octets.now < 2 ^ 16 }
         ensures added { (content : Content) → Holds self.old content
             → Holds self.new (record content { frames = content.frames ++ octets.now ∷ [] }) }
         ensures frames { self.new.frame_count ≡ self.old.frame_count + 1 }

@@ -115,6 +115,14 @@ impl LogBatch {
         })
     }
 
+    /// Writes a part of a batch over this one, and returns how many frames it has: the lines that `mask` has 1 for, those that it has
+    /// 2 for as damaged, and blank ones in place of the others. It has no places.
+    pub fn take_part(&mut self, batch: &LogBatch, mask: &[u8]) -> usize {
+        let (octets, count) = (mask.as_ptr(), mask.len());
+        // SAFETY: a slice is initialised memory of its length.
+        unsafe { raw::fio2070_log_batch_part(&batch.0, octets, count, &mut self.0) as usize }
+    }
+
     /// The verdicts, in the order of the lines.
     pub fn verdicts(&self) -> impl Iterator<Item = Verdict<'_>> + '_ {
         let (mut lengths, mut octets) = (&self.0.lengths[..], &self.0.octets[..]);

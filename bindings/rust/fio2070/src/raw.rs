@@ -474,6 +474,8 @@ extern "C" {
         octets: *const u8, octets_count: usize, outcome: &mut JudgeOutcome) -> u8;
     pub(crate) fn fio2070_log_judge_batch(judge: &mut RawLogJudge, as_said: u8, batch: &RawLogBatch,
         outcomes: &mut [JudgeOutcome; 20480]) -> u32;
+    pub(crate) fn fio2070_log_batch_part(batch: &RawLogBatch, mask: *const u8, mask_count: usize,
+        part: &mut RawLogBatch) -> u32;
     pub(crate) fn fio2070_log_signs_start(signs: &mut RawLogSigns);
     pub(crate) fn fio2070_log_signs_frame(signs: &mut RawLogSigns, from_cpu: u8, said: u8,
         octets: *const u8, octets_count: usize);

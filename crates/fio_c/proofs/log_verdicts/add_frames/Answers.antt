@@ -33,7 +33,7 @@ push_frame-requires c =
         octets_within frames (c.frames.index + 1),
         octets_next frames c.frames.index octets inside c.in-Some.ensures.same,
       );
-      short = spelled_short octets c.in-Some.ensures.spelled;
+      short = omega (arith, spelled_short octets c.in-Some.ensures.spelled);
     }
 
 pub frames-preserved : goal.frames-preserved
