@@ -5,7 +5,8 @@ says what was compared, and ends in `right`; the status is 0 then.
 
 Without --rough no frame is repeated, and each answer comes by the deadline or never, unless the machine is too busy. With --rough
 answers come late and twice: `check` says so of the transcript, and the table is right all the same. On a line so bad that the
-module's buffer runs over (--lose 0.85) the table has gaps."""
+module's buffer runs over (--lose 0.85) the table has gaps. When the controller is to end, the line becomes good: else it may
+give up the command under way, which is no fault."""
 
 import argparse
 import contextlib
@@ -65,9 +66,11 @@ class Controller:
     def begin(self):
         self.process = subprocess.Popen(self.words, stdin=subprocess.DEVNULL)
 
-    def end(self):
-        """Ends it as a user does. Returns whether its status is 0."""
+    def end(self, relay):
+        """Ends it as a user does, while a command may be lost, and makes the line good. Returns whether its status is 0: it sends
+        the command again, until it hears the answer."""
         self.process.send_signal(signal.SIGINT)
+        relay.send_signal(signal.SIGUSR1)
         return self.process.wait(board.ANSWER_S) == 0
 
     def number(self):
@@ -138,9 +141,10 @@ def whole_run(option):
     relay = [sys.executable, os.path.join(HERE, 'relay.py'), str(bad), '127.0.0.1:%d' % link, '--seed', str(option.seed),
              *('--%s=%s' % (name, getattr(option, name)) for name in ('lose', 'damage', 'repeat', 'delay'))]
     controller = Controller(option, bad)
-    with board.running(board.board_words(image, link, lines_port), signal.SIGTERM), board.running(relay, signal.SIGINT):
+    module = board.board_words(image, link, lines_port)
+    with board.running(module, signal.SIGTERM), board.running(relay, signal.SIGINT, stdout=subprocess.PIPE, text=True) as line:
         lines = board.Lines(lines_port)
-        time.sleep(1)
+        line.stdout.readline()  # it is open
         controller.begin()
         try:
             # Inputs are reported from their configuration on.
@@ -148,11 +152,12 @@ def whole_run(option):
             time.sleep(0.2)
             made = moved(option, lines, controller)
             settle(controller, lines)
-            is_ended = controller.end()
+            is_ended = controller.end(line)
         finally:
             controller.process.kill()
             controller.process.wait()
             lines.close()
+    print(line.stdout.read(), end='', flush=True)
     return made, controller, is_ended
 
 
