@@ -28,6 +28,8 @@ HERE = os.path.dirname(os.path.realpath(__file__))
 TOP = os.path.dirname(os.path.dirname(HERE))
 # The number at which --restart ends the first controller: the module has just been polled for 0.
 CRITICAL = '001'
+# How long the controller waits for its last answer, which comes on a good line, also on a busy machine.
+WAIT_S = 20
 
 
 def options():
@@ -58,9 +60,9 @@ class Controller:
         for path in self.files.values():
             with contextlib.suppress(FileNotFoundError):
                 os.remove(path)
-        self.words = [os.path.join(option.out, 'controller'), '--deadline', str(option.deadline), '--keep', self.files['number'],
-                      '--transcript', self.files['line.transcript'], '--events', self.files['events.csv'], '--on', '0',
-                      '127.0.0.1:%d' % port, self.files['record.csv']]
+        self.words = [os.path.join(option.out, 'controller'), '--deadline', str(option.deadline), '--wait', str(WAIT_S),
+                      '--keep', self.files['number'], '--transcript', self.files['line.transcript'],
+                      '--events', self.files['events.csv'], '--on', '0', '127.0.0.1:%d' % port, self.files['record.csv']]
         self.process = None
 
     def begin(self):
