@@ -83,12 +83,19 @@ class Controller:
         except FileNotFoundError:
             return ''
 
+    def has_kept(self):
+        """Whether the number that it keeps is that after its last block. Else this block is asked for again, which `check` blames."""
+        with open(self.files['line.transcript'], encoding='ascii') as file:
+            blocks = [line[4:6] for line in file if line.startswith('< b6')]
+        return bool(blocks) and self.number() == '%03d' % ((int(blocks[-1], 16) + 1) % 256)
+
     def kill(self, seconds=board.ANSWER_S):
-        """Kills it when the number that it keeps is CRITICAL, or after this time, if it has not ended by itself."""
+        """Kills it when the number that it keeps is CRITICAL, or any after this time, if it has not ended by itself."""
         end = time.time() + seconds
-        while time.time() < end and self.process.poll() is None:
+        while self.process.poll() is None:
             self.process.send_signal(signal.SIGSTOP)
-            if self.number() == CRITICAL:
+            os.waitid(os.P_PID, self.process.pid, os.WSTOPPED | os.WEXITED | os.WNOWAIT)
+            if (self.number() == CRITICAL or time.time() > end) and self.has_kept():
                 break
             self.process.send_signal(signal.SIGCONT)
             time.sleep(0.002)
@@ -210,7 +217,7 @@ def judged(option, made, controller):
         return fault, [*words, 'an answer came late, so check and record are left out']
     words.append('check says %s' % check)
     if not check.startswith('good'):
-        fault = fault or 'the transcript breaks a rule'
+        fault = fault or 'the transcript breaks a rule: check says %s' % check
     elif said(program, 'record', transcript) != as_record(rows):
         fault = fault or 'record does not write the table'
     else:
