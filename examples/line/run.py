@@ -90,12 +90,14 @@ class Controller:
         return bool(blocks) and self.number() == '%03d' % ((int(blocks[-1], 16) + 1) % 256)
 
     def kill(self, seconds=board.ANSWER_S):
-        """Kills it when the number that it keeps is CRITICAL, or any after this time, if it has not ended by itself."""
+        """Kills it when the number that it keeps is CRITICAL, or any after this time, if it has not ended by itself; whatever it has kept
+        after twice the time."""
         end = time.time() + seconds
         while self.process.poll() is None:
             self.process.send_signal(signal.SIGSTOP)
             os.waitid(os.P_PID, self.process.pid, os.WSTOPPED | os.WEXITED | os.WNOWAIT)
-            if (self.number() == CRITICAL or time.time() > end) and self.has_kept():
+            late = time.time() - end
+            if (self.number() == CRITICAL or late > 0) and (self.has_kept() or late > seconds):
                 break
             self.process.send_signal(signal.SIGCONT)
             time.sleep(0.002)
