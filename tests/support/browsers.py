@@ -6,6 +6,7 @@ import contextlib
 import glob
 import json
 import os
+import random
 import shutil
 import socket
 import subprocess
@@ -123,9 +124,12 @@ class Browser:
 
 
 def free_port():
-    with contextlib.closing(socket.socket()) as free:
-        free.bind(('127.0.0.1', 0))
-        return free.getsockname()[1]
+    """A port of the loopback that no one has now, nor gets before it is used: it is below those that the system gives."""
+    while True:
+        port = random.randrange(10_000, 32_768)
+        with contextlib.closing(socket.socket()) as free, contextlib.suppress(OSError):
+            free.bind(('127.0.0.1', port))
+            return port
 
 
 def as_soon_as_it_listens(call, *given, **more):
