@@ -28,6 +28,11 @@ KEYS = {'down': '\ue015', 'up': '\ue013', 'left': '\ue012', 'right': '\ue014', '
 class Browser:
     """What a person does with a page. Each way to a browser has `ask`."""
 
+    def be_patient(self):
+        """A script, or a page that opens, may take as long as other rows wait: by itself a browser ends scripts after 30 seconds, also one
+        that waits for the page to do its work."""
+        self.ask('POST', 'timeouts', 'WebDriver:SetTimeouts', {'script': 1000 * LONGEST, 'pageLoad': 1000 * LONGEST})
+
     def open(self, address):
         self.ask('POST', 'url', 'WebDriver:Navigate', {'url': address})
 
@@ -162,6 +167,7 @@ class Chromium(Browser):
         wanted = {'browserName': 'chrome', 'goog:chromeOptions': {'binary': shutil.which('chromium'), 'args': options}}
         begun = as_soon_as_it_listens(self.sent, 'POST', self.base, {'capabilities': {'alwaysMatch': wanted}})
         self.base += '/' + begun['sessionId']
+        self.be_patient()
 
     @staticmethod
     def sent(method, address, given):
@@ -205,6 +211,7 @@ class Firefox(Browser):
         self.stream = self.socket.makefile('rb')
         self.message()
         self.ask(None, None, 'WebDriver:NewSession', {})
+        self.be_patient()
 
     def message(self):
         length = b''
