@@ -665,7 +665,7 @@ def races(count, *changes):
     with on_board(built(*changes)) as ports:
         # Once the board answers by lines, its link can be reached too.
         lines = board.Lines(ports[1])
-        with socket.create_connection(('127.0.0.1', ports[0]), 20) as link:
+        with socket.create_connection(('127.0.0.1', ports[0]), LONGEST) as link:
             link.setsockopt(socket.IPPROTO_TCP, socket.TCP_NODELAY, 1)
             asked(link, bytes([51, 64]) + b''.join(bytes([one, 1, 1]) for one in range(64)))
             with toggled(lines):
