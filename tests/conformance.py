@@ -420,9 +420,11 @@ def wires(check, room):
                                            '--first'], differs)
     over(check, 'own clock: adapter in C', [tester, '--own-clock', '--command', adapter + ' clock', '8000'], same)
     with ThreadPoolExecutor(len(BY_BOUNDS)) as threads:
-        for fault in BY_BOUNDS if check.whole('own clock: planted faults') else ():
-            threads.submit(over, check, 'own clock: ' + fault, [
-                tester, '--own-clock', '--command', "%s wire '%s' clock" % (faulty, fault), '40000', '--first'], differs)
+        rows = [threads.submit(over, check, 'own clock: ' + fault, [
+            tester, '--own-clock', '--command', "%s wire '%s' clock" % (faulty, fault), '40000', '--first'], differs)
+                for fault in (BY_BOUNDS if check.whole('own clock: planted faults') else ())]
+        for row in rows:
+            row.result()  # raises what went wrong there
     for end in ('module', 'cpu'):
         over(check, 'the proved end: ' + end, [tester, '--self', end, str(min(check.given.events, 300000))], same)
     if check.wants('--version'):

@@ -153,7 +153,7 @@ def fuzzed(program):
 
 
 def fuzz_rows():
-    if not check.whole('fuzzer: all calls') & check.whole('fuzzer: what a controller reads'):
+    if not check.whole('fuzzer: all calls') & check.whole('fuzzer: what a controller reads') or not check.wants('fuzzer'):
         return
     if not shutil.which('clang'):
         check.skip('fuzzer', 'no clang here')

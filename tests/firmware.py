@@ -56,9 +56,10 @@ RING, HELD = 1024, 40
 SMALL_RING = 8
 # Cuts of the power, each with another seed.
 CUTS = 200
+# Options of run.py for a line on which one command in thirty is answered.
+BAD = ['--lose', '0.8', '--deadline', '40']
 # The rows of runs: name, seconds of moves, options of run.py.
 RUNS = [('frames lost, damaged and delayed', 8, []),
-        ('a buffer that runs over', 8, ['--lose', '0.8', '--deadline', '40']),
         ('a restart of the module', 6, ['--restart', 'module']),
         ('a restart of the controller', 6, ['--restart', 'controller'])]
 # Faults: name, file, text, replacement.
@@ -81,6 +82,7 @@ ANY_LINE = ('tables.c', "== KEPT_LINE && line[KEPT_LINE - 1] == '\\n' &&", '> 0 
 ANY_NUMBER = ('tables.c', '&tables->events_kept) == 3', '&tables->events_kept) >= 1')
 NOT_SETTLED = ('tables.c', 'if (length != kept && !tables->is_fast', 'if (tables->is_fast && 0')
 STATE_STUCK = ('firmware.c', '    LAMPS = ', '    if (answer[0] == 182 && answer[2] > 0) answer[3] |= 0x80;\n    LAMPS = ')
+NOT_AGAIN = ('controller.c', 'is_ending ? controller_link_finish(&cpu, (uint32_t)milliseconds())', 'is_ending ? 0')
 UNSEEN_RESTART = ('controller_link.c', 'if (link->step == CONTROLLER_LOOK && (answer->flags & FIO2070_BIT_WAS_RESET)) {', 'if (0) {')
 
 # On a busy machine less happens in a time: how many times as long a run is that comes after one in which too little did.
@@ -197,6 +199,15 @@ def run_of(folder, seconds, words):
 def is_wrong(seconds, words, *changes):
     last, text = run_of(built(*changes), seconds, words)
     return None if last.endswith(' right') else text
+
+
+def runs_over():
+    """A run on a line so bad that the module's buffer runs over: the table has marks, where entries are missing."""
+    for longer in LONGER:
+        last, text = run_of(built(), 8 * longer, BAD)
+        if not last.endswith(' right') or ' missing at ' in last:
+            break
+    return None if last.endswith(' right') and ' missing at ' in last else text
 
 
 def rough_is_wrong():
@@ -654,7 +665,7 @@ def races(count, *changes):
     with on_board(built(*changes)) as ports:
         # Once the board answers by lines, its link can be reached too.
         lines = board.Lines(ports[1])
-        with socket.create_connection(('127.0.0.1', ports[0]), 20) as link:
+        with socket.create_connection(('127.0.0.1', ports[0]), LONGEST) as link:
             link.setsockopt(socket.IPPROTO_TCP, socket.TCP_NODELAY, 1)
             asked(link, bytes([51, 64]) + b''.join(bytes([one, 1, 1]) for one in range(64)))
             with toggled(lines):
@@ -762,7 +773,9 @@ def main():
     if check.whole('runs of firmware and controller'):
         for name, seconds, words in RUNS:
             check.fault('run: ' + name, is_wrong, seconds, words)
+        check.fault('run: a buffer that runs over', runs_over)
         check.fault('run: frames late and repeated', rough_is_wrong)
+        check.fault('found: a last command that is not sent again', is_missed, 2, BAD, NOT_AGAIN)
         # The transcript of this one has a block that is requested again.
         restart, alone = ['--restart', 'controller'], ['--restart', 'controller', '--program', 'none']
         check.fault('run: a controller that ends before it keeps its number', is_wrong, 6, alone, ENDS_BETWEEN)

@@ -19,12 +19,13 @@ from support.check import Check
 from support.opened import (CELLS, PAGE, RANGE, InBrowser, address, example, has_hash, make_page, opened, saved, script_hash, scripts_in, started, text_of,
                             words_in)
 from support.tables import TOP, output_of
+from support.waits import slowness
 
 PICTURES = os.path.join(TOP, 'tools', 'page')
 PLAYED_PICTURE = os.path.join(TOP, 'docs', 'pictures', 'play.png')
 MOST_OCTETS = 500_000
 MANY = 100_000
-# Seconds of a processor, which do not depend on what else the machine does, of all processes of the browser.
+# Seconds of a processor of all processes of the browser; more where a processor does less in a second.
 MOST_SECONDS = 3
 # What browsers call long, for the mean of all frames, by the processor too.
 LONG_FRAME_MS = 100
@@ -162,8 +163,9 @@ def check_many(check, browser, folder):
     browser.type('#file', path)
     browser.wait('return window.painted > 0')
     seconds, used = browser.run('return (window.painted - window.begun) / 1000'), browser.used() - before
-    print('%s: %d messages open in %.2f s, %.2f s of a processor' % (check.name, MANY, seconds, used))
-    check.holds('%d messages open within %d s of a processor' % (MANY, MOST_SECONDS), used < MOST_SECONDS, used)
+    slower = slowness()
+    print('%s: %d messages open in %.2f s, %.2f s of a processor %.1f times as slow' % (check.name, MANY, seconds, used, slower))
+    check.holds('%d messages open within %d s of a processor' % (MANY, MOST_SECONDS), used < MOST_SECONDS * slower, (used, slower))
     check.equal('their number', '100,000 messages', words_in(browser, '[data-fact=messages]'))
     check.equal('their verdict', 'good', browser.run('return document.getElementById("verdict").dataset.kind'))
     before = browser.used()
@@ -173,7 +175,8 @@ def check_many(check, browser, folder):
     print('%s: a frame of a pass over all rows takes %.1f ms of a processor' % (check.name, 1000 * used / len(drawn)))
     check.holds('scrolling through all rows draws frames', len(drawn) > 50, len(drawn))
     check.holds('each frame has few rows', 10 < min(drawn) <= max(drawn) <= MOST_ROWS, (min(drawn), max(drawn)))
-    check.holds('a frame takes less than %d ms of a processor' % LONG_FRAME_MS, 1000 * used / len(drawn) < LONG_FRAME_MS, used)
+    slower = slowness()
+    check.holds('a frame takes less than %d ms of a processor' % LONG_FRAME_MS, 1000 * used / len(drawn) < LONG_FRAME_MS * slower, (used, slower))
     browser.type('.rows', KEYS['end'])
     check.equal('the last row', '100000', browser.run(CELLS)[-1][0])
     browser.click('#tab-inputs')

@@ -71,7 +71,7 @@ def translated(functions, options, translator=TRANSLATOR):
     done = run('gcc', '-std=c99', *options, '-I', room, C, '-o', path('cases'))
     if done.returncode:
         return {'compiler': done.stderr[-500:]}
-    done = run('timeout', '60', path('cases'))
+    done = run('prlimit', '--cpu=60', path('cases'))
     found = dict(line.split(' ', 1) for line in done.stdout.splitlines())
     return {**found, 'status': str(done.returncode)} if done.returncode else found
 

@@ -218,7 +218,7 @@ def is_found(wrong):
         return 'it was not run: ' + done.stderr
     if build(QUICKEST, ['-O0', '-w'], 'wrong.run', folder):
         return 'it does not compile'
-    return None if run('timeout', '20', path('wrong.run'), *SHORT).stdout != wanted else 'the comparison is the same'
+    return None if run('prlimit', '--cpu=20', path('wrong.run'), *SHORT).stdout != wanted else 'the comparison is the same'
 
 
 def wrong_translators():

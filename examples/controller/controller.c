@@ -20,7 +20,7 @@
 #include <time.h>
 #include <unistd.h>
 
-enum { SLOT_MS = 10, DEADLINE_MS = 50, LOOK_MS = 1000, FILTER_MS = 5, INPUTS = 64, END_MS = 2000, SHOW_SLOTS = 100 };
+enum { SLOT_MS = 10, DEADLINE_MS = 50, LOOK_MS = 1000, FILTER_MS = 5, INPUTS = 64, WAIT_S = 2, SHOW_SLOTS = 100 };
 
 static const char help[] =
     "usage: controller [OPTION..] HOST:PORT|DEVICE FILE.csv\n"
@@ -32,6 +32,7 @@ static const char help[] =
     "  -o, --on 0|1            the state of an input that is a detector's on\n"
     "  -c, --channel IN=CH     the detector's channel of an input, else none; without any, input 0 is channel 1, and so on\n"
     "  -s, --seconds N         end after this time\n"
+    "  -w, --wait N            at the end, wait so many seconds for the last answer, 2 by default\n"
     "A serial device has the speed that `stty` has set.\n"
     "FILE.csv has a row for each transition: the time, the input, its state and the module's millisecond; and a row where some\n"
     "are missing (`gap`) or where the module was started anew (`restart`).\n";
@@ -146,7 +147,7 @@ static void take_slots(int timer, int is_ending) {
     if (++slots % SHOW_SLOTS == 0 && isatty(STDERR_FILENO)) show_counts("\r");
 }
 
-static void run(int64_t seconds) {
+static void run(int64_t seconds, int64_t wait) {
     struct pollfd ready[] = {{line.file, POLLIN, 0}, {opened_timer(), POLLIN, 0}, {opened_signals(), POLLIN, 0}};
     int64_t until = milliseconds() + seconds * 1000;
     int ends = 0, was_ending = 0;
@@ -156,7 +157,7 @@ static void run(int64_t seconds) {
         if (ready[1].revents != 0) take_slots(ready[1].fd, ends > 0);
         ends += signals_taken(ready[2].fd);
         if (ends == 0 && seconds > 0 && milliseconds() >= until) ends = 1;
-        if (ends > 0 && !was_ending) until = milliseconds() + END_MS;
+        if (ends > 0 && !was_ending) until = milliseconds() + wait * 1000;
         was_ending = ends > 0;
     }
 }
@@ -202,13 +203,14 @@ static void set_channel(char *word) {
 int main(int count, char **words) {
     static const struct option options[] = {
         {"deadline", 1, NULL, 'd'}, {"keep", 1, NULL, 'k'}, {"fast", 0, NULL, 'f'}, {"transcript", 1, NULL, 't'},
-        {"events", 1, NULL, 'e'}, {"on", 1, NULL, 'o'}, {"channel", 1, NULL, 'c'}, {"seconds", 1, NULL, 's'}, {NULL, 0, NULL, 0}};
+        {"events", 1, NULL, 'e'}, {"on", 1, NULL, 'o'}, {"channel", 1, NULL, 'c'}, {"seconds", 1, NULL, 's'}, {"wait", 1, NULL, 'w'},
+        {NULL, 0, NULL, 0}};
     const char *keep = NULL, *transcript = NULL, *events = NULL;
-    long seconds = 0, deadline = DEADLINE_MS;
+    long seconds = 0, wait = WAIT_S, deadline = DEADLINE_MS;
     int option;
     tables.on = -1;
     for (option = 0; option < INPUTS; option++) tables.channels[option] = option + 1;
-    while ((option = getopt_long(count, words, "d:k:ft:e:o:c:s:", options, NULL)) != -1) {
+    while ((option = getopt_long(count, words, "d:k:ft:e:o:c:s:w:", options, NULL)) != -1) {
         switch (option) {
         case 'd': deadline = number_of(optarg, 1, 10000); break;
         case 'k': keep = optarg; break;
@@ -218,6 +220,7 @@ int main(int count, char **words) {
         case 'o': tables.on = (int)number_of(optarg, 0, 1); break;
         case 'c': set_channel(optarg); break;
         case 's': seconds = number_of(optarg, 1, 1000000); break;
+        case 'w': wait = number_of(optarg, 0, 1000000); break;
         default: usage();
         }
     }
@@ -225,7 +228,7 @@ int main(int count, char **words) {
     if (line_open(&line, words[optind]) != 0) fail(words[optind], strerror(errno));
     if (tables_open(&tables, words[optind + 1], events, transcript, keep) != 0) fail("its files", strerror(errno));
     if (controller_link_start(&cpu, settings_with((uint32_t)deadline), tables.number) != 0) fail("configuration", "it is none");
-    run(seconds);
+    run(seconds, wait);
     line_close(&line);
     show_counts("\n");
     if (tables_close(&tables) != 0) fail("its files", strerror(errno));

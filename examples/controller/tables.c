@@ -79,7 +79,6 @@ static long long settled(const struct tables *tables, FILE *file, long long kept
 static void keep(struct tables *tables, uint8_t number) {
     char line[KEPT_LINE + 1];
     tables->may_be_written_before = 0;
-    flushed(tables->transcript);
     if (tables->keep < 0) {
         flushed(tables->csv);
         flushed(tables->events);
@@ -177,6 +176,7 @@ void tables_add_frame(struct tables *tables, char direction, const uint8_t *octe
     fprintf(tables->transcript, "%c ", direction);
     while (length-- > 0) fprintf(tables->transcript, "%02x", *octets++);
     fputc('\n', tables->transcript);
+    flushed(tables->transcript); /* so it has each command that was sent, wherever a run ends */
 }
 
 void tables_set_clock(struct tables *tables, uint32_t stamp) {

@@ -1,6 +1,7 @@
 """The board under qemu-system-arm, and the lines of fio2070-test on its second UART."""
 
 import contextlib
+import random
 import socket
 import subprocess
 import time
@@ -11,10 +12,12 @@ ANSWER_S = 100
 
 
 def free_port():
-    """A port of the loopback that no one has now."""
-    with socket.socket() as one:
-        one.bind(('127.0.0.1', 0))
-        return one.getsockname()[1]
+    """A port of the loopback that no one has now, nor gets before it is used: it is below those that the system gives."""
+    while True:
+        port = random.randrange(10_000, 32_768)
+        with socket.socket() as one, contextlib.suppress(OSError):
+            one.bind(('127.0.0.1', port))
+            return port
 
 
 @contextlib.contextmanager

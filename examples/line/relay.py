@@ -6,7 +6,8 @@
 It keeps what docs/PROTOCOL.md assumes of the bus: no frame overtakes another of its direction, and a repeat comes directly after
 its frame. Damage is of octets, wherever they are: bits turn, an octet is lost, a flag or an escape is broken or made, a frame is
 joined with the next one; and noise comes before the first frame. With octets lost or made, one damaged frame in 65,536 has a
-right check, so the dice have a seed. At its end, by SIGINT or SIGTERM, it writes what it did."""
+right check, so the dice have a seed. It writes `open` once it listens. From SIGUSR1 on the line is good. At its end, by SIGINT or
+SIGTERM, it writes what it did."""
 
 import argparse
 import asyncio
@@ -109,6 +110,12 @@ async def carry(option, dice, counts, controller, module):
     module[1].close()
 
 
+def mend(option):
+    """Makes the line good from here on."""
+    for name in (*FATES, 'delay'):
+        setattr(option, name, 0.0)
+
+
 async def relay(option):
     """Carries for one controller after another, on one connection to the module each."""
     counts, ended = collections.defaultdict(collections.Counter), asyncio.Event()
@@ -120,7 +127,9 @@ async def relay(option):
 
     for number in signal.SIGINT, signal.SIGTERM:
         asyncio.get_running_loop().add_signal_handler(number, ended.set)
+    asyncio.get_running_loop().add_signal_handler(signal.SIGUSR1, mend, option)
     async with await asyncio.start_server(accept, '127.0.0.1', option.port):
+        print('open', flush=True)
         await ended.wait()
     for name, numbers in counts.items():
         print('%s: %s' % (name, ', '.join('%s %d' % pair for pair in numbers.items())), flush=True)

@@ -5,7 +5,8 @@ says what was compared, and ends in `right`; the status is 0 then.
 
 Without --rough no frame is repeated, and each answer comes by the deadline or never, unless the machine is too busy. With --rough
 answers come late and twice: `check` says so of the transcript, and the table is right all the same. On a line so bad that the
-module's buffer runs over (--lose 0.85) the table has gaps."""
+module's buffer runs over (--lose 0.85) the table has gaps. When the controller is to end, the line becomes good: else it may
+give up the command under way, which is no fault."""
 
 import argparse
 import contextlib
@@ -27,6 +28,8 @@ HERE = os.path.dirname(os.path.realpath(__file__))
 TOP = os.path.dirname(os.path.dirname(HERE))
 # The number at which --restart ends the first controller: the module has just been polled for 0.
 CRITICAL = '001'
+# How long the controller waits for its last answer, which comes on a good line, also on a busy machine.
+WAIT_S = 20
 
 
 def options():
@@ -57,17 +60,19 @@ class Controller:
         for path in self.files.values():
             with contextlib.suppress(FileNotFoundError):
                 os.remove(path)
-        self.words = [os.path.join(option.out, 'controller'), '--deadline', str(option.deadline), '--keep', self.files['number'],
-                      '--transcript', self.files['line.transcript'], '--events', self.files['events.csv'], '--on', '0',
-                      '127.0.0.1:%d' % port, self.files['record.csv']]
+        self.words = [os.path.join(option.out, 'controller'), '--deadline', str(option.deadline), '--wait', str(WAIT_S),
+                      '--keep', self.files['number'], '--transcript', self.files['line.transcript'],
+                      '--events', self.files['events.csv'], '--on', '0', '127.0.0.1:%d' % port, self.files['record.csv']]
         self.process = None
 
     def begin(self):
         self.process = subprocess.Popen(self.words, stdin=subprocess.DEVNULL)
 
-    def end(self):
-        """Ends it as a user does. Returns whether its status is 0."""
+    def end(self, relay):
+        """Ends it as a user does, while a command may be lost, and makes the line good. Returns whether its status is 0: it sends
+        the command again, until it hears the answer."""
         self.process.send_signal(signal.SIGINT)
+        relay.send_signal(signal.SIGUSR1)
         return self.process.wait(board.ANSWER_S) == 0
 
     def number(self):
@@ -78,12 +83,21 @@ class Controller:
         except FileNotFoundError:
             return ''
 
+    def has_kept(self):
+        """Whether the number that it keeps is that after its last block. Else this block is asked for again, which `check` blames."""
+        with open(self.files['line.transcript'], encoding='ascii') as file:
+            blocks = [line[4:6] for line in file if line.startswith('< b6')]
+        return bool(blocks) and self.number() == '%03d' % ((int(blocks[-1], 16) + 1) % 256)
+
     def kill(self, seconds=board.ANSWER_S):
-        """Kills it when the number that it keeps is CRITICAL, or after this time, if it has not ended by itself."""
+        """Kills it when the number that it keeps is CRITICAL, or any after this time, if it has not ended by itself; whatever it has kept
+        after twice the time."""
         end = time.time() + seconds
-        while time.time() < end and self.process.poll() is None:
+        while self.process.poll() is None:
             self.process.send_signal(signal.SIGSTOP)
-            if self.number() == CRITICAL:
+            os.waitid(os.P_PID, self.process.pid, os.WSTOPPED | os.WEXITED | os.WNOWAIT)
+            late = time.time() - end
+            if (self.number() == CRITICAL or late > 0) and (self.has_kept() or late > seconds):
                 break
             self.process.send_signal(signal.SIGCONT)
             time.sleep(0.002)
@@ -138,9 +152,10 @@ def whole_run(option):
     relay = [sys.executable, os.path.join(HERE, 'relay.py'), str(bad), '127.0.0.1:%d' % link, '--seed', str(option.seed),
              *('--%s=%s' % (name, getattr(option, name)) for name in ('lose', 'damage', 'repeat', 'delay'))]
     controller = Controller(option, bad)
-    with board.running(board.board_words(image, link, lines_port), signal.SIGTERM), board.running(relay, signal.SIGINT):
+    module = board.board_words(image, link, lines_port)
+    with board.running(module, signal.SIGTERM), board.running(relay, signal.SIGINT, stdout=subprocess.PIPE, text=True) as line:
         lines = board.Lines(lines_port)
-        time.sleep(1)
+        line.stdout.readline()  # it is open
         controller.begin()
         try:
             # Inputs are reported from their configuration on.
@@ -148,11 +163,12 @@ def whole_run(option):
             time.sleep(0.2)
             made = moved(option, lines, controller)
             settle(controller, lines)
-            is_ended = controller.end()
+            is_ended = controller.end(line)
         finally:
             controller.process.kill()
             controller.process.wait()
             lines.close()
+    print(line.stdout.read(), end='', flush=True)
     return made, controller, is_ended
 
 
@@ -203,7 +219,7 @@ def judged(option, made, controller):
         return fault, [*words, 'an answer came late, so check and record are left out']
     words.append('check says %s' % check)
     if not check.startswith('good'):
-        fault = fault or 'the transcript breaks a rule'
+        fault = fault or 'the transcript breaks a rule: check says %s' % check
     elif said(program, 'record', transcript) != as_record(rows):
         fault = fault or 'record does not write the table'
     else:

@@ -6,6 +6,7 @@ import contextlib
 import glob
 import json
 import os
+import random
 import shutil
 import socket
 import subprocess
@@ -26,6 +27,11 @@ KEYS = {'down': '\ue015', 'up': '\ue013', 'left': '\ue012', 'right': '\ue014', '
 
 class Browser:
     """What a person does with a page. Each way to a browser has `ask`."""
+
+    def be_patient(self):
+        """A script, or a page that opens, may take as long as other rows wait: by itself a browser ends scripts after 30 seconds, also one
+        that waits for the page to do its work."""
+        self.ask('POST', 'timeouts', 'WebDriver:SetTimeouts', {'script': 1000 * LONGEST, 'pageLoad': 1000 * LONGEST})
 
     def open(self, address):
         self.ask('POST', 'url', 'WebDriver:Navigate', {'url': address})
@@ -123,9 +129,12 @@ class Browser:
 
 
 def free_port():
-    with contextlib.closing(socket.socket()) as free:
-        free.bind(('127.0.0.1', 0))
-        return free.getsockname()[1]
+    """A port of the loopback that no one has now, nor gets before it is used: it is below those that the system gives."""
+    while True:
+        port = random.randrange(10_000, 32_768)
+        with contextlib.closing(socket.socket()) as free, contextlib.suppress(OSError):
+            free.bind(('127.0.0.1', port))
+            return port
 
 
 def as_soon_as_it_listens(call, *given, **more):
@@ -158,6 +167,7 @@ class Chromium(Browser):
         wanted = {'browserName': 'chrome', 'goog:chromeOptions': {'binary': shutil.which('chromium'), 'args': options}}
         begun = as_soon_as_it_listens(self.sent, 'POST', self.base, {'capabilities': {'alwaysMatch': wanted}})
         self.base += '/' + begun['sessionId']
+        self.be_patient()
 
     @staticmethod
     def sent(method, address, given):
@@ -201,6 +211,7 @@ class Firefox(Browser):
         self.stream = self.socket.makefile('rb')
         self.message()
         self.ask(None, None, 'WebDriver:NewSession', {})
+        self.be_patient()
 
     def message(self):
         length = b''
