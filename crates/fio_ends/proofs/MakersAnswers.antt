@@ -6,7 +6,6 @@ use Rattle.fio_message.proofs.MessageLaws.{answer_back, command_back}
 use Rattle.fio_message.specs.Answers.{IsAnswer, identity_answer, other_answer_code}
 use Rattle.fio_message.specs.Commands.{IsCommand, command_octets, other_command_code}
 use Rattle.fio_message.specs.declared.types.TheConstants.{ANSWER}
-use Rattle.fio_message.specs.declared.answers.Answer.TheVariants as answers
 use Rattle.fio_message.specs.declared.answers.OtherAnswer.{OtherAnswer}
 use Rattle.fio_message.specs.declared.answers.OtherAnswer.TheVariants as kinds
 use Rattle.fio_message.specs.declared.commands.Command.{Command}
@@ -33,7 +32,7 @@ use Rattle.fio_check.specs.declared.checker.Skips.TheVariants.{Nothing, ToComman
 use Rattle.fio_check.specs.declared.outcome.LogPlace.{LogPlace}
 use Rattle.fio_check.proofs.Checkers.{taking}
 use Rattle.fio_module.specs.Makers.{makers_answer}
-use Rattle.fio_ends.specs.AnsweredLogs.{Answered, AnsweredLine, AnswersAccuseNone, Identified, JudgeAccusesNoMaker, MayBeGiven, Plain, answer_kind, begin_heard, lines_with, lines_without}
+use Rattle.fio_ends.specs.AnsweredLogs.{Answered, AnsweredLine, AnswersAccuseNone, Identified, JudgeAccusesNoMaker, Plain, answer_kind, begin_heard, lines_with}
 use Rattle.fio_ends.specs.LinkLogs.{AccusesNeither, JudgeAccusesNone, judging_at_start}
 use Rattle.fio_ends.proofs.JudgeSteps.{Judged, passed}
 use Rattle.fio_ends.proofs.JudgeSteps.{kept as judged}

@@ -1,6 +1,6 @@
 -- What a machine logs of levels that are made of entries is these entries.
 use Rattle.fio_ends.proofs.Names.{◌≡◌, ◌∙◌, ◌+◌, ◌<◌, ◌≤◌, ◌%◌, ◌^◌, ◌==◌, ◌&&◌, ◌⊎◌, inl, inr, ℕ, zero, suc, Bool, true, false, not, List, [], ◌∷◌, ◌++◌, map, refl, ap, ap₂, sym, subst, arith, if◌then◌else◌, nat_le, nat_tests, append_assoc, append-nil, beq, subst, AllByRecursion, Transition, Settings, AreInRange, map-append}
-use Rattle.fio_ends.proofs.LevelLives.{change_at, changes_below, changes_to, is_changed_at}
+use Rattle.fio_ends.proofs.LevelLives.{changes_below, changes_to, is_changed_at}
 use Rattle.fio_ends.proofs.Plans.{Plan, logged}
 use Rattle.fio_ends.proofs.TimedEntries.{InputsRise, IsOfOpen, Rise, Timed, Turn, all_open, changes_where, each_left, each_upto, has_entry, keeps_level, left, levels_with, levels_with-append, none_below, none_closed, rise_next, turn-append, turn-front, upto, upto_and_left, upto_one_more, with_level}
 

@@ -8,7 +8,7 @@ use Rattle.fio_message.specs.declared.answers.OtherAnswer.{OtherAnswer}
 use Rattle.fio_message.specs.declared.commands.Command.TheVariants.{Other}
 use Rattle.fio_message.specs.declared.commands.OtherCommand.{OtherCommand}
 use Rattle.fio_message.specs.declared.commands.OtherCommand.TheVariants as commands
-use Rattle.fio_check.specs.LinkJudges.{Frame, Judging, LogLine, Lost, outcomes_of}
+use Rattle.fio_check.specs.LinkJudges.{Frame, Judging, LogLine, outcomes_of}
 use Rattle.fio_check.specs.declared.limits.RuleLimits.{RuleLimits}
 use Rattle.fio_check.specs.declared.outcome.LogPlace.{LogPlace}
 use Rattle.fio_link.specs.Link.{Machine}
