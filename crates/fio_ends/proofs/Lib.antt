@@ -113,3 +113,4 @@ pub mod AnewFrames
 pub mod Restarted
 pub mod JudgeExamples
 mod MakersAnswers
+mod EventLogs
