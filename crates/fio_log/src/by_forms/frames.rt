@@ -126,14 +126,21 @@ impl FormReader {
         ensures reading { self.new.reading ≡ self.old.reading }
         ensures whole { HasNothingBeside self.old.forms heard.said.found line.now → result ≡ true }
     {
+        if self.has_near_tail(line, heard.said) || self.is_cut(line, heard) {
+            return false;
+        }
+        self.is_first(line, heard)
+    }
+
+    /// Returns whether a line ends within an octet behind those that it has.
+    fn is_cut(&self, line: &[u8], heard: LineHeard) -> bool
+        ensures { heard.said.found.end ≡ length line.now → result ≡ false }
+    {
         let end = heard.said.found.end;
-        let is_cut = match self.forms.get(heard.said.form) {
+        match self.forms.get(heard.said.form) {
             Some(form) => end <= line.len() && ends_in_gap(form, &line[end..]),
             None => false,
-        };
-        let is_usual = !self.has_near_tail(line, heard.said);
-        let is_first = self.is_first(line, heard);
-        is_first && is_usual && !is_cut
+        }
     }
 
     /// Returns whether the text behind the octets of a line is nearer to them than those of the lines above.
