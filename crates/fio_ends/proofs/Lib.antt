@@ -113,4 +113,3 @@ pub mod AnewFrames
 pub mod Restarted
 pub mod JudgeExamples
 mod MakersAnswers
-mod EventLogs

@@ -1,6 +1,6 @@
 -- In reading order: the poller of a transcript; the transcript of a run; prompt runs; their records; the rules on content and
 -- what they ask of a log; logs in which lines are lost; logs that a right link explains, and logs of polls; calls of both ends in C; both ends over lines; logs with
--- the answers of the module's maker; logs as the judge of a log gets them.
+-- the answers of the module's maker.
 pub mod Pollers
 pub mod Transcripts
 pub mod PromptRuns
@@ -15,4 +15,3 @@ pub mod Calls
 pub mod Lines
 pub mod LineRuns
 pub mod AnsweredLogs
-pub mod EventLogs
