@@ -1,16 +1,15 @@
 -- What a reader has heard and told of the next line of a log.
-use Rattle.std.proofs.Common.{◌≡◌, ◌≤◌, ◌<◌, ◌+◌, ◌-◌, ◌∙◌, ◌⊎◌, ◌==◌, ◌&&◌, ◌||◌, ℕ, Bool, true, false, List, [], ◌∷◌, Option, Some, None, IfSome, is_some, MatchBool, if◌then◌else◌, length, sym, ap, subst, refl, arith, inl, inr, slice_get}
+use Rattle.std.proofs.Common.{◌≡◌, ◌≤◌, ◌<◌, ◌+◌, ◌∙◌, ◌==◌, ◌&&◌, ℕ, Bool, true, false, List, Option, Some, None, IfSome, is_some, if◌then◌else◌, length, sym, ap, refl, arith, inl, inr}
 use Rattle.std.proofs.lemmas.Bool.Decides.{leb_tells, eqb_tells}
 use Rattle.fio_form.specs.Messages.{is_message}
 use Rattle.fio_form.specs.declared.form.LineForm.{LineForm}
 use Rattle.fio_rows.specs.Lines.{ends_above, is_ended, is_message_open, is_message_whole, open_form}
 use Rattle.fio_rows.specs.Rows.{Rows, state_of}
 use Rattle.fio_rows.specs.declared.rows.Reading.{Reading}
-use Rattle.fio_rows.specs.declared.said.Said.TheVariants as said
 use Rattle.fio_rows.specs.declared.saying.Open.{Open}
 use Rattle.fio_rows.specs.declared.saying.Open.TheVariants as opens
 use Rattle.fio_log.specs.Blanks.{Texts}
-use Rattle.fio_log.specs.Following.{Begins, Follows, FollowsAsBefore, HasLastOf, HasLine, HasNext, HasSameLines, TellsEnd, TellsLast, TellsLine, TellsNext, TellsOf, ends_above_line}
+use Rattle.fio_log.specs.Following.{Begins, Follows, FollowsAsBefore, HasLastOf, HasLine, HasNext, HasSameLines, TellsLine, TellsOf, ends_above_line}
 use Rattle.fio_log.specs.Heard.{Above, HasMore, IsHeardOf, LeavesOpen, Tells, TellsOnly, above_of, is_whole_text, known_of}
 use Rattle.fio_log.specs.Knowing.{HasAllOf}
 use Rattle.fio_log.specs.Lines.{Making, Text, is_whole}
@@ -18,7 +17,6 @@ use Rattle.fio_log.specs.declared.by_forms.FormReader.{FormReader}
 use Rattle.fio_log.specs.declared.by_forms.LineHeard.{LineHeard}
 use Rattle.fio_log.specs.declared.teller.Teller.{Teller}
 use Rattle.fio_log.specs.declared.verdict.Kind.{Kind}
-use Rattle.fio_log.specs.declared.verdict.Kind.TheVariants as kinds
 use Rattle.fio_log.specs.declared.verdict.Reason.{Reason}
 use Rattle.fio_log.specs.declared.verdict.LineVerdict.{LineVerdict}
 

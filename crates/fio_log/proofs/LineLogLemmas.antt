@@ -1,12 +1,11 @@
 -- What is told of lines by themselves.
-use Rattle.std.proofs.Common.{◌≡◌, ◌∙◌, ◌<◌, ◌≤◌, ◌+◌, ◌-◌, ℕ, Bool, true, false, not, ◌&&◌, ◌||◌, List, [], ◌∷◌, length, drop, Option, Some, None, MatchBool, slice_get, refl, sym, ap, subst, arith, inl, inr}
+use Rattle.std.proofs.Common.{◌≡◌, ◌∙◌, ◌<◌, ◌≤◌, ◌+◌, ◌-◌, ℕ, Bool, true, false, not, ◌&&◌, ◌||◌, List, [], ◌∷◌, length, drop, Option, Some, None, MatchBool, slice_get, refl, sym, ap, arith, inl, inr}
 use Rattle.std.specs.Prelude.{if◌then◌else◌, nat_le, unwrap_or, zero, suc}
 use Rattle.std.specs.List.{AllByRecursion}
 use Rattle.std.proofs.lemmas.Bool.{cases_Bool}
 use Rattle.std.proofs.lemmas.List.{length-drop}
 use Rattle.fio_form.specs.Bare.{is_cut_short}
 use Rattle.fio_form.specs.Reading.{octets_by}
-use Rattle.fio_form.specs.declared.form.Digits.{Digits}
 use Rattle.fio_form.specs.declared.form.LineForm.{LineForm}
 use Rattle.fio_form.specs.declared.form.LineRows.TheVariants.{One}
 use Rattle.fio_form.specs.declared.octets.TheConstants.{OCTETS}
@@ -20,23 +19,22 @@ use Rattle.fio_rows.specs.Laws.{is_other}
 use Rattle.fio_rows.specs.Lines.{begun_line, first_line_in, has, is_message_broken, is_message_open, is_message_whole, is_stray, is_stream, line_goes_on, offset_after, offset_of, read_in, row_of, says_message}
 use Rattle.fio_rows.specs.Places.{Places, first_places, places_in}
 use Rattle.fio_rows.specs.RowLaws.{IsReadInRows}
-use Rattle.fio_rows.specs.Rows.{Rows, open_after, rows_of, say, say_whole, state_of, whole_before}
+use Rattle.fio_rows.specs.Rows.{Rows, open_after, say, say_whole, whole_before}
 use Rattle.fio_rows.specs.declared.rows.Reading.{Reading}
 use Rattle.fio_rows.specs.declared.said.Said.{Said}
 use Rattle.fio_rows.specs.declared.said.Said.TheVariants as said
 use Rattle.fio_rows.specs.declared.saying.Open.{Open}
 use Rattle.fio_rows.specs.declared.saying.Open.TheVariants as opens
 use Rattle.fio_log.specs.Blanks.{Texts}
-use Rattle.fio_log.specs.Following.{TellsEnd, TellsLine, ends_above_line}
-use Rattle.fio_log.specs.Heard.{Above, HasNoOther, HasRowRoom, IsHeardOf, IsReadOf, Known, Tells, TellsEcho, TellsMessage, TellsSaid, is_lost, is_odd_by, is_of_echoes, is_of_message, is_of_others, has_nul, is_spoilt, is_whole_text, lacks_octets, says_octets}
+use Rattle.fio_log.specs.Following.{TellsLine}
+use Rattle.fio_log.specs.Heard.{Above, HasNoOther, HasRowRoom, IsHeardOf, Known, Tells, TellsEcho, TellsMessage, TellsSaid, is_lost, is_odd_by, is_of_echoes, is_of_message, is_of_others, has_nul, is_spoilt, is_whole_text, says_octets}
 use Rattle.fio_log.specs.LineLogs.{AreLines, AreOfOneLine, AreToldInTurn, AreToldRight, Gone, IsLine, IsMessageLine, IsToldAs, LineIs, Message, Other, ToldLine}
 use Rattle.fio_log.specs.Lines.{Text}
-use Rattle.fio_log.specs.Spoilt.{are_odd_by, has_odd_digits, width_of}
+use Rattle.fio_log.specs.Spoilt.{are_odd_by, width_of}
 use Rattle.fio_log.specs.declared.by_forms.LineHeard.{LineHeard}
 use Rattle.fio_log.specs.declared.verdict.Kind.{Kind}
 use Rattle.fio_log.specs.declared.verdict.Kind.TheVariants as kinds
 use Rattle.fio_log.specs.declared.verdict.Reason.{Reason}
-use Rattle.fio_log.specs.declared.verdict.Reason.TheVariants as reasons
 use Rattle.fio_log.proofs.FollowingLemmas.{false_unless, none_ends}
 
 -- ---- No message is open below a line of such forms
@@ -166,7 +164,7 @@ other_told known text above heard after kind reason frames none closed is tells 
   | inl whole ↦
       let read = is.read whole in
       let other : heard.said.said ≡ said.Other = said_other heard.said.said
-          (ap (λ (r : Rows). is_other r.said) read.rows ∙ none_other known.forms text.octets _ above closed none) in
+      (ap (λ (r : Rows). is_other r.said) read.rows ∙ none_other known.forms text.octets _ above closed none) in
       other_or_lost (is_lost known.forms text.octets heard) heard.said.said known text.octets heard kind reason frames other tells
 ]
 
@@ -258,29 +256,29 @@ message_told known text above heard after kind reason frames message are line cl
     let places = places_first known.forms text.octets above closed in
     let tail : (places_in known.forms text.octets above).end ≡ [] = ap (λ (p : Places). p.end) places ∙ line.end in
     let says : IsReadInRows message (read_in known.forms text.octets (places_in known.forms text.octets above).end above) =
-        itself_said known.forms text.octets (places_in known.forms text.octets above).end message above closed
-        (not_cut _ tail, alone known.forms text.octets are line.room) line.read in
+    itself_said known.forms text.octets (places_in known.forms text.octets above).end message above closed
+    (not_cut _ tail, alone known.forms text.octets are line.room) line.read in
     let frame : heard.said.said ≡ said.Frame = ap (λ (r : Rows). r.said) read.rows ∙ says.said in
     let kept : after.message.items ≡ message = ap (λ (r : Rows). r.message) read.rows ∙ says.kept in
     let ends : heard.said.found.end ≡ length text.octets = all_dropped heard.said.found.end text.octets read.within.2 (read.places.2 ∙ tail) in
     let begins : heard.said.found.front ≡ length text.octets - length (first_places known.forms text.octets).front =
-        front_place heard.said.found.front text.octets _ (omega (arith, read.within.0, read.within.1, read.within.2))
-        (read.places.0 ∙ ap (λ (p : Places). p.front) places) in
+    front_place heard.said.found.front text.octets _ (omega (arith, read.within.0, read.within.1, read.within.2))
+    (read.places.0 ∙ ap (λ (p : Places). p.front) places) in
     let short : heard.is_long ≡ false = is.long ∙ not_true text.is_long (and_true_left _ _ line.whole) in
     let there : heard.has_gap ≡ false = is.gap ∙ not_true _ (and_true_right _ _ line.whole) in
     let odd : is_odd_by (slice_get known.forms heard.said.form) (drop heard.said.found.end text.octets) ≡ false =
-        rw (read.places.2, tail) (nothing_odd (slice_get known.forms heard.said.form)) in
+    rw (read.places.2, tail) (nothing_odd (slice_get known.forms heard.said.form)) in
     let found : is_lost known.forms text.octets heard ≡ false =
-        none_lost heard.is_long heard.has_gap (is_spoilt known.forms text.octets heard.said) short there (and_false (says_octets heard.said.said) (nat_le heard.said.found.end (length text.octets)) _ odd) in
+    none_lost heard.is_long heard.has_gap (is_spoilt known.forms text.octets heard.said) short there (and_false (says_octets heard.said.said) (nat_le heard.said.found.end (length text.octets)) _ odd) in
     let told : TellsSaid heard.said.said known text.octets heard kind reason frames =
-        by_false (kind ≡ kinds.Damaged) (TellsSaid heard.said.said known text.octets heard kind reason frames) (is_lost known.forms text.octets heard) found tells in
+    by_false (kind ≡ kinds.Damaged) (TellsSaid heard.said.said known text.octets heard kind reason frames) (is_lost known.forms text.octets heard) found tells in
     let own : TellsMessage known.forms known.message text.octets known.rows heard kind reason frames =
-        by_false (TellsEcho known.message known.last kind) (TellsMessage known.forms known.message text.octets known.rows heard kind reason frames)
-        (is_of_echoes (slice_get known.forms heard.said.form)) (none_echoes known.forms heard.said.form are)
-        (message_by heard.said.said known text.octets heard kind reason frames frame told) in
+    by_false (TellsEcho known.message known.last kind) (TellsMessage known.forms known.message text.octets known.rows heard kind reason frames)
+    (is_of_echoes (slice_get known.forms heard.said.form)) (none_echoes known.forms heard.said.form are)
+    (message_by heard.said.said known text.octets heard kind reason frames frame told) in
     let off : heard.said.goes_on ≡ false = read.on ∙ goes_on_never known.forms text.octets above closed in
     let room : HasRowRoom known.rows heard = λ on.
-        let never : false ≡ true = sym off ∙ and_true_left heard.said.goes_on (is_of_message heard.said.said) (sym is.row ∙ on) in absurd (cc) in
+    let never : false ≡ true = sym off ∙ and_true_left heard.said.goes_on (is_of_message heard.said.said) (sym is.row ∙ on) in absurd (cc) in
     let right : is_message after.message.items ≡ true = is.messages.said (ap says_message frame) in
     let given : kind ≡ kinds.Frames = own.given (ap is_message same ∙ right) room in
     let no_other : HasNoOther known.message heard reason frames = own.only given (record { before = rw begins line.before; end = ends }) in (

@@ -1,5 +1,5 @@
 -- Lines that no form has.
-use Rattle.std.proofs.Common.{◌≡◌, ◌<◌, ℕ, Bool, true, false, not, List, [], ◌∷◌, Some, length, get_or, slice_get, refl, ap, sym, subst, zero, suc}
+use Rattle.std.proofs.Common.{◌≡◌, ◌<◌, ℕ, false, not, List, [], ◌∷◌, Some, length, get_or, slice_get, refl, subst, zero, suc}
 use Rattle.std.specs.List.{AllByRecursion}
 use Rattle.std.proofs.lemmas.Option.{same_Some, slice_get_read}
 use Rattle.fio_form.specs.Reading.{octets_found}

@@ -5,7 +5,7 @@ use Rattle.fio_form.specs.Reading.{Frame, octets_by, read_line}
 use Rattle.fio_form.specs.declared.form.LineForm.{LineForm}
 use Rattle.fio_form.specs.declared.form.LineRows.TheVariants.{One}
 use Rattle.fio_form.specs.declared.octets.TheConstants.{OCTETS}
-use Rattle.fio_rows.specs.Lines.{has, is_message_open}
+use Rattle.fio_rows.specs.Lines.{has}
 use Rattle.fio_rows.specs.Places.{first_places}
 use Rattle.fio_log.specs.Blanks.{Texts}
 use Rattle.fio_log.specs.Following.{TellsOf}

@@ -1,4 +1,4 @@
-use Rattle.std.proofs.Common.{◌≡◌, ◌∙◌, ◌+◌, ◌==◌, ◌&&◌, None, true, false, length, ap, arith, inl, inr, refl, rules, sym}
+use Rattle.std.proofs.Common.{◌≡◌, ◌∙◌, ◌+◌, ◌==◌, ◌&&◌, true, false, length, ap, arith, inl, inr, refl, rules, sym}
 use Rattle.fio_rows.specs.Lines.{is_message_whole}
 use Rattle.fio_rows.specs.Rows.{state_of}
 use Rattle.fio_log.specs.Heard.{above_of}
