@@ -1,16 +1,15 @@
 -- What a reader has heard and told of the next line of a log.
-use Rattle.std.proofs.Common.{◌≡◌, ◌≤◌, ◌<◌, ◌+◌, ◌-◌, ◌∙◌, ◌⊎◌, ◌==◌, ◌&&◌, ◌||◌, ℕ, Bool, true, false, List, [], ◌∷◌, Option, Some, None, IfSome, is_some, MatchBool, if◌then◌else◌, length, sym, ap, subst, refl, arith, inl, inr, slice_get}
+use Rattle.std.proofs.Common.{◌≡◌, ◌≤◌, ◌<◌, ◌+◌, ◌∙◌, ◌==◌, ◌&&◌, ℕ, Bool, true, false, List, Option, Some, None, IfSome, is_some, if◌then◌else◌, length, sym, ap, refl, arith, inl, inr}
 use Rattle.std.proofs.lemmas.Bool.Decides.{leb_tells, eqb_tells}
 use Rattle.fio_form.specs.Messages.{is_message}
 use Rattle.fio_form.specs.declared.form.LineForm.{LineForm}
 use Rattle.fio_rows.specs.Lines.{ends_above, is_ended, is_message_open, is_message_whole, open_form}
 use Rattle.fio_rows.specs.Rows.{Rows, state_of}
 use Rattle.fio_rows.specs.declared.rows.Reading.{Reading}
-use Rattle.fio_rows.specs.declared.said.Said.TheVariants as said
 use Rattle.fio_rows.specs.declared.saying.Open.{Open}
 use Rattle.fio_rows.specs.declared.saying.Open.TheVariants as opens
 use Rattle.fio_log.specs.Blanks.{Texts}
-use Rattle.fio_log.specs.Following.{Begins, Follows, FollowsAsBefore, HasLastOf, HasLine, HasNext, HasSameLines, TellsEnd, TellsLast, TellsLine, TellsNext, TellsOf, ends_above_line}
+use Rattle.fio_log.specs.Following.{Begins, Follows, FollowsAsBefore, HasLastOf, HasLine, HasNext, HasSameLines, TellsLine, TellsOf, ends_above_line}
 use Rattle.fio_log.specs.Heard.{Above, HasMore, IsHeardOf, LeavesOpen, Tells, TellsOnly, above_of, is_whole_text, known_of}
 use Rattle.fio_log.specs.Knowing.{HasAllOf}
 use Rattle.fio_log.specs.Lines.{Making, Text, is_whole}
@@ -18,7 +17,7 @@ use Rattle.fio_log.specs.declared.by_forms.FormReader.{FormReader}
 use Rattle.fio_log.specs.declared.by_forms.LineHeard.{LineHeard}
 use Rattle.fio_log.specs.declared.teller.Teller.{Teller}
 use Rattle.fio_log.specs.declared.verdict.Kind.{Kind}
-use Rattle.fio_log.specs.declared.verdict.Kind.TheVariants as kinds
+use Rattle.fio_log.specs.declared.verdict.Reason.{Reason}
 use Rattle.fio_log.specs.declared.verdict.LineVerdict.{LineVerdict}
 
 -- an option with nothing that can be in it
@@ -109,14 +108,14 @@ more_follows texts above teller making more frames read next told is whole unhea
 }
   where
     waits_on : (texts : Texts) (above : Above) (teller : Teller) (frames : List (List ℕ)) (read told : ℕ)
-        → IfSome teller.waiting (λ verdict. (told < read) × TellsLine false teller.by_forms.forms (texts (told + 1)) above verdict.kind frames (above_of teller.by_forms)
+        → IfSome teller.waiting (λ verdict. (told < read) × TellsLine false teller.by_forms.forms (texts (told + 1)) above verdict.kind verdict.reason frames (above_of teller.by_forms)
         × (is_message_whole teller.by_forms.reading.pending ≡ true → teller.is_open ≡ true))
-        → IfSome teller.waiting (λ verdict. (told < read + 1) × TellsLine false teller.by_forms.forms (texts (told + 1)) above verdict.kind frames (above_of teller.by_forms)
+        → IfSome teller.waiting (λ verdict. (told < read + 1) × TellsLine false teller.by_forms.forms (texts (told + 1)) above verdict.kind verdict.reason frames (above_of teller.by_forms)
         × (is_message_whole teller.by_forms.reading.pending ≡ true → teller.is_open ≡ true))
     waits_on texts above teller frames read told waits = elim teller.waiting as (λ w.
-        IfSome w (λ verdict. (told < read) × TellsLine false teller.by_forms.forms (texts (told + 1)) above verdict.kind frames (above_of teller.by_forms)
+        IfSome w (λ verdict. (told < read) × TellsLine false teller.by_forms.forms (texts (told + 1)) above verdict.kind verdict.reason frames (above_of teller.by_forms)
         × (is_message_whole teller.by_forms.reading.pending ≡ true → teller.is_open ≡ true))
-        → IfSome w (λ verdict. (told < read + 1) × TellsLine false teller.by_forms.forms (texts (told + 1)) above verdict.kind frames (above_of teller.by_forms)
+        → IfSome w (λ verdict. (told < read + 1) × TellsLine false teller.by_forms.forms (texts (told + 1)) above verdict.kind verdict.reason frames (above_of teller.by_forms)
         × (is_message_whole teller.by_forms.reading.pending ≡ true → teller.is_open ≡ true))) [
           | None ↦ λ waits. tt
           | Some verdict ↦ λ waits. (omega (arith, waits.0), waits.1, waits.2)
@@ -219,7 +218,7 @@ heard_follows texts above before after making frames more read told heard was kn
 pub settled_follows : (texts : Texts) (above : Above) (before after : Teller) (making : Making) (frames more : List (List ℕ)) (read told : ℕ)
     (heard : LineHeard) (verdict : LineVerdict) → HasSameLines before after → before.heard ≡ Some heard → after.heard ≡ None
     → after.waiting ≡ Some verdict → HasLine before.first before.lines making read (told + 1)
-    → TellsLine false before.by_forms.forms (texts (told + 1)) above verdict.kind more (above_of after.by_forms)
+    → TellsLine false before.by_forms.forms (texts (told + 1)) above verdict.kind verdict.reason more (above_of after.by_forms)
     → (is_message_whole after.by_forms.reading.pending ≡ true → after.is_open ≡ true)
     → Follows texts above before making frames read told → Follows texts above after making more read told
 settled_follows texts above before after making frames more read told heard verdict same was none waits has tells opens follows = record {
@@ -262,11 +261,11 @@ last_follows texts above before after making frames more read told same none sil
 
 -- a verdict that tells what was heard
 pub line_told : (reader : FormReader) (text : Text) (octets : List ℕ) (is_long : Bool) (above below : Above) (heard : LineHeard) (kind : Kind)
-    (frames : List (List ℕ)) → text ≡ record { octets = octets; is_long = is_long } → IsHeardOf reader.forms text above.state heard reader.reading
-    → above.rows ≡ length reader.rows.places.items → Tells (known_of reader) octets heard kind frames
+    (reason : Reason) (frames : List (List ℕ)) → text ≡ record { octets = octets; is_long = is_long } → IsHeardOf reader.forms text above.state heard reader.reading
+    → above.rows ≡ length reader.rows.places.items → Tells (known_of reader) octets heard kind reason frames
     → LeavesOpen (length reader.rows.places.items) heard kind reader.reading below
-    → TellsLine false reader.forms text above kind frames below
-line_told reader text octets is_long above below heard kind frames same is rows tells left = record {
+    → TellsLine false reader.forms text above kind reason frames below
+line_told reader text octets is_long above below heard kind reason frames same is rows tells left = record {
   heard = heard;
   after = reader.reading;
   last = reader.last.items;
@@ -306,10 +305,10 @@ whole_open opens.Begun whole = refl
 whole_open opens.Whole whole = refl
 
 -- a verdict that tells the message that ends with a line
-pub end_told : (forms : List LineForm) (text : Text) (above below : Above) (kind more : Kind) (frames others : List (List ℕ)) (message : List ℕ)
-    → TellsLine false forms text above kind frames below → is_message_whole below.state.pending ≡ true → message ≡ below.state.message
-    → (is_message message ≡ true → TellsOnly message more others) → TellsLine true forms text above more others below
-end_told forms text above below kind more frames others message tells whole same only =
+pub end_told : (forms : List LineForm) (text : Text) (above below : Above) (kind more : Kind) (reason other : Reason) (frames others : List (List ℕ)) (message : List ℕ)
+    → TellsLine false forms text above kind reason frames below → is_message_whole below.state.pending ≡ true → message ≡ below.state.message
+    → (is_message message ≡ true → TellsOnly message more others) → TellsLine true forms text above more other others below
+end_told forms text above below kind more reason other frames others message tells whole same only =
     let opened : is_message_open below.state.pending ≡ true = whole_open below.state.pending whole in
     let left : below.state ≡ state_of tells.after = tells.left.open_message opened in
     let ended : is_message_whole (state_of tells.after).pending ≡ true = rw left at whole in
@@ -330,31 +329,32 @@ end_told forms text above below kind more frames others message tells whole same
       };
     }
 
-by_ends : (ends is : Bool) (forms : List LineForm) (text : Text) (above : Above) (kind : Kind) (frames : List (List ℕ)) (below : Above)
-    → is ≡ ends → TellsLine ends forms text above kind frames below → TellsLine is forms text above kind frames below
-by_ends ends is forms text above kind frames below same tells = rw same tells
+by_ends : (ends is : Bool) (forms : List LineForm) (text : Text) (above : Above) (kind : Kind) (reason : Reason) (frames : List (List ℕ)) (below : Above)
+    → is ≡ ends → TellsLine ends forms text above kind reason frames below → TellsLine is forms text above kind reason frames below
+by_ends ends is forms text above kind reason frames below same tells = rw same tells
 
 -- a verdict that tells a line which may be the last one, by whether a message ends there
-pub tells_of : (is_last ends : Bool) (forms : List LineForm) (text next : Text) (above : Above) (kind : Kind) (frames : List (List ℕ)) (below : Above)
+pub tells_of : (is_last ends : Bool) (forms : List LineForm) (text next : Text) (above : Above) (kind : Kind) (reason : Reason) (frames : List (List ℕ)) (below : Above)
     → (is_last ≡ true → is_message_whole below.state.pending ≡ ends) → ends_above_line forms next below.state ≡ ends
-    → TellsLine ends forms text above kind frames below → TellsOf is_last forms text next above kind frames below
-tells_of true ends forms text next above kind frames below last line tells = record {
+    → TellsLine ends forms text above kind reason frames below → TellsOf is_last forms text next above kind reason frames below
+tells_of true ends forms text next above kind reason frames below last line tells = record {
   first = kind;
+  why = reason;
   told = frames;
   below = below;
-  is = by_ends ends (is_message_whole below.state.pending) forms text above kind frames below (last refl) tells;
-  more = inl (refl, refl);
+  is = by_ends ends (is_message_whole below.state.pending) forms text above kind reason frames below (last refl) tells;
+  more = inl (refl, refl, refl);
 }
-tells_of false ends forms text next above kind frames below last line tells =
-    by_ends ends (ends_above_line forms next below.state) forms text above kind frames below line tells
+tells_of false ends forms text next above kind reason frames below last line tells =
+    by_ends ends (ends_above_line forms next below.state) forms text above kind reason frames below line tells
 
 -- a verdict on the last line
-pub last_told : (is_last : Bool) (forms : List LineForm) (text after : Text) (above : Above) (kind more : Kind) (frames others : List (List ℕ))
-    (below next : Above) → is_last ≡ true → TellsLine (is_message_whole below.state.pending) forms text above kind frames below
-    → HasMore kind frames more others → TellsOf is_last forms text after above more others next
-last_told true forms text after above kind more frames others below next is tells has =
-    record { first = kind; told = frames; below = below; is = tells; more = has }
-last_told false forms text after above kind more frames others below next is tells has = absurd (cc)
+pub last_told : (is_last : Bool) (forms : List LineForm) (text after : Text) (above : Above) (kind more : Kind) (reason other : Reason) (frames others : List (List ℕ))
+    (below next : Above) → is_last ≡ true → TellsLine (is_message_whole below.state.pending) forms text above kind reason frames below
+    → HasMore kind reason frames more other others → TellsOf is_last forms text after above more other others next
+last_told true forms text after above kind more reason other frames others below next is tells has =
+    record { first = kind; why = reason; told = frames; below = below; is = tells; more = has }
+last_told false forms text after above kind more reason other frames others below next is tells has = absurd (cc)
 
 pub false_unless : (b : Bool) → (b ≡ true → false ≡ true) → b ≡ false
 false_unless true never = sym (never refl)
@@ -457,17 +457,17 @@ both false b first second = absurd (cc)
 
 -- a verdict on the last line, with what ends with the log
 pub log_told : (is_last : Bool) (forms : List LineForm) (text after : Text) (above : Above) (reader : FormReader) (kind more : Kind)
-    (frames others : List (List ℕ)) (next : Above) → is_last ≡ true → TellsLine false forms text above kind frames (above_of reader)
+    (reason other : Reason) (frames others : List (List ℕ)) (next : Above) → is_last ≡ true → TellsLine false forms text above kind reason frames (above_of reader)
     → (is_message_whole reader.reading.pending ≡ true → is_message reader.reading.message.items ≡ true → TellsOnly reader.reading.message.items more others)
-    → (is_message_whole reader.reading.pending ≡ false → HasMore kind frames more others) → TellsOf is_last forms text after above more others next
-log_told is_last forms text after above reader kind more frames others next last tells only has = by_whole (is_message_whole reader.reading.pending) refl
+    → (is_message_whole reader.reading.pending ≡ false → HasMore kind reason frames more other others) → TellsOf is_last forms text after above more other others next
+log_told is_last forms text after above reader kind more reason other frames others next last tells only has = by_whole (is_message_whole reader.reading.pending) refl
   where
-    by_whole : (b : Bool) → is_message_whole reader.reading.pending ≡ b → TellsOf is_last forms text after above more others next
-    by_whole true whole = last_told is_last forms text after above more more others others (above_of reader) next last
-        (by_ends true (is_message_whole reader.reading.pending) forms text above more others (above_of reader) whole
-        (end_told forms text above (above_of reader) kind more frames others reader.reading.message.items tells whole refl (only whole))) (inl (refl, refl))
-    by_whole false gone = last_told is_last forms text after above kind more frames others (above_of reader) next last
-        (by_ends false (is_message_whole reader.reading.pending) forms text above kind frames (above_of reader) gone tells) (has gone)
+    by_whole : (b : Bool) → is_message_whole reader.reading.pending ≡ b → TellsOf is_last forms text after above more other others next
+    by_whole true whole = last_told is_last forms text after above more more other other others others (above_of reader) next last
+        (by_ends true (is_message_whole reader.reading.pending) forms text above more other others (above_of reader) whole
+        (end_told forms text above (above_of reader) kind more reason other frames others reader.reading.message.items tells whole refl (only whole))) (inl (refl, refl, refl))
+    by_whole false gone = last_told is_last forms text after above kind more reason other frames others (above_of reader) next last
+        (by_ends false (is_message_whole reader.reading.pending) forms text above kind reason frames (above_of reader) gone tells) (has gone)
 
 -- a message that may have ended is open below a line
 pub whole_left : (rows : ℕ) (heard : LineHeard) (kind : Kind) (after : Reading) (below : Above) → LeavesOpen rows heard kind after below

@@ -12,13 +12,15 @@ use Rattle.fio_rows.specs.declared.said.Said.{Said}
 use Rattle.fio_rows.specs.declared.said.Said.TheVariants as said
 use Rattle.fio_rows.specs.declared.saying.Open.{Open}
 use Rattle.fio_rows.specs.declared.saying.Open.TheVariants as opens
-use Rattle.fio_log.specs.Heard.{Above, HasRowRoom, IsReadOf, KeepsFirst, Known, LeavesOpen, Tells, TellsEcho, TellsFrame, TellsMessage, TellsOnly, TellsPart, TellsSaid, is_lost, is_of_echoes, known_of, lacks_octets, rows_going_on, says_octets}
+use Rattle.fio_log.specs.Heard.{Above, HasNothingBeside, HasRowRoom, IsReadOf, KeepsFirst, Known, LeavesOpen, Tells, TellsEcho, TellsFrame, TellsMessage, TellsOnly, TellsPart, TellsSaid, is_lost, is_of_echoes, known_of, lacks_octets, rows_going_on, says_octets}
 use Rattle.fio_log.specs.OwnTexts.{spells}
 use Rattle.fio_log.specs.declared.heading.LineAbove.{LineAbove}
 use Rattle.fio_log.specs.declared.by_forms.FormReader.{FormReader}
 use Rattle.fio_log.specs.declared.by_forms.LineHeard.{LineHeard}
 use Rattle.fio_log.specs.declared.verdict.Kind.{Kind}
 use Rattle.fio_log.specs.declared.verdict.Kind.TheVariants as kinds
+use Rattle.fio_log.specs.declared.verdict.Reason.{Reason}
+use Rattle.fio_log.specs.declared.verdict.Reason.TheVariants as reasons
 
 -- what is read of a line by forms
 pub messages_read : (forms : List LineForm) (line tail : List ℕ) (state after : Rows) → after ≡ read_in forms line tail state → SaysMessages after
@@ -58,37 +60,74 @@ either true b is = refl
 either false b is = is
 
 -- a line that is too long
-pub tells_long : (known : Known) (line : List ℕ) (heard : LineHeard) (frames : List (List ℕ)) → heard.is_long ≡ true
-    → Tells known line heard kinds.Damaged frames
-tells_long known line heard frames long =
+pub tells_long : (known : Known) (line : List ℕ) (heard : LineHeard) (reason : Reason) (frames : List (List ℕ)) → heard.is_long ≡ true
+    → Tells known line heard kinds.Damaged reason frames
+tells_long known line heard reason frames long =
     let lost : is_lost known.forms line heard ≡ true = rw long refl in
     by_true _ _ (is_lost known.forms line heard) lost refl
 
 -- a line that lacks octets
-pub tells_gone : (known : Known) (line : List ℕ) (heard : LineHeard) (frames : List (List ℕ))
-    → lacks_octets known.forms line heard ≡ true → Tells known line heard kinds.Damaged frames
-tells_gone known line heard frames gone =
+pub tells_gone : (known : Known) (line : List ℕ) (heard : LineHeard) (reason : Reason) (frames : List (List ℕ))
+    → lacks_octets known.forms line heard ≡ true → Tells known line heard kinds.Damaged reason frames
+tells_gone known line heard reason frames gone =
     by_true _ _ (is_lost known.forms line heard) (either heard.is_long (lacks_octets known.forms line heard) gone) refl
 
 -- a line whose octets count
-pub tells_kept : (known : Known) (line : List ℕ) (heard : LineHeard) (kind : Kind) (frames : List (List ℕ)) → heard.is_long ≡ false
-    → lacks_octets known.forms line heard ≡ false → TellsSaid heard.said.said known heard kind frames
-    → Tells known line heard kind frames
-tells_kept known line heard kind frames short kept tells =
+pub tells_kept : (known : Known) (line : List ℕ) (heard : LineHeard) (kind : Kind) (reason : Reason) (frames : List (List ℕ)) → heard.is_long ≡ false
+    → lacks_octets known.forms line heard ≡ false → TellsSaid heard.said.said known line heard kind reason frames
+    → Tells known line heard kind reason frames
+tells_kept known line heard kind reason frames short kept tells =
     by_false _ _ (is_lost known.forms line heard) (both_false heard.is_long (lacks_octets known.forms line heard) short kept) tells
 
 -- what a line says
-pub tells_as : (known : Known) (heard : LineHeard) (kind : Kind) (frames : List (List ℕ)) (says what : Said) → says ≡ what
-    → TellsSaid what known heard kind frames → TellsSaid says known heard kind frames
-tells_as known heard kind frames says what is tells = rw is tells
+pub tells_as : (known : Known) (line : List ℕ) (heard : LineHeard) (kind : Kind) (reason : Reason) (frames : List (List ℕ)) (says what : Said) → says ≡ what
+    → TellsSaid what known line heard kind reason frames → TellsSaid says known line heard kind reason frames
+tells_as known line heard kind reason frames says what is tells = rw is tells
+
+-- another reason, if a message above is broken
+said_because : (says : Said) (known : Known) (line : List ℕ) (heard : LineHeard) (kind : Kind) (reason other : Reason) (frames : List (List ℕ))
+    → (heard.said.is_broken ≡ false → other ≡ reason) → TellsSaid says known line heard kind reason frames
+    → TellsSaid says known line heard kind other frames
+said_because said.Frame known line heard kind reason other frames same tells =
+    frame_because (is_of_echoes (slice_get known.forms heard.said.form)) known line heard kind reason other frames same tells
+  where
+    frame_because : (echo : Bool) (known : Known) (line : List ℕ) (heard : LineHeard) (kind : Kind) (reason other : Reason) (frames : List (List ℕ))
+        → (heard.said.is_broken ≡ false → other ≡ reason)
+        → MatchBool echo (TellsEcho known.message known.last kind) (TellsMessage known.forms known.message line known.rows heard kind reason frames)
+        → MatchBool echo (TellsEcho known.message known.last kind) (TellsMessage known.forms known.message line known.rows heard kind other frames)
+    frame_because true known line heard kind reason other frames same tells = tells
+    frame_because false known line heard kind reason other frames same tells = record {
+      given = tells.given;
+      first = tells.first;
+      only = λ is whole. record {
+        only = (tells.only is whole).only;
+        none = λ unbroken. same unbroken ∙ (tells.only is whole).none unbroken;
+      };
+      full = tells.full;
+    }
+said_because said.Part known line heard kind reason other frames same tells = tells
+said_because said.Stream known line heard kind reason other frames same tells = tells
+said_because said.Idle known line heard kind reason other frames same tells = tells
+said_because said.Stray known line heard kind reason other frames same tells = tells
+said_because said.Damaged known line heard kind reason other frames same tells = tells
+said_because said.Other known line heard kind reason other frames same tells = tells
+
+pub tells_because : (known : Known) (line : List ℕ) (heard : LineHeard) (kind : Kind) (reason other : Reason) (frames : List (List ℕ))
+    → (heard.said.is_broken ≡ false → other ≡ reason) → Tells known line heard kind reason frames → Tells known line heard kind other frames
+tells_because known line heard kind reason other frames same tells = by_lost (is_lost known.forms line heard) tells
+  where
+    by_lost : (lost : Bool) → MatchBool lost (kind ≡ kinds.Damaged) (TellsSaid heard.said.said known line heard kind reason frames)
+        → MatchBool lost (kind ≡ kinds.Damaged) (TellsSaid heard.said.said known line heard kind other frames)
+    by_lost true damaged = damaged
+    by_lost false said = said_because heard.said.said known line heard kind reason other frames same said
 
 -- a reader that knows another line above
 pub tells_below : (before after : FormReader) (above : LineAbove) (line : List ℕ) (heard : LineHeard) (kind : Kind)
-    (frames : List (List ℕ)) → after ≡ record before { above = above } → Tells (known_of after) line heard kind frames
-    → Tells (known_of before) line heard kind frames
-tells_below before after above line heard kind frames same tells =
+    (reason : Reason) (frames : List (List ℕ)) → after ≡ record before { above = above } → Tells (known_of after) line heard kind reason frames
+    → Tells (known_of before) line heard kind reason frames
+tells_below before after above line heard kind reason frames same tells =
     let known : known_of after ≡ known_of before = ap known_of same in
-    subst (λ (k : Known). Tells k line heard kind frames) known tells
+    subst (λ (k : Known). Tells k line heard kind reason frames) known tells
 
 -- a line below which no message is open
 pub left_closed : (rows : ℕ) (heard : LineHeard) (after : Reading) (below : Above) → is_message_open below.state.pending ≡ false
@@ -109,47 +148,54 @@ pub left_same : (rows : ℕ) (heard : LineHeard) (kind : Kind) (after : Reading)
 left_same rows heard kind after below what is other same = record { open_message = same; part = λ part. absurd (other (sym is ∙ part)) }
 
 -- an echo
-pub tells_echo : (known : Known) (heard : LineHeard) (kind : Kind) (frames : List (List ℕ))
+pub tells_echo : (known : Known) (line : List ℕ) (heard : LineHeard) (kind : Kind) (reason : Reason) (frames : List (List ℕ))
     → is_of_echoes (slice_get known.forms heard.said.form) ≡ true → TellsEcho known.message known.last kind
-    → TellsFrame known heard kind frames
-tells_echo known heard kind frames echo tells = by_true _ _ _ echo tells
+    → TellsFrame known line heard kind reason frames
+tells_echo known line heard kind reason frames echo tells = by_true _ _ _ echo tells
 
 -- no echo
-pub tells_own : (known : Known) (heard : LineHeard) (kind : Kind) (frames : List (List ℕ))
-    → is_of_echoes (slice_get known.forms heard.said.form) ≡ false → TellsMessage known.message known.rows heard kind frames
-    → TellsFrame known heard kind frames
-tells_own known heard kind frames own tells = by_false _ _ _ own tells
+pub tells_own : (known : Known) (line : List ℕ) (heard : LineHeard) (kind : Kind) (reason : Reason) (frames : List (List ℕ))
+    → is_of_echoes (slice_get known.forms heard.said.form) ≡ false → TellsMessage known.forms known.message line known.rows heard kind reason frames
+    → TellsFrame known line heard kind reason frames
+tells_own known line heard kind reason frames own tells = by_false _ _ _ own tells
 
 -- a message without room for its row
-pub tells_no_room : (message : List ℕ) (rows : ℕ) (heard : LineHeard) (frames : List (List ℕ)) (is_kept : Bool) → is_kept ≡ false
-    → (HasRowRoom rows heard → is_kept ≡ true) → TellsMessage message rows heard kinds.Damaged frames
-tells_no_room message rows heard frames is_kept failed room = record {
+pub tells_no_room : (forms : List LineForm) (message line : List ℕ) (rows : ℕ) (heard : LineHeard) (reason : Reason) (frames : List (List ℕ)) (is_kept : Bool) → is_kept ≡ false
+    → (HasRowRoom rows heard → is_kept ≡ true) → TellsMessage forms message line rows heard kinds.Damaged reason frames
+tells_no_room forms message line rows heard reason frames is_kept failed room = record {
   given = λ is has. let wrong : false ≡ true = sym failed ∙ room has in absurd (cc);
   first = λ is. absurd (cc);
+  only = λ is. absurd (cc);
   full = λ many. refl;
 }
 
 -- a message that is none
-pub tells_none : (message : List ℕ) (rows : ℕ) (heard : LineHeard) (frames : List (List ℕ)) (octets : List ℕ) (is_taken : Bool)
-    → octets ≡ message → is_taken ≡ false → (spells octets ≡ true → is_taken ≡ true) → TellsMessage message rows heard kinds.Damaged frames
-tells_none message rows heard frames octets is_taken same failed room = record {
+pub tells_none : (forms : List LineForm) (message line : List ℕ) (rows : ℕ) (heard : LineHeard) (reason : Reason) (frames : List (List ℕ)) (octets : List ℕ) (is_taken : Bool)
+    → octets ≡ message → is_taken ≡ false → (spells octets ≡ true → is_taken ≡ true) → TellsMessage forms message line rows heard kinds.Damaged reason frames
+tells_none forms message line rows heard reason frames octets is_taken same failed room = record {
   given = λ is has.
       let spelled : spells octets ≡ true = ap spells same ∙ is in
       let wrong : false ≡ true = sym failed ∙ room spelled in
       absurd (cc);
   first = λ is. absurd (cc);
+  only = λ is. absurd (cc);
   full = λ many. refl;
 }
 
 -- a message that is told
-pub tells_message : (message : List ℕ) (rows : ℕ) (heard : LineHeard) (before frames : List (List ℕ)) (octets : List ℕ)
+pub tells_message : (forms : List LineForm) (message line : List ℕ) (rows : ℕ) (heard : LineHeard) (reason : Reason) (before frames : List (List ℕ)) (octets : List ℕ)
     → octets ≡ message → HasRowRoom rows heard → before ≡ octets ∷ [] → KeepsFirst before frames
-    → TellsMessage message rows heard kinds.Frames frames
-tells_message message rows heard before frames octets same room taken keeps = record {
+    → (HasNothingBeside forms heard.said.found line → (frames ≡ before) × (reason ≡ reasons.None))
+    → TellsMessage forms message line rows heard kinds.Frames reason frames
+tells_message forms message line rows heard reason before frames octets same room taken keeps alone = record {
   given = λ is has. refl;
   first = λ is.
       let there : slice_get before 0 ≡ Some octets = ap (λ told. slice_get told 0) taken in
       keeps octets there ∙ ap Some same;
+  only = λ is whole. record {
+    only = (alone whole).0 ∙ taken ∙ ap (λ (one : List ℕ). one ∷ []) same;
+    none = λ unbroken. (alone whole).1;
+  };
   full = λ many. absurd (omega (arith, room many.0, many.1));
 }
 

@@ -7,3 +7,5 @@ pub mod WaitingLemmas
 pub mod FollowingLemmas
 pub mod KnowingLemmas
 pub mod HeardLemmas
+pub mod LineLogLemmas
+pub mod SecondLemmas

@@ -10,6 +10,7 @@ use Rattle.fio_log.specs.Lines.{Making, Text, is_whole}
 use Rattle.fio_log.specs.declared.by_forms.LineHeard.{LineHeard}
 use Rattle.fio_log.specs.declared.teller.Teller.{Teller}
 use Rattle.fio_log.specs.declared.verdict.Kind.{Kind}
+use Rattle.fio_log.specs.declared.verdict.Reason.{Reason}
 
 -- The message of any length that is open below a line has ended there: it is the only frame.
 pub record TellsEnd (after : Reading) (kind : Kind) (frames : List (List ℕ)) : Type 0 where
@@ -18,13 +19,13 @@ pub record TellsEnd (after : Reading) (kind : Kind) (frames : List (List ℕ)) :
 
 -- A verdict of a kind, with these frames, tells what is heard of a line by the forms, below what is known of the lines above it; and
 -- this is known below it. If a message of any length ends with the line, it tells that. `last` is the frame that was told last.
-pub record TellsLine (ends : Bool) (forms : List LineForm) (text : Text) (above : Above) (kind : Kind) (frames : List (List ℕ)) (below : Above) : Type 0 where
+pub record TellsLine (ends : Bool) (forms : List LineForm) (text : Text) (above : Above) (kind : Kind) (reason : Reason) (frames : List (List ℕ)) (below : Above) : Type 0 where
   pub heard : LineHeard
   pub after : Reading
   pub last : List ℕ
   pub is : IsHeardOf forms text above.state heard after
   pub tells : MatchBool ends (TellsEnd after kind frames)
-      (Tells (record { forms = forms; message = after.message.items; last = last; rows = above.rows }) text.octets heard kind frames)
+      (Tells (record { forms = forms; message = after.message.items; last = last; rows = above.rows }) text.octets heard kind reason frames)
   pub left : LeavesOpen above.rows heard kind after below
 
 -- whether a message of any length that is open above a line has ended there
@@ -32,17 +33,18 @@ abbrev pub ends_above_line : List LineForm → Text → Rows → Bool
 ends_above_line forms text above = if is_whole_text text then is_ended forms text.octets above else is_message_whole above.pending
 
 -- A verdict on the last line of a log tells it, and the message of any length that ends with the log, or maybe one of a stream.
-pub record TellsLast (forms : List LineForm) (text : Text) (above : Above) (kind : Kind) (frames : List (List ℕ)) : Type 0 where
+pub record TellsLast (forms : List LineForm) (text : Text) (above : Above) (kind : Kind) (reason : Reason) (frames : List (List ℕ)) : Type 0 where
   pub first : Kind
+  pub why : Reason
   pub told : List (List ℕ)
   pub below : Above
-  pub is : TellsLine (is_message_whole below.state.pending) forms text above first told below
-  pub more : HasMore first told kind frames
+  pub is : TellsLine (is_message_whole below.state.pending) forms text above first why told below
+  pub more : HasMore first why told kind reason frames
 
 -- a verdict tells a line, which may be the last one of a log; else another one is below it
-abbrev pub TellsOf : Bool → List LineForm → Text → Text → Above → Kind → List (List ℕ) → Above → Type 0
-TellsOf is_last forms text next above kind frames below = MatchBool is_last (TellsLast forms text above kind frames)
-    (TellsLine (ends_above_line forms next below.state) forms text above kind frames below)
+abbrev pub TellsOf : Bool → List LineForm → Text → Text → Above → Kind → Reason → List (List ℕ) → Above → Type 0
+TellsOf is_last forms text next above kind reason frames below = MatchBool is_last (TellsLast forms text above kind reason frames)
+    (TellsLine (ends_above_line forms next below.state) forms text above kind reason frames below)
 
 -- The line with this number is there: it is in a window of so many lines from a first one on, or it is the last one that is read.
 pub record HasLine (first lines : ℕ) (making : Making) (read number : ℕ) : Type 0 where
@@ -76,7 +78,7 @@ pub record Follows (texts : Texts) (above : Above) (teller : Teller) (making : M
       × IsHeardOf teller.by_forms.forms (texts (told + 1)) above.state heard teller.by_forms.reading
       × (above.rows ≡ length teller.by_forms.rows.places.items))
   pub waiting : IfSome teller.waiting (λ verdict. (told < read)
-      × TellsLine false teller.by_forms.forms (texts (told + 1)) above verdict.kind frames (above_of teller.by_forms)
+      × TellsLine false teller.by_forms.forms (texts (told + 1)) above verdict.kind verdict.reason frames (above_of teller.by_forms)
       × (is_message_whole teller.by_forms.reading.pending ≡ true → teller.is_open ≡ true))
   pub none : teller.heard ≡ None → teller.waiting ≡ None → above ≡ above_of teller.by_forms
   pub unknown : teller.is_known ≡ false → (teller.heard ≡ None) × (teller.waiting ≡ None)
@@ -100,10 +102,10 @@ abbrev pub HasNext : Teller → ℕ → ℕ → Type 0
 HasNext teller read told = teller.is_known ≡ true → told < read → teller.heard ≡ None → teller.waiting ≡ None → ⊥
 
 -- A verdict tells the next line; what is known below it is known above the one that is next.
-pub record TellsNext (texts : Texts) (forms : List LineForm) (above : Above) (is_ended : Bool) (kind : Kind) (after : Teller) (making : Making)
+pub record TellsNext (texts : Texts) (forms : List LineForm) (above : Above) (is_ended : Bool) (kind : Kind) (reason : Reason) (after : Teller) (making : Making)
     (frames : List (List ℕ)) (read told : ℕ) : Type 0 where
   pub below : Above
-  pub tells : TellsOf (is_ended && told + 1 == read) forms (texts (told + 1)) (texts (told + 2)) above kind frames below
+  pub tells : TellsOf (is_ended && told + 1 == read) forms (texts (told + 1)) (texts (told + 2)) above kind reason frames below
   pub follows : Follows texts below after making frames read (told + 1)
 
 -- The next line is told with the line below it, or no message that may end is open.

@@ -1,10 +1,11 @@
 -- What is heard of a line by the forms, and what its verdict tells of that.
-use Rattle.std.specs.Prelude.{◌≡◌, ℕ, ◌+◌, if◌then◌else◌, ◌<◌, ◌≤◌, ◌==◌, ◌&&◌, ◌||◌, ◌⊎◌, nat_le, not, Bool, true, false, MatchBool, List, [], ◌∷◌, length, drop, Option, Some, None, slice_get}
-use Rattle.std.specs.List.{list_any}
+use Rattle.std.specs.Prelude.{◌≡◌, ℕ, ◌+◌, if◌then◌else◌, ◌<◌, ◌≤◌, ◌==◌, ◌&&◌, ◌||◌, ◌⊎◌, nat_le, not, Bool, true, false, MatchBool, List, [], ◌∷◌, length, drop, take, Option, Some, None, slice_get}
+use Rattle.std.specs.List.{AllByRecursion, list_any}
 use Rattle.fio_form.specs.Messages.{is_message}
 use Rattle.fio_form.specs.declared.form.LineForm.{LineForm}
+use Rattle.fio_form.specs.declared.reading.Found.{Found}
 use Rattle.fio_rows.specs.Laws.{SaysMessages}
-use Rattle.fio_rows.specs.Lines.{is_ended, is_message_begun, is_message_broken, is_message_open, is_message_whole, line_goes_on, read_in}
+use Rattle.fio_rows.specs.Lines.{has, is_ended, is_message_begun, is_message_broken, is_message_open, is_message_whole, line_goes_on, read_in}
 use Rattle.fio_rows.specs.Places.{AreAt, AreWithin, places_in}
 use Rattle.fio_rows.specs.Rows.{Rows, rows_of, state_of}
 use Rattle.fio_rows.specs.declared.rows.Reading.{Reading}
@@ -18,6 +19,8 @@ use Rattle.fio_log.specs.declared.by_forms.LineHeard.{LineHeard}
 use Rattle.fio_log.specs.declared.rows.TheConstants.{ROWS}
 use Rattle.fio_log.specs.declared.verdict.Kind.{Kind}
 use Rattle.fio_log.specs.declared.verdict.Kind.TheVariants as kinds
+use Rattle.fio_log.specs.declared.verdict.Reason.{Reason}
+use Rattle.fio_log.specs.declared.verdict.Reason.TheVariants as reasons
 
 -- whether a part of a line is gone: there are NULs in its place
 abbrev pub has_nul : List ℕ → Bool
@@ -130,10 +133,27 @@ pub record TellsEcho (message last : List ℕ) (kind : Kind) : Type 0 where
   pub copy : message ≡ last → kind ≡ kinds.PassedOver
   pub other : ¬ (message ≡ last) → kind ≡ kinds.Damaged
 
--- A message is the first frame of its line, if there is room for the places of its rows.
-pub record TellsMessage (message : List ℕ) (rows : ℕ) (heard : LineHeard) (kind : Kind) (frames : List (List ℕ)) : Type 0 where
+-- no form has a text with which this one ends
+abbrev pub HasNoLine : List LineForm → List ℕ → Type 0
+HasNoLine forms text = (place : ℕ) → place < length text → AllByRecursion (λ form. has form (drop place text) ≡ false) forms
+
+-- Nothing that may be a message is beside the octets of a line: it ends with them, and no form has a line in what is before them and
+-- their front.
+pub record HasNothingBeside (forms : List LineForm) (found : Found) (line : List ℕ) : Type 0 where
+  pub before : HasNoLine forms (take found.front line)
+  pub end : found.end ≡ length line
+
+-- There is no other frame than this one, and, if no message above is broken, nothing beside it.
+pub record HasNoOther (message : List ℕ) (heard : LineHeard) (reason : Reason) (frames : List (List ℕ)) : Type 0 where
+  pub only : frames ≡ message ∷ []
+  pub none : heard.said.is_broken ≡ false → reason ≡ reasons.None
+
+-- A message is the first frame of its line, if there is room for the places of its rows; and the only one, if nothing
+-- that may be another one is beside its octets.
+pub record TellsMessage (forms : List LineForm) (message line : List ℕ) (rows : ℕ) (heard : LineHeard) (kind : Kind) (reason : Reason) (frames : List (List ℕ)) : Type 0 where
   pub given : is_message message ≡ true → HasRowRoom rows heard → kind ≡ kinds.Frames
   pub first : kind ≡ kinds.Frames → slice_get frames 0 ≡ Some message
+  pub only : kind ≡ kinds.Frames → HasNothingBeside forms heard.said.found line → HasNoOther message heard reason frames
   pub full : HasNoRowRoom rows heard → kind ≡ kinds.Damaged
 
 -- Octets that may go on are a part, if there is room for the place of the line.
@@ -159,27 +179,27 @@ is_of_others kinds.Possible = true
 is_of_others kinds.Damaged = true
 is_of_others kinds.PassedOver = true
 
--- what a kind, with these frames, tells of a line that says a message
-abbrev pub TellsFrame : Known → LineHeard → Kind → List (List ℕ) → Type 0
-TellsFrame known heard kind frames = MatchBool (is_of_echoes (slice_get known.forms heard.said.form))
+-- what a kind and a reason, with these frames, tell of a line that says a message
+abbrev pub TellsFrame : Known → List ℕ → LineHeard → Kind → Reason → List (List ℕ) → Type 0
+TellsFrame known line heard kind reason frames = MatchBool (is_of_echoes (slice_get known.forms heard.said.form))
     (TellsEcho known.message known.last kind)
-    (TellsMessage known.message known.rows heard kind frames)
+    (TellsMessage known.forms known.message line known.rows heard kind reason frames)
 
--- what a kind, with these frames, tells of a line that says this by the forms
-abbrev pub TellsSaid : Said → Known → LineHeard → Kind → List (List ℕ) → Type 0
-TellsSaid said.Frame known heard kind frames = TellsFrame known heard kind frames
-TellsSaid said.Part known heard kind frames = TellsPart known.rows heard kind
-TellsSaid said.Stream known heard kind frames = is_of_stream kind ≡ true
-TellsSaid said.Idle known heard kind frames = kind ≡ kinds.PassedOver
-TellsSaid said.Stray known heard kind frames = kind ≡ kinds.Damaged
-TellsSaid said.Damaged known heard kind frames = kind ≡ kinds.Damaged
-TellsSaid said.Other known heard kind frames = is_of_others kind ≡ true
+-- what a kind and a reason, with these frames, tell of a line that says this by the forms
+abbrev pub TellsSaid : Said → Known → List ℕ → LineHeard → Kind → Reason → List (List ℕ) → Type 0
+TellsSaid said.Frame known line heard kind reason frames = TellsFrame known line heard kind reason frames
+TellsSaid said.Part known line heard kind reason frames = TellsPart known.rows heard kind
+TellsSaid said.Stream known line heard kind reason frames = is_of_stream kind ≡ true
+TellsSaid said.Idle known line heard kind reason frames = kind ≡ kinds.PassedOver
+TellsSaid said.Stray known line heard kind reason frames = kind ≡ kinds.Damaged
+TellsSaid said.Damaged known line heard kind reason frames = kind ≡ kinds.Damaged
+TellsSaid said.Other known line heard kind reason frames = is_of_others kind ≡ true
 
 -- The verdict on a line tells what was heard of it: it is damaged if that does not count.
-abbrev pub Tells : Known → List ℕ → LineHeard → Kind → List (List ℕ) → Type 0
-Tells known line heard kind frames = MatchBool (is_lost known.forms line heard)
+abbrev pub Tells : Known → List ℕ → LineHeard → Kind → Reason → List (List ℕ) → Type 0
+Tells known line heard kind reason frames = MatchBool (is_lost known.forms line heard)
     (kind ≡ kinds.Damaged)
-    (TellsSaid heard.said.said known heard kind frames)
+    (TellsSaid heard.said.said known line heard kind reason frames)
 
 -- the message of any length that ended, with the log or above the line that was heard last
 abbrev pub ended_message : Bool → Reading → List ℕ
@@ -215,5 +235,5 @@ pub record LeavesOpen (rows : ℕ) (heard : LineHeard) (kind : Kind) (after : Re
       ⊎ (below ≡ record { state = state_of after; rows = rows_going_on heard.goes_on rows })
 
 -- Nothing was added to the frames of the last line of a log, or a message that ends with the log.
-abbrev pub HasMore : Kind → List (List ℕ) → Kind → List (List ℕ) → Type 0
-HasMore kind before more after = ((more ≡ kind) × (after ≡ before)) ⊎ ((more ≡ kinds.Frames) × KeepsFirst before after)
+abbrev pub HasMore : Kind → Reason → List (List ℕ) → Kind → Reason → List (List ℕ) → Type 0
+HasMore kind reason before more other after = ((more ≡ kind) × (other ≡ reason) × (after ≡ before)) ⊎ ((more ≡ kinds.Frames) × KeepsFirst before after)

@@ -15,4 +15,5 @@ pub mod KnownForms
 pub mod Heard
 pub mod Headers
 pub mod Following
+pub mod LineLogs
 pub mod Foreign

@@ -131,5 +131,5 @@ pub record BeginsLog (telling : Telling) : Type 0 where
 pub record HasToldLine (texts : Texts) (above : Above) (before : Telling) (verdict : LineVerdict) (after : Telling) : Type 0 where
   pub below : Above
   pub tells : TellsOf (before.is_ended && verdict.line == before.read) (forms_of before) (texts verdict.line) (texts (verdict.line + 1))
-      above verdict.kind (frames_of after) below
+      above verdict.kind verdict.reason (frames_of after) below
   pub stands : Stands texts below after

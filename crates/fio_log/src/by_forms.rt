@@ -323,7 +323,7 @@ impl FormReader {
         requires { Agrees last (length told.old.frames) }
         ensures told { is_message_whole self.old.reading.pending ≡ true → is_message self.old.reading.message.items ≡ true
             → TellsOnly self.old.reading.message.items result.kind told.new.frames }
-        ensures more { is_message_whole self.old.reading.pending ≡ false → HasMore last.kind told.old.frames result.kind told.new.frames }
+        ensures more { is_message_whole self.old.reading.pending ≡ false → HasMore last.kind last.reason told.old.frames result.kind result.reason told.new.frames }
         ensures forms { self.new.forms ≡ self.old.forms }
         ensures agrees { Agrees result (length told.new.frames) }
         ensures said { (text : Text) → SaysOf text last → SaysOf text result }

@@ -1,4 +1,6 @@
 //! What is counted of the lines of each form, and how it looks.
+ghost use Rattle.std.specs.Prelude.{◌≡◌, false, length};
+
 use crate::cut::is_number;
 use crate::ends::Ends;
 use crate::shapes::Shapes;
@@ -58,7 +60,9 @@ const SHOWN: u64 = 3;
 impl Count {
     /// Returns whether a text behind octets is that of another line: nothing or one blank stands between, less than in the lines above,
     /// and it begins with a word or a bracket.
-    fn is_near(&self, tail: &[u8]) -> bool {
+    fn is_near(&self, tail: &[u8]) -> bool
+        ensures { length tail.now ≡ 0 → result ≡ false }
+    {
         let blanks = blanks_of(tail);
         self.lines > SHOWN
             && self.near < SHOWN
@@ -108,7 +112,9 @@ fn begins_text(character: u8) -> bool {
 }
 
 /// Returns a text without the signs at its beginning that fill base64 up.
-fn past_fill(text: &[u8]) -> &[u8] {
+fn past_fill(text: &[u8]) -> &[u8]
+    ensures { length text.now ≡ 0 → length result.now ≡ 0 }
+{
     'signs: for place in 0..text.len() {
         if text[place] != b'=' {
             return &text[place..];
@@ -208,7 +214,9 @@ impl Counts {
     }
 
     /// Returns whether the text behind the octets of a line of a form is nearer to them than in the lines above.
-    pub(crate) fn has_near_tail(&self, form: usize, tail: &[u8]) -> bool {
+    pub(crate) fn has_near_tail(&self, form: usize, tail: &[u8]) -> bool
+        ensures { length tail.now ≡ 0 → result ≡ false }
+    {
         match self.all.get(form) {
             Some(count) => count.is_near(past_fill(tail)),
             None => false,

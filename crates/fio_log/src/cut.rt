@@ -1,4 +1,6 @@
 //! Lines of which the beginning or the end is gone.
+ghost use Rattle.std.specs.Prelude.{◌≡◌, false, length};
+
 use crate::digits::{digit, is_letter};
 use crate::spoilt::has_spoilt_octet;
 use fio_form::{
@@ -272,7 +274,9 @@ pub(crate) fn marks_in(form: &LineForm, text: &[u8]) -> usize {
 }
 
 /// Returns whether a line ends within an octet: what is behind its octets is a gap, or none, and the beginning of one more.
-pub(crate) fn ends_in_gap(form: &LineForm, tail: &[u8]) -> bool {
+pub(crate) fn ends_in_gap(form: &LineForm, tail: &[u8]) -> bool
+    ensures { length tail.now ≡ 0 → result ≡ false }
+{
     if tail.is_empty() {
         return false;
     }

@@ -29,7 +29,7 @@
 //! are blank (`Blanks`), what words say (`Wordings`), the program's own texts (`OwnTexts`), frames and their places (`Frames`),
 //! what a verdict says (`Verdicts`, `OwnVerdicts`), what a reader has read and returned (`Telling`), how many lines wait
 //! (`Waiting`), what is known of them (`Knowing`), what is heard of a line by the forms and told of that (`Heard`), from one line to the
-//! next (`Following`), by the forms that are known (`KnownForms`), digits that
+//! next (`Following`), in a log of lines by themselves (`LineLogs`), by the forms that are known (`KnownForms`), digits that
 //! go on behind octets (`Spoilt`), and the sizes that messages of other modules have (`Foreign`).
 //!
 //! # What is proved
@@ -48,8 +48,9 @@
 //!
 //! Of such a log a verdict tells its line, by the forms that the reader has (`line` of `Reader::verdict`, by `HasToldLine`): what
 //! `Reading::read` of `fio_rows` reads of it below what is open above it, and this is what was read of the lines above, from the
-//! beginning of the log on, where nothing is open (`begins`, `stands`). If the line says a message, that is its first frame; octets that
-//! may go on are a part, and octets without a message are passed over. Such a line is damaged only if it is too long, has NULs, or
+//! beginning of the log on, where nothing is open (`begins`, `stands`). If the line says a message, that is its first frame, and its
+//! only one if the line ends with its octets and no form has a line in what is before them; so messages by themselves are told, and
+//! nothing beside them (`lines_by_themselves_are_told`). Octets that may go on are a part, and octets without a message are passed over. Such a line is damaged only if it is too long, has NULs, or
 //! digits that go on behind its octets, or would be the 513th row of a message. A message of any length that ends with a line, since the
 //! next one does not go on with it or the log ends, is its only frame.
 //!

@@ -405,7 +405,7 @@ fn next_verdict(
         → teller.old.is_known ≡ true → at.told < at.read → HasNext teller.old at.read at.told
         → (at.is_ended ≡ false → IsDue teller.old at.read at.told)
         → Follows texts above teller.old maker.now frames.old.frames at.read at.told
-        → TellsNext texts teller.old.by_forms.forms above at.is_ended result.kind teller.new maker.now frames.new.frames at.read at.told }
+        → TellsNext texts teller.old.by_forms.forms above at.is_ended result.kind result.reason teller.new maker.now frames.new.frames at.read at.told }
 {
     match form.own() {
         Some(_text) => own,

@@ -1,4 +1,7 @@
 //! Further messages of a line, behind its first one.
+ghost use Rattle.std.specs.Prelude.{◌≡◌, ◌≤◌, None, true};
+ghost use Rattle.fio_log.specs.Heard.{HasNoLine};
+
 use crate::quiet::{Hidden, held_by_text};
 use fio_form::{
     Found, LineForm, LineRows, Octets, Piece, Whole, find, front_in, is_answer, whole_of,
@@ -26,7 +29,9 @@ pub(crate) fn second_in(
     from: usize,
     octets: &mut Octets,
     held: &mut Octets,
-) -> Option<(Found, Whole)> {
+) -> Option<(Found, Whole)>
+    ensures { HasNoLine forms.now line.now → result ≡ None }
+{
     'places: for place in from..line.len() {
         for form in forms {
             if is_told(form)
@@ -59,7 +64,9 @@ pub(crate) fn is_quiet_between(
     start: usize,
     end: usize,
     octets: &mut Octets,
-) -> bool {
+) -> bool
+    ensures { end ≤ start → result ≡ true }
+{
     start >= end
         || end > line.len()
         || held_by_text(forms, &line[start..end], octets) == Hidden::Nothing

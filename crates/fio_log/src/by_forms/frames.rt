@@ -1,7 +1,7 @@
 //! Tells the frames of a line: its message, echoes of the one above, and further messages.
-ghost use Rattle.std.specs.Prelude.{◌≡◌, ◌<◌, ◌≤◌, ◌↔◌, ℕ, List, [], IsTrue, length, true, false, slice_get};
+ghost use Rattle.std.specs.Prelude.{◌≡◌, ◌<◌, ◌≤◌, ◌↔◌, ℕ, List, [], IsTrue, length, true, false, slice_get, take};
 ghost use Rattle.fio_log.specs.Blanks.{is_blank_line};
-ghost use Rattle.fio_log.specs.Heard.{HasRowRoom, KeepsFirst, TellsEcho, TellsFrame, TellsMessage, is_of_echoes, known_of, rows_going_on};
+ghost use Rattle.fio_log.specs.Heard.{HasNoLine, HasNothingBeside, HasRowRoom, KeepsFirst, TellsEcho, TellsFrame, TellsMessage, is_of_echoes, known_of, rows_going_on};
 ghost use Rattle.fio_log.specs.Verdicts.{has_frames, has_reason};
 ghost use Rattle.fio_log.specs.Wordings.{SaysWords};
 
@@ -45,7 +45,7 @@ impl FormReader {
         told: &mut Told,
     ) -> (Kind, Reason)
         requires { told.old.frames ≡ [] }
-        ensures told { TellsFrame (known_of self.old) heard result.0 told.new.frames }
+        ensures told { TellsFrame (known_of self.old) line.entry.text.now heard result.0 result.1 told.new.frames }
         ensures forms { self.new.forms ≡ self.old.forms }
         ensures reading { self.new.reading ≡ self.old.reading }
         ensures reason { has_reason result.0 result.1 ≡ true }
@@ -93,7 +93,7 @@ impl FormReader {
         told: &mut Told,
     ) -> (Kind, Reason)
         requires { told.old.frames ≡ [] }
-        ensures told { TellsMessage self.old.reading.message.items (length self.old.rows.places.items) heard result.0 told.new.frames }
+        ensures told { TellsMessage self.old.forms self.old.reading.message.items line.entry.text.now (length self.old.rows.places.items) heard result.0 result.1 told.new.frames }
         ensures forms { self.new.forms ≡ self.old.forms }
         ensures reading { self.new.reading ≡ self.old.reading }
         ensures reason { has_reason result.0 result.1 ≡ true }
@@ -109,23 +109,44 @@ impl FormReader {
         if !is_taken {
             return (Kind::Damaged, Reason::TooLong);
         }
+        let is_alone = self.is_alone(line.text, heard);
+        let is_quiet = self.tell_seconds(line, heard.said.found.end, told);
+        if !is_alone {
+            return (Kind::Frames, Reason::More);
+        }
+        if !is_quiet {
+            return (Kind::Frames, Reason::More);
+        }
+        (Kind::Frames, Reason::None)
+    }
+
+    /// Returns whether nothing that may be octets stands before those of a line, or directly behind them.
+    fn is_alone(&mut self, line: &[u8], heard: LineHeard) -> bool
+        ensures forms { self.new.forms ≡ self.old.forms }
+        ensures reading { self.new.reading ≡ self.old.reading }
+        ensures whole { HasNothingBeside self.old.forms heard.said.found line.now → result ≡ true }
+    {
+        if self.has_near_tail(line, heard.said) || self.is_cut(line, heard) {
+            return false;
+        }
+        self.is_first(line, heard)
+    }
+
+    /// Returns whether a line ends within an octet behind those that it has.
+    fn is_cut(&self, line: &[u8], heard: LineHeard) -> bool
+        ensures { heard.said.found.end ≡ length line.now → result ≡ false }
+    {
         let end = heard.said.found.end;
-        let is_cut = match self.forms.get(heard.said.form) {
-            Some(form) => end <= line.text.len() && ends_in_gap(form, &line.text[end..]),
+        match self.forms.get(heard.said.form) {
+            Some(form) => end <= line.len() && ends_in_gap(form, &line[end..]),
             None => false,
-        };
-        let is_first = self.is_first(line.text, heard);
-        let is_usual = !self.has_near_tail(line.text, heard.said);
-        let is_quiet = self.tell_seconds(line, end, told);
-        let is_all = is_quiet && !is_cut && is_first && is_usual;
-        (
-            Kind::Frames,
-            if is_all { Reason::None } else { Reason::More },
-        )
+        }
     }
 
     /// Returns whether the text behind the octets of a line is nearer to them than those of the lines above.
-    pub(crate) fn has_near_tail(&self, line: &[u8], said: LineSaid) -> bool {
+    pub(crate) fn has_near_tail(&self, line: &[u8], said: LineSaid) -> bool
+        ensures { said.found.end ≡ length line.now → result ≡ false }
+    {
         said.found.end <= line.len()
             && self
                 .counts
@@ -136,6 +157,7 @@ impl FormReader {
     fn is_first(&mut self, line: &[u8], heard: LineHeard) -> bool
         ensures forms { self.new.forms ≡ self.old.forms }
         ensures reading { self.new.reading ≡ self.old.reading }
+        ensures begins { HasNoLine self.old.forms (take heard.said.found.front line.now) → result ≡ true }
     {
         let front = heard.said.found.front;
         match self.forms.get(heard.said.form) {
@@ -157,6 +179,7 @@ impl FormReader {
         ensures first { KeepsFirst told.old.frames told.new.frames }
         ensures forms { self.new.forms ≡ self.old.forms }
         ensures reading { self.new.reading ≡ self.old.reading }
+        ensures none { end ≡ length line.entry.text.now → (result ≡ true) × (told.new.frames ≡ told.old.frames) }
     {
         let mut from = end;
         let mut is_all = true;

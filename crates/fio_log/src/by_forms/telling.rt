@@ -1,5 +1,5 @@
 //! Verdicts on lines that were heard.
-ghost use Rattle.std.specs.Prelude.{◌≡◌, ◌<◌, ℕ, List, [], length, true, false};
+ghost use Rattle.std.specs.Prelude.{◌≡◌, ◌<◌, ◌≤◌, ℕ, List, [], length, true, false};
 ghost use Rattle.fio_rows.specs.Lines.{is_message_open};
 ghost use Rattle.fio_rows.specs.Rows.{state_of};
 ghost use Rattle.fio_log.specs.Blanks.{is_blank_line};
@@ -32,7 +32,7 @@ impl FormReader {
         told: &mut Told,
     ) -> LineVerdict
         ensures agrees { Agrees result (length told.new.frames) }
-        ensures told { Tells (known_of self.old) line.entry.text.now heard result.kind told.new.frames }
+        ensures told { Tells (known_of self.old) line.entry.text.now heard result.kind result.reason told.new.frames }
         ensures forms { self.new.forms ≡ self.old.forms }
         ensures left { LeavesOpen (length self.old.rows.places.items) heard result.kind self.old.reading (above_of self.new) }
         ensures words { SaysWords line.entry.text.now result.reason }
@@ -154,7 +154,7 @@ impl FormReader {
         told: &mut Told,
     ) -> (Kind, Reason)
         requires { told.old.frames ≡ [] }
-        ensures told { Tells (known_of self.old) line.entry.text.now heard result.0 told.new.frames }
+        ensures told { Tells (known_of self.old) line.entry.text.now heard result.0 result.1 told.new.frames }
         ensures forms { self.new.forms ≡ self.old.forms }
         ensures left { LeavesOpen (length self.old.rows.places.items) heard result.0 self.old.reading (above_of self.new) }
         ensures reason { has_reason result.0 result.1 ≡ true }
@@ -182,7 +182,7 @@ impl FormReader {
         told: &mut Told,
     ) -> (Kind, Reason)
         requires { told.old.frames ≡ [] }
-        ensures told { TellsSaid heard.said.said (known_of self.old) heard result.0 told.new.frames }
+        ensures told { TellsSaid heard.said.said (known_of self.old) line.entry.text.now heard result.0 result.1 told.new.frames }
         ensures forms { self.new.forms ≡ self.old.forms }
         ensures left { LeavesOpen (length self.old.rows.places.items) heard result.0 self.old.reading (above_of self.new) }
         ensures reason { has_reason result.0 result.1 ≡ true }
@@ -253,6 +253,7 @@ impl FormReader {
     pub(super) fn is_quiet_from(&mut self, line: &[u8], from: usize) -> bool
         ensures forms { self.new.forms ≡ self.old.forms }
         ensures reading { self.new.reading ≡ self.old.reading }
+        ensures none { length line.now ≤ from → result ≡ true }
     {
         is_quiet_between(self.forms.list(), line, from, line.len(), &mut self.octets)
     }
@@ -318,6 +319,7 @@ fn with_break(kind: Kind, reason: Reason, heard: LineHeard) -> Reason
     requires { has_reason kind reason ≡ true }
     ensures reason { has_reason kind result ≡ true }
     ensures words { (text : List ℕ) → SaysWords text reason → SaysWords text result }
+    ensures same { heard.said.is_broken ≡ false → result ≡ reason }
 {
     if heard.said.is_broken && kind != Kind::Damaged && kind != Kind::Possible {
         Reason::Broken

@@ -70,7 +70,7 @@ impl Teller {
             → HasLineAt self.old maker.now at.read (at.told + 1)
             → IsHeardOf self.old.by_forms.forms (texts (at.told + 1)) above.state heard self.old.by_forms.reading
             → above.rows ≡ length self.old.by_forms.rows.places.items
-            → TellsLine false self.old.by_forms.forms (texts (at.told + 1)) above result.kind frames.new.frames (above_of self.new.by_forms) }
+            → TellsLine false self.old.by_forms.forms (texts (at.told + 1)) above result.kind result.reason frames.new.frames (above_of self.new.by_forms) }
         ensures open_message { HasLineAt self.old maker.now at.read (at.told + 1) → is_message_whole self.new.by_forms.reading.pending ≡ true
             → self.new.is_open ≡ true }
     {
@@ -96,7 +96,7 @@ impl Teller {
             → self.old.is_known ≡ true → at.told < at.read → HasNext self.old at.read at.told
             → (at.is_ended ≡ false → IsDue self.old at.read at.told)
             → Follows texts above self.old maker.now frames.old.frames at.read at.told
-            → TellsNext texts self.old.by_forms.forms above at.is_ended result.kind self.new maker.now frames.new.frames at.read at.told }
+            → TellsNext texts self.old.by_forms.forms above at.is_ended result.kind result.reason self.new maker.now frames.new.frames at.read at.told }
     {
         let (verdict, waits) = self.tell_first(maker, at, frames);
         self.forget();
@@ -118,7 +118,7 @@ impl Teller {
         ensures told { (texts : Texts) (above : Above) → IsLineAt texts at.read maker.now → HasWindowOf texts self.old
             → self.old.is_known ≡ true → at.told < at.read → HasNext self.old at.read at.told
             → Follows texts above self.old maker.now frames.old.frames at.read at.told
-            → TellsLine false self.old.by_forms.forms (texts (at.told + 1)) above result.0.kind frames.new.frames (above_of self.new.by_forms) }
+            → TellsLine false self.old.by_forms.forms (texts (at.told + 1)) above result.0.kind result.0.reason frames.new.frames (above_of self.new.by_forms) }
         ensures open_message { (texts : Texts) (above : Above) → self.old.is_known ≡ true → at.told < at.read → HasNext self.old at.read at.told
             → Follows texts above self.old maker.now frames.old.frames at.read at.told
             → is_message_whole self.new.by_forms.reading.pending ≡ true → self.new.is_open ≡ true }
@@ -170,8 +170,8 @@ impl Teller {
             → (is_message_whole self.old.by_forms.reading.pending ≡ true → self.old.is_open ≡ true)
             → (at.is_ended ≡ false → (at.told + 2 ≤ at.read) ⊎ (is_message_whole self.old.by_forms.reading.pending ≡ false))
             → Follows texts (above_of self.old.by_forms) self.old maker.now frames.old.frames at.read (at.told + 1)
-            → TellsLine false self.old.by_forms.forms (texts (at.told + 1)) above verdict.kind frames.old.frames (above_of self.old.by_forms)
-            → TellsNext texts self.old.by_forms.forms above at.is_ended result.kind self.new maker.now frames.new.frames at.read at.told }
+            → TellsLine false self.old.by_forms.forms (texts (at.told + 1)) above verdict.kind verdict.reason frames.old.frames (above_of self.old.by_forms)
+            → TellsNext texts self.old.by_forms.forms above at.is_ended result.kind result.reason self.new maker.now frames.new.frames at.read at.told }
     {
         let Some(line) = line_at(maker, &self.learning, self.first, self.lines, at, 2) else {
             return if at.is_ended {

@@ -1,4 +1,4 @@
-use Rattle.std.proofs.Common.{◌≡◌, ◌∙◌, None, ap, arith, refl, rules}
+use Rattle.std.proofs.Common.{◌≡◌, ◌∙◌, None, ap, rules}
 use Rattle.fio_log.proofs.FollowingLemmas.{ended_follows, heard_next}
 use Rattle.fio_log.proofs.KnowingLemmas.{same_window}
 use Rattle.fio_log.proofs.teller.Teller.hear_once.Goals as goal

@@ -1,6 +1,6 @@
 use Rattle.std.proofs.Common.{◌≡◌, ◌∙◌, ◌++◌, ◌∷◌, [], true, false, length, length-append, ap, arith, refl, rules, ◌+◌}
 use Rattle.fio_log.proofs.KnowingLemmas.{drained_line, known_lines, same_kept, short_line}
-use Rattle.fio_log.proofs.FollowingLemmas.{drained_follows, filling_follows, last_of, same_follows}
+use Rattle.fio_log.proofs.FollowingLemmas.{drained_follows, filling_follows, last_of}
 use Rattle.fio_log.proofs.teller.Teller.learn.Goals as goal
 
 pub returns-then-not-is_kept-clause-knows : goal.returns-then-not-is_kept-clause-knows

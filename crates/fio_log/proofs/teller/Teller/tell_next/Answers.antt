@@ -41,7 +41,7 @@ returns-else-waits-clause-tells c = λ texts above line window known less has du
     record {
       below = above_of c.forget.new.self.by_forms;
       tells = tells_of (c.args.at.is_ended && c.args.at.told + 1 == c.args.at.read) false c.args.self.now.by_forms.forms (texts (c.args.at.told + 1))
-          (texts (c.args.at.told + 2)) above c.tell_first-waits.result.0.kind c.tell_first-waits.new.frames.frames (above_of c.forget.new.self.by_forms)
+          (texts (c.args.at.told + 2)) above c.tell_first-waits.result.0.kind c.tell_first-waits.result.0.reason c.tell_first-waits.new.frames.frames (above_of c.forget.new.self.by_forms)
           (λ last. none) (none_ends c.args.self.now.by_forms.forms (texts (c.args.at.told + 2)) (state_of c.forget.new.self.by_forms.reading) none) told;
       follows = below_follows texts above c.args.self.now c.forget.new.self c.args.maker.now c.args.frames.now.frames c.tell_first-waits.new.frames.frames
           c.args.at.read c.args.at.told known same (ap (λ t. t.heard) kept) c.forget.ensures.waiting follows;

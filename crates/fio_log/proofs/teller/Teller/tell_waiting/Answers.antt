@@ -1,4 +1,4 @@
-use Rattle.std.proofs.Common.{◌≡◌, ◌∙◌, ◌+◌, ◌==◌, ◌&&◌, None, true, false, length, ap, arith, inl, inr, refl, rules, sym}
+use Rattle.std.proofs.Common.{◌≡◌, ◌∙◌, ◌+◌, ◌==◌, ◌&&◌, true, false, length, ap, arith, inl, inr, refl, rules, sym}
 use Rattle.fio_rows.specs.Lines.{is_message_whole}
 use Rattle.fio_rows.specs.Rows.{state_of}
 use Rattle.fio_log.specs.Heard.{above_of}
@@ -14,7 +14,7 @@ returns-then-at-clause-tells c = λ texts above line window less known none sile
     (λ has. let no = rw c.in_default.is at (c.line_at.ensures.there has) in absurd (cc)) in
     record {
       below = above_of c.tell_end.new.self;
-      tells = log_told _ _ (texts (c.args.at.told + 1)) (texts (c.args.at.told + 2)) above c.args.self.now.by_forms c.args.verdict.kind c.tell_end.result.kind
+      tells = log_told _ _ (texts (c.args.at.told + 1)) (texts (c.args.at.told + 2)) above c.args.self.now.by_forms c.args.verdict.kind c.tell_end.result.kind c.args.verdict.reason c.tell_end.result.reason
           c.args.frames.now.frames c.tell_end.new.told.frames (above_of c.tell_end.new.self) (both _ _ c.if-at.true last) tells c.tell_end.ensures.told c.tell_end.ensures.more;
       follows = last_follows texts (above_of c.args.self.now.by_forms) c.args.self.now _ c.args.maker.now c.args.frames.now.frames
           c.tell_end.new.told.frames c.args.at.read (c.args.at.told + 1)
@@ -33,7 +33,7 @@ returns-else-at-clause-tells c = λ texts above line window less known none sile
     record {
       below = above_of c.args.self.now.by_forms;
       tells = tells_of (c.args.at.is_ended && c.args.at.told + 1 == c.args.at.read) false c.args.self.now.by_forms.forms (texts (c.args.at.told + 1))
-          (texts (c.args.at.told + 2)) above c.args.verdict.kind c.args.frames.now.frames (above_of c.args.self.now.by_forms) (λ last. shut)
+          (texts (c.args.at.told + 2)) above c.args.verdict.kind c.args.verdict.reason c.args.frames.now.frames (above_of c.args.self.now.by_forms) (λ last. shut)
           (none_ends c.args.self.now.by_forms.forms (texts (c.args.at.told + 2)) (state_of c.args.self.now.by_forms.reading) shut) tells;
       follows = follows;
     }
@@ -45,7 +45,7 @@ returns-then-not-self-clause-tells c = λ texts above line window less known non
     record {
       below = above_of c.args.self.now.by_forms;
       tells = tells_of (c.args.at.is_ended && c.args.at.told + 1 == c.args.at.read) false c.args.self.now.by_forms.forms (texts (c.args.at.told + 1))
-          (texts (c.args.at.told + 2)) above c.args.verdict.kind c.args.frames.now.frames (above_of c.args.self.now.by_forms) (λ last. shut)
+          (texts (c.args.at.told + 2)) above c.args.verdict.kind c.args.verdict.reason c.args.frames.now.frames (above_of c.args.self.now.by_forms) (λ last. shut)
           (none_ends c.args.self.now.by_forms.forms (texts (c.args.at.told + 2)) (state_of c.args.self.now.by_forms.reading) shut) tells;
       follows = follows;
     }
@@ -63,8 +63,8 @@ returns-then-heard-clause-tells c = λ texts above line window less known none s
     record {
       below = above_of c.args.self.now.by_forms;
       tells = tells_of (c.args.at.is_ended && c.args.at.told + 1 == c.args.at.read) true c.args.self.now.by_forms.forms (texts (c.args.at.told + 1))
-          (texts (c.args.at.told + 2)) above c.tell_ended.result.kind c.tell_ended.new.told.frames (above_of c.args.self.now.by_forms) (λ last. whole) (rw forms at (heard_ends _ _ _ _ _ is ∙ c.if-heard.true)) (end_told c.args.self.now.by_forms.forms (texts (c.args.at.told + 1)) above (above_of c.args.self.now.by_forms)
-          c.args.verdict.kind c.tell_ended.result.kind c.args.frames.now.frames c.tell_ended.new.told.frames c.hear-heard.new.self.reading.ended.items tells
+          (texts (c.args.at.told + 2)) above c.tell_ended.result.kind c.tell_ended.result.reason c.tell_ended.new.told.frames (above_of c.args.self.now.by_forms) (λ last. whole) (rw forms at (heard_ends _ _ _ _ _ is ∙ c.if-heard.true)) (end_told c.args.self.now.by_forms.forms (texts (c.args.at.told + 1)) above (above_of c.args.self.now.by_forms)
+          c.args.verdict.kind c.tell_ended.result.kind c.args.verdict.reason c.tell_ended.result.reason c.args.frames.now.frames c.tell_ended.new.told.frames c.hear-heard.new.self.reading.ended.items tells
           whole (is.ended c.if-heard.true) c.tell_ended.ensures.told);
       follows = heard_follows texts (above_of c.args.self.now.by_forms) c.args.self.now _ c.args.maker.now c.args.frames.now.frames
           c.tell_ended.new.told.frames c.args.at.read (c.args.at.told + 1) c.hear-heard.result known refl refl refl refl silent
@@ -83,7 +83,7 @@ returns-else-heard-clause-tells c = λ texts above line window less known none s
     record {
       below = above_of c.args.self.now.by_forms;
       tells = tells_of (c.args.at.is_ended && c.args.at.told + 1 == c.args.at.read) false c.args.self.now.by_forms.forms (texts (c.args.at.told + 1))
-          (texts (c.args.at.told + 2)) above c.args.verdict.kind c.args.frames.now.frames (above_of c.args.self.now.by_forms)
+          (texts (c.args.at.told + 2)) above c.args.verdict.kind c.args.verdict.reason c.args.frames.now.frames (above_of c.args.self.now.by_forms)
           (λ last. not_last c.args.at.is_ended c.args.at.read c.args.at.told _ has.within last) (rw forms at (heard_ends _ _ _ _ _ is ∙ c.if-heard.false)) tells;
       follows = heard_follows texts (above_of c.args.self.now.by_forms) c.args.self.now _ c.args.maker.now c.args.frames.now.frames
           c.args.frames.now.frames c.args.at.read (c.args.at.told + 1) c.hear-heard.result known refl refl refl refl silent
