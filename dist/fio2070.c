@@ -8,9 +8,9 @@
  * access outside the arguments of a call, which the proof excludes, ends in FIO2070_TRAP(). FIO2070_UNCHECKED leaves
  * the tests of accesses out. FIO2070_FAST makes the code longer and faster.
  *
- * Sources: e7722a7f7ab80a6a2bf1a794f57d054c7cbca36f62cbdb13cc00b7aa4fb61b16 (SHA-256; packaging/release-files --sources)
+ * Sources: 2c6c45e0d20351891bcdbe2af8784e24eb1289904dba9d87d418758d903b96dc (SHA-256; packaging/release-files --sources)
  * Kit: rattle-kit-13f logic dac8208d650f15bf
- * Proof: logic=proved functions=225 target=wasm64-unknown-unknown sum=dac8208d650f15bf native=nat,char,string
+ * Proof: logic=proved functions=231 target=wasm64-unknown-unknown sum=dac8208d650f15bf native=nat,char,string
  * Made by `make release-files`: do not edit.
  *
  * Proved is the module of which fio2070.c was made, for wasm64: each call does what fio2070.h says for all octets,
@@ -31741,6 +31741,8 @@ static uint32_t enter_log_judge_batch(struct machine *m, uint64_t v0, uint32_t v
 static uint32_t proved_log_judge_batch(struct machine *m, uint64_t v0, uint32_t v1, uint64_t v2, uint64_t v3);
 static uint32_t enter_log_judge_frame(struct machine *m, uint64_t v0, uint32_t v1, uint32_t v2, uint64_t v3, uint64_t v4, uint64_t v5);
 static uint32_t proved_log_judge_frame(struct machine *m, uint64_t v0, uint32_t v1, uint32_t v2, uint64_t v3, uint64_t v4, uint64_t v5);
+static uint32_t enter_log_batch_part(struct machine *m, uint64_t v0, uint64_t v1, uint64_t v2, uint64_t v3);
+static uint32_t proved_log_batch_part(struct machine *m, uint64_t v0, uint64_t v1, uint64_t v2, uint64_t v3);
 static uint64_t enter_log_read(struct machine *m, uint64_t v0, uint64_t v1, uint64_t v2, uint64_t v3);
 static uint64_t proved_log_read(struct machine *m, uint64_t v0, uint64_t v1, uint64_t v2, uint64_t v3);
 static void enter_log_forms(struct machine *m, uint64_t v0, uint64_t v1);
@@ -39807,7 +39809,7 @@ uint64_t v9 = 0;
 uint32_t v10 = 0;
 uint32_t v11 = 0;
 uint64_t v12 = 0;
-uint64_t v13 = 0;
+uint32_t v13 = 0;
 uint64_t v14 = 0;
 uint64_t v15 = 0;
 uint64_t v16 = 0;
@@ -39825,7 +39827,7 @@ uint64_t v27 = 0;
 uint64_t v28 = 0;
 uint64_t v29 = 0;
 uint64_t v30 = 0;
-uint32_t v31 = 0;
+uint64_t v31 = 0;
 uint32_t v32 = 0;
 uint32_t v33 = 0;
 uint64_t v34 = 0;
@@ -40250,9 +40252,9 @@ j0 = j0 + j1;
 j0 = load64(p2 + 8);
 v12 = j0;
 j0 = v3;
-p3 = read_at(j0, m, 48u);
-j0 = load64(p3 + 40);
-v13 = j0;
+p3 = read_at(j0, m, 41u);
+i0 = load8(p3 + 40);
+v13 = i0;
 j0 = v3;
 j0 = load64(p3 + 24);
 v14 = j0;
@@ -40281,23 +40283,23 @@ j0 = load8(p3 + 0);
 i0 = (uint32_t)j0;
 switch (i0) {
 case 0:
-goto l17;
+goto l21;
 case 1:
-goto l16;
+goto l20;
 case 2:
-goto l15;
+goto l19;
 case 3:
 goto l2;
 case 4:
-goto l13;
-case 5:
-goto l13;
-case 6:
-goto l14;
-default:
 goto l17;
+case 5:
+goto l17;
+case 6:
+goto l18;
+default:
+goto l21;
 }
-l17:;
+l21:;
 j0 = v3;
 j0 = load64(p3 + 16);
 v20 = j0;
@@ -40424,14 +40426,14 @@ i1 = load8(p12 + 57576);
 i2 = UINT32_C(255);
 i1 = i1 & i2;
 i0 = (i0 == i1);
-if (i0) { goto l21; }
+if (i0) { goto l25; }
 i0 = UINT32_C(2);
 v18 = i0;
 goto l2;
 }
 j0 = v3;
 i0 = (j0 == 0);
-if (i0) { goto l20; }
+if (i0) { goto l24; }
 j0 = UINT64_C(0);
 v2 = j0;
 j0 = v6;
@@ -40446,7 +40448,7 @@ v2 = j0;
 j0 = v3;
 j1 = UINT64_C(1);
 i0 = (j0 == j1);
-if (i0) { goto l20; }
+if (i0) { goto l24; }
 j0 = v1;
 j1 = UINT64_C(22369);
 j0 = j0 + j1;
@@ -40463,7 +40465,7 @@ v2 = j0;
 j0 = v3;
 j1 = UINT64_C(2);
 i0 = (j0 == j1);
-if (i0) { goto l20; }
+if (i0) { goto l24; }
 j0 = v1;
 j1 = UINT64_C(22370);
 j0 = j0 + j1;
@@ -40474,7 +40476,7 @@ j1 = j1 + j2;
 p15 = read_at(j1, m, 1u);
 i1 = load8(p15 + 0);
 i0 = (i0 == i1);
-if (i0) { goto l20; }
+if (i0) { goto l24; }
 }
 }
 i0 = UINT32_C(2);
@@ -40482,9 +40484,9 @@ v18 = i0;
 j0 = v2;
 j1 = v3;
 i0 = (j0 >= j1);
-if (i0) { goto l20; }
+if (i0) { goto l24; }
 goto l2;
-l21:;
+l25:;
 i0 = UINT32_C(2);
 v18 = i0;
 j0 = v6;
@@ -40493,7 +40495,7 @@ j2 = v4;
 i0 = core_cmp_slices_groups_equal_i8_31_core_cmp_numbers_U8PartialEq(m, j0, j1, j2);
 i0 = (i0 == 0);
 if (i0) { goto l2; }
-l20:;
+l24:;
 i0 = UINT32_C(9);
 v18 = i0;
 i0 = UINT32_C(5);
@@ -40508,8 +40510,7 @@ j0 = j0 + j1;
 p16 = read_at(j0, m, 8u);
 j0 = load64(p16 + 0);
 v3 = j0;
-j0 = v13;
-i0 = (uint32_t)j0;
+i0 = v13;
 i1 = UINT32_C(1);
 i0 = i0 & i1;
 if (!i0) {
@@ -40553,22 +40554,21 @@ j1 = v9;
 store64(p17 + 0, j1);
 j0 = UINT64_C(0);
 v3 = j0;
-goto l6;
+goto l10;
 }
 j0 = v3;
 j1 = UINT64_C(512);
 i0 = (j0 != j1);
-if (i0) { goto l6; }
-goto l5;
-l16:;
+if (i0) { goto l10; }
+goto l9;
+l20:;
 j0 = v1;
 j1 = UINT64_C(42880);
 j0 = j0 + j1;
 p18 = read_at(j0, m, 8u);
 j0 = load64(p18 + 0);
 v3 = j0;
-j0 = v13;
-i0 = (uint32_t)j0;
+i0 = v13;
 i1 = UINT32_C(1);
 i0 = i0 & i1;
 if (!i0) {
@@ -40612,13 +40612,13 @@ j1 = v9;
 store64(p19 + 0, j1);
 j0 = UINT64_C(0);
 v3 = j0;
-goto l30;
+goto l34;
 }
 j0 = v3;
 j1 = UINT64_C(512);
 i0 = (j0 == j1);
-if (i0) { goto l29; }
-l30:;
+if (i0) { goto l33; }
+l34:;
 j0 = v1;
 j1 = v3;
 j2 = UINT64_C(24);
@@ -40653,15 +40653,15 @@ v19 = i0;
 i0 = UINT32_C(0);
 v18 = i0;
 goto l2;
-l29:;
+l33:;
 j0 = v1;
 j1 = UINT64_C(20280);
 j0 = j0 + j1;
 i1 = UINT32_C(0);
 p22 = write_at(j0, m, 1u);
 store8(p22 + 0, i1);
-goto l5;
-l15:;
+goto l9;
+l19:;
 j0 = v1;
 j1 = UINT64_C(22360);
 j0 = j0 + j1;
@@ -40677,20 +40677,20 @@ v2 = j0;
 j0 = v7;
 j1 = UINT64_C(2488);
 j0 = j0 + j1;
-v13 = j0;
-goto l33;
+v9 = j0;
+goto l37;
 }
 j0 = v1;
 j1 = UINT64_C(8);
 j0 = j0 + j1;
-v13 = j0;
+v9 = j0;
 j0 = v1;
 j1 = UINT64_C(12552);
 j0 = j0 + j1;
 p24 = read_at(j0, m, 8u);
 j0 = load64(p24 + 0);
 v2 = j0;
-l33:;
+l37:;
 j0 = v3;
 p25 = read_at(j0, m, 8u);
 j0 = load64(p25 + 0);
@@ -40699,7 +40699,7 @@ j0 = v4;
 j1 = v17;
 i0 = (j0 <= j1);
 if (!i0) {
-j0 = v13;
+j0 = v9;
 j1 = v2;
 j2 = v6;
 j3 = v17;
@@ -40717,7 +40717,7 @@ i0 = (i0 == 0);
 if (!i0) {
 i0 = UINT32_C(0);
 v22 = i0;
-goto l8;
+goto l12;
 }
 }
 j0 = v1;
@@ -40730,7 +40730,7 @@ i0 = (i0 == 0);
 if (!i0) {
 i0 = UINT32_C(0);
 v22 = i0;
-goto l8;
+goto l12;
 }
 j0 = v4;
 j1 = v17;
@@ -40738,7 +40738,7 @@ i0 = (j0 >= j1);
 if (!i0) {
 i0 = UINT32_C(1);
 v22 = i0;
-goto l8;
+goto l12;
 }
 i0 = UINT32_C(1);
 v22 = i0;
@@ -40747,7 +40747,7 @@ p26 = read_at(j0, m, 1u);
 i0 = load8(p26 + 0);
 i1 = UINT32_C(1);
 i0 = (i0 != i1);
-if (i0) { goto l8; }
+if (i0) { goto l12; }
 j0 = v1;
 j1 = UINT64_C(12552);
 j0 = j0 + j1;
@@ -40768,11 +40768,11 @@ j1 = UINT64_C(0);
 store64(p1 + 2424, j1);
 j0 = v23;
 i0 = (j0 == 0);
-if (i0) { goto l8; }
+if (i0) { goto l12; }
 j0 = v4;
 j1 = v17;
 i0 = (j0 == j1);
-if (i0) { goto l8; }
+if (i0) { goto l12; }
 j0 = v1;
 j1 = UINT64_C(82000);
 j0 = j0 + j1;
@@ -40787,7 +40787,7 @@ j0 = j0 - j1;
 v26 = j0;
 j1 = UINT64_C(1);
 i0 = (j0 == j1);
-if (i0) { goto l9; }
+if (i0) { goto l13; }
 j0 = v1;
 j1 = UINT64_C(8);
 j0 = j0 + j1;
@@ -40802,7 +40802,7 @@ j0 = v4;
 j1 = UINT64_C(18446744073709551615);
 j0 = j0 + j1;
 v30 = j0;
-l38:;
+l42:;
 j0 = v27;
 j1 = v28;
 j2 = UINT64_C(784);
@@ -40822,7 +40822,7 @@ j0 = j0 + j1;
 j1 = v3;
 j2 = UINT64_C(664);
 j1 = j1 + j2;
-v20 = j1;
+v31 = j1;
 j2 = v3;
 j3 = UINT64_C(760);
 j2 = j2 + j3;
@@ -40861,7 +40861,7 @@ i0 = (j0 <= j1);
 if (!i0) {
 i0 = UINT32_C(0);
 v22 = i0;
-goto l8;
+goto l12;
 }
 }
 }
@@ -40869,7 +40869,7 @@ j0 = v6;
 v4 = j0;
 j0 = v30;
 v2 = j0;
-l41:;
+l45:;
 j0 = v3;
 j1 = UINT64_C(512);
 j0 = j0 + j1;
@@ -40880,52 +40880,52 @@ if (!i0) {
 j0 = v4;
 j1 = v17;
 j0 = j0 + j1;
-v9 = j0;
+v20 = j0;
 j1 = UINT64_C(1);
 j0 = j0 + j1;
-v13 = j0;
+v9 = j0;
 p31 = read_at(j0 + UINT64_C(18446744073709551615), m, 2u);
 i0 = load8(p31 + 1);
-v18 = i0;
+v19 = i0;
 i0 = UINT32_C(0);
-v31 = i0;
+v13 = i0;
 i0 = UINT32_C(0);
 v32 = i0;
-j0 = v9;
+j0 = v20;
 i0 = load8(p31 + 0);
-v19 = i0;
+v18 = i0;
 i1 = UINT32_C(48);
 i0 = (i0 < i1);
 if (!i0) {
-i0 = v19;
+i0 = v18;
 i1 = UINT32_C(58);
 i0 = (i0 < i1);
 if (!i0) {
 i0 = UINT32_C(0);
 v32 = i0;
-i0 = v19;
+i0 = v18;
 i1 = UINT32_C(65);
 i0 = (i0 < i1);
-if (i0) { goto l43; }
-i0 = v19;
+if (i0) { goto l47; }
+i0 = v18;
 i1 = UINT32_C(71);
 i0 = (i0 < i1);
 if (!i0) {
 i0 = UINT32_C(0);
 v32 = i0;
-i0 = v19;
+i0 = v18;
 i1 = UINT32_C(4294967199);
 i0 = i0 + i1;
 i1 = UINT32_C(255);
 i0 = i0 & i1;
 i1 = UINT32_C(5);
 i0 = (i0 > i1);
-if (i0) { goto l43; }
+if (i0) { goto l47; }
 }
 }
 i0 = UINT32_C(16);
 v32 = i0;
-i0 = v18;
+i0 = v19;
 i1 = UINT32_C(255);
 i0 = i0 & i1;
 v33 = i0;
@@ -40938,22 +40938,22 @@ i0 = (i0 < i1);
 if (!i0) {
 i0 = UINT32_C(16);
 v32 = i0;
-i0 = v18;
+i0 = v19;
 i1 = UINT32_C(255);
 i0 = i0 & i1;
 v33 = i0;
 i1 = UINT32_C(65);
 i0 = (i0 < i1);
-if (i0) { goto l45; }
+if (i0) { goto l49; }
 i0 = v33;
 i1 = UINT32_C(71);
 i0 = (i0 < i1);
 if (!i0) {
-i0 = v18;
+i0 = v19;
 i1 = UINT32_C(4294967209);
 i0 = i0 + i1;
 i1 = UINT32_C(16);
-i2 = v18;
+i2 = v19;
 i3 = UINT32_C(4294967199);
 i2 = i2 + i3;
 i3 = UINT32_C(255);
@@ -40962,20 +40962,20 @@ i3 = UINT32_C(6);
 i2 = (i2 < i3);
 i0 = i2 ? i0 : i1;
 v32 = i0;
-goto l45;
+goto l49;
 }
-i0 = v18;
+i0 = v19;
 i1 = UINT32_C(4294967241);
 i0 = i0 + i1;
 v32 = i0;
-goto l45;
+goto l49;
 }
-i0 = v18;
+i0 = v19;
 i1 = UINT32_C(4294967248);
 i0 = i0 + i1;
 v32 = i0;
 }
-l45:;
+l49:;
 i0 = v32;
 i1 = UINT32_C(255);
 i0 = i0 & i1;
@@ -40983,99 +40983,99 @@ i1 = UINT32_C(16);
 i0 = (i0 != i1);
 v32 = i0;
 }
-l43:;
-i0 = v19;
+l47:;
+i0 = v18;
 i1 = UINT32_C(32);
 i0 = (i0 == i1);
 if (!i0) {
-i0 = v19;
+i0 = v18;
 i1 = UINT32_C(9);
 i0 = (i0 != i1);
-if (i0) { goto l48; }
+if (i0) { goto l52; }
 }
-i0 = v18;
+i0 = v19;
 i1 = UINT32_C(255);
 i0 = i0 & i1;
-v31 = i0;
+v13 = i0;
 i1 = UINT32_C(9);
 i0 = (i0 == i1);
-i1 = v31;
+i1 = v13;
 i2 = UINT32_C(32);
 i1 = (i1 == i2);
 i0 = i0 | i1;
-v31 = i0;
-l48:;
+v13 = i0;
+l52:;
 j0 = v3;
 p32 = read_at(j0, m, 1u);
 j0 = load8(p32 + 0);
 i0 = (uint32_t)j0;
 switch (i0) {
 case 0:
-goto l50;
-case 1:
-goto l52;
-case 2:
-goto l53;
-case 3:
 goto l54;
+case 1:
+goto l56;
+case 2:
+goto l57;
+case 3:
+goto l58;
 case 4:
-goto l51;
+goto l55;
 case 5:
-goto l50;
+goto l54;
 case 6:
-goto l50;
+goto l54;
 default:
-goto l50;
+goto l54;
 }
-l54:;
-i0 = v31;
+l58:;
+i0 = v13;
 i0 = (i0 == 0);
-if (i0) { goto l50; }
-goto l42;
-l53:;
+if (i0) { goto l54; }
+goto l46;
+l57:;
 i0 = v32;
 i0 = (i0 == 0);
-if (i0) { goto l50; }
-goto l42;
-l52:;
-i0 = v19;
+if (i0) { goto l54; }
+goto l46;
+l56:;
+i0 = v18;
 i1 = UINT32_C(4294967248);
 i0 = i0 + i1;
 i1 = UINT32_C(255);
 i0 = i0 & i1;
 i1 = UINT32_C(9);
 i0 = (i0 > i1);
-if (i0) { goto l50; }
-i0 = v18;
+if (i0) { goto l54; }
+i0 = v19;
 i1 = UINT32_C(4294967248);
 i0 = i0 + i1;
 i1 = UINT32_C(255);
 i0 = i0 & i1;
 i1 = UINT32_C(10);
 i0 = (i0 < i1);
-if (i0) { goto l42; }
-goto l50;
-l51:;
+if (i0) { goto l46; }
+goto l54;
+l55:;
 i0 = v32;
-i1 = v31;
+i1 = v13;
 i0 = i0 | i1;
-if (i0) { goto l42; }
-l50:;
+if (i0) { goto l46; }
+l54:;
 j0 = v7;
 j1 = UINT64_C(40);
 j0 = j0 + j1;
-j1 = v20;
+j1 = v31;
 j2 = v3;
 j3 = UINT64_C(760);
 j2 = j2 + j3;
 j2 = load64(p29 + 0);
 j3 = v3;
 j4 = v15;
-j5 = v13;
+j5 = v9;
 j6 = v29;
 j7 = v2;
 j6 = j6 + j7;
-v9 = j6;
+v20 = j6;
 fio_form_front_after_pieces(m, j0, j1, j2, j3, j4, j5, j6);
 j0 = v7;
 i0 = load8(p1 + 40);
@@ -41086,8 +41086,8 @@ j0 = v7;
 j1 = UINT64_C(2424);
 j0 = j0 + j1;
 j1 = v3;
-j2 = v13;
-j3 = v9;
+j2 = v9;
+j3 = v20;
 j4 = v24;
 fio_form_reading_find(m, j0, j1, j2, j3, j4);
 j0 = v7;
@@ -41105,12 +41105,12 @@ i0 = (j0 <= j1);
 if (!i0) {
 i0 = UINT32_C(0);
 v22 = i0;
-goto l8;
+goto l12;
 }
 }
 }
 }
-l42:;
+l46:;
 j0 = v4;
 j1 = UINT64_C(1);
 j0 = j0 + j1;
@@ -41121,7 +41121,7 @@ j2 = UINT64_C(18446744073709551615);
 j1 = j1 + j2;
 v2 = j1;
 i0 = (j0 != j1);
-if (i0) { goto l41; }
+if (i0) { goto l45; }
 }
 j0 = v28;
 j1 = UINT64_C(1);
@@ -41129,9 +41129,9 @@ j0 = j0 + j1;
 v28 = j0;
 j1 = v23;
 i0 = (j0 != j1);
-if (i0) { goto l38; }
-goto l8;
-l14:;
+if (i0) { goto l42; }
+goto l12;
+l18:;
 j0 = v2;
 p34 = read_at(j0 + UINT64_C(24), m, 8u);
 j0 = load64(p34 + 0);
@@ -41146,14 +41146,14 @@ j0 = v6;
 v3 = j0;
 j0 = v4;
 v2 = j0;
-l57:;
+l61:;
 j0 = v3;
 p35 = read_at(j0, m, 1u);
 j0 = load8(p35 + 0);
 v17 = j0;
 j1 = UINT64_C(32);
 i0 = (j0 > j1);
-if (i0) { goto l55; }
+if (i0) { goto l59; }
 j0 = UINT64_C(1);
 j1 = v17;
 j0 = j0 << (j1 & 63);
@@ -41161,7 +41161,7 @@ j1 = UINT64_C(4294981120);
 j0 = j0 & j1;
 j1 = UINT64_C(0);
 i0 = (j0 == j1);
-if (i0) { goto l55; }
+if (i0) { goto l59; }
 j0 = v3;
 j1 = UINT64_C(1);
 j0 = j0 + j1;
@@ -41172,14 +41172,14 @@ j0 = j0 + j1;
 v2 = j0;
 j1 = UINT64_C(0);
 i0 = (j0 != j1);
-if (i0) { goto l57; }
+if (i0) { goto l61; }
 }
 j0 = v1;
 j1 = UINT64_C(79904);
 j0 = j0 + j1;
 p36 = read_at(j0, m, 8u);
 j0 = load64(p36 + 0);
-v13 = j0;
+v9 = j0;
 i0 = (j0 == 0);
 if (!i0) {
 j0 = v1;
@@ -41194,11 +41194,11 @@ j0 = UINT64_C(0);
 v2 = j0;
 j0 = UINT64_C(0);
 v15 = j0;
-j0 = v13;
+j0 = v9;
 j1 = UINT64_C(1);
 i0 = (j0 == j1);
 if (!i0) {
-j0 = v13;
+j0 = v9;
 j1 = UINT64_C(1);
 j0 = j0 & j1;
 v14 = j0;
@@ -41206,15 +41206,15 @@ j0 = v1;
 j1 = UINT64_C(79848);
 j0 = j0 + j1;
 v3 = j0;
-j0 = v13;
+j0 = v9;
 j1 = UINT64_C(18446744073709551614);
 j0 = j0 & j1;
-v13 = j0;
+v9 = j0;
 j0 = UINT64_C(0);
 v2 = j0;
 j0 = UINT64_C(0);
 v15 = j0;
-p38 = read_at(v3 + UINT64_C(18446744073709551608), m, run(16u, 16u, turns(v13, v15, 2u)));
+p38 = read_at(v3 + UINT64_C(18446744073709551608), m, run(16u, 16u, turns(v9, v15, 2u)));
 for (;;) {
 j0 = UINT64_C(1);
 j1 = UINT64_C(2);
@@ -41245,7 +41245,7 @@ j0 = v3;
 j1 = UINT64_C(16);
 j0 = j0 + j1;
 v3 = j0;
-j0 = v13;
+j0 = v9;
 j1 = v15;
 j2 = UINT64_C(2);
 j1 = j1 + j2;
@@ -41256,7 +41256,7 @@ p38 += 16;
 }
 j0 = v14;
 i0 = (j0 == 0);
-if (i0) { goto l59; }
+if (i0) { goto l63; }
 }
 j0 = UINT64_C(1);
 j1 = UINT64_C(2);
@@ -41277,11 +41277,11 @@ j3 = v17;
 i2 = (j2 == j3);
 j0 = i2 ? j0 : j1;
 v2 = j0;
-l59:;
+l63:;
 j0 = v2;
 j1 = UINT64_C(1);
 i0 = (j0 > j1);
-if (i0) { goto l55; }
+if (i0) { goto l59; }
 }
 }
 j0 = v1;
@@ -41323,7 +41323,7 @@ j2 = v1;
 j3 = UINT64_C(20264);
 j2 = j2 + j3;
 j2 = load64(p41 + 4120);
-v9 = j2;
+v20 = j2;
 j1 = j1 - j2;
 v4 = j1;
 j2 = v4;
@@ -41337,7 +41337,7 @@ j0 = j0 + j1;
 j0 = load64(p41 + 0);
 v5 = j0;
 i0 = (j0 == 0);
-if (i0) { goto l12; }
+if (i0) { goto l16; }
 j0 = v5;
 j1 = UINT64_C(3);
 j0 = j0 & j1;
@@ -41377,7 +41377,7 @@ j5 = v3;
 j6 = UINT64_C(18446744073709551168);
 j5 = j5 + j6;
 j5 = load64(p42 + 224);
-v13 = j5;
+v9 = j5;
 j6 = UINT64_C(18446744073709551615);
 j7 = v3;
 j8 = UINT64_C(18446744073709550944);
@@ -41394,7 +41394,7 @@ j6 = i8 ? j6 : j7;
 j5 = j5 + j6;
 v4 = j5;
 j6 = v4;
-j7 = v13;
+j7 = v9;
 i6 = (j6 < j7);
 j4 = i6 ? j4 : j5;
 j3 = j3 + j4;
@@ -41425,7 +41425,7 @@ p42 += 896;
 }
 j0 = v16;
 i0 = (j0 == 0);
-if (i0) { goto l63; }
+if (i0) { goto l67; }
 }
 j0 = v6;
 j1 = UINT64_C(224);
@@ -41464,7 +41464,7 @@ i0 = (j0 != j1);
 if (!i0) break;
 p43 += 224;
 }
-l63:;
+l67:;
 i0 = UINT32_C(0);
 v19 = i0;
 j0 = v4;
@@ -41514,12 +41514,12 @@ j7 = v3;
 j8 = UINT64_C(18446744073709550944);
 j7 = j7 + j8;
 j7 = load64(p44 + 0);
-v13 = j7;
+v9 = j7;
 j8 = v17;
 j7 = j7 + j8;
 v17 = j7;
 j8 = v17;
-j9 = v13;
+j9 = v9;
 i8 = (j8 < j9);
 j6 = i8 ? j6 : j7;
 j5 = j5 + j6;
@@ -41556,7 +41556,7 @@ p44 += 896;
 }
 j0 = v12;
 i0 = (j0 == 0);
-if (i0) { goto l10; }
+if (i0) { goto l14; }
 }
 j0 = v4;
 j1 = UINT64_C(224);
@@ -41566,7 +41566,7 @@ j0 = j0 + j1;
 j1 = UINT64_C(12696);
 j0 = j0 + j1;
 v3 = j0;
-l69:;
+l73:;
 j0 = UINT64_C(18446744073709551615);
 j1 = v3;
 p45 = read_at(j1, m, 8u);
@@ -41590,16 +41590,16 @@ j0 = j0 + j1;
 v16 = j0;
 j1 = UINT64_C(0);
 i0 = (j0 != j1);
-if (i0) { goto l69; }
-goto l10;
+if (i0) { goto l73; }
+goto l14;
 }
-l55:;
+l59:;
 j0 = v1;
 j1 = UINT64_C(79904);
 j0 = j0 + j1;
 p46 = read_at(j0, m, 8u);
 j0 = load64(p46 + 0);
-v13 = j0;
+v9 = j0;
 i0 = (j0 == 0);
 if (!i0) {
 j0 = v1;
@@ -41614,11 +41614,11 @@ j0 = UINT64_C(0);
 v2 = j0;
 j0 = UINT64_C(0);
 v15 = j0;
-j0 = v13;
+j0 = v9;
 j1 = UINT64_C(1);
 i0 = (j0 == j1);
 if (!i0) {
-j0 = v13;
+j0 = v9;
 j1 = UINT64_C(1);
 j0 = j0 & j1;
 v14 = j0;
@@ -41626,15 +41626,15 @@ j0 = v1;
 j1 = UINT64_C(79848);
 j0 = j0 + j1;
 v3 = j0;
-j0 = v13;
+j0 = v9;
 j1 = UINT64_C(18446744073709551614);
 j0 = j0 & j1;
-v13 = j0;
+v9 = j0;
 j0 = UINT64_C(0);
 v2 = j0;
 j0 = UINT64_C(0);
 v15 = j0;
-p48 = read_at(v3 + UINT64_C(18446744073709551608), m, run(16u, 16u, turns(v13, v15, 2u)));
+p48 = read_at(v3 + UINT64_C(18446744073709551608), m, run(16u, 16u, turns(v9, v15, 2u)));
 for (;;) {
 j0 = UINT64_C(1);
 j1 = UINT64_C(2);
@@ -41665,7 +41665,7 @@ j0 = v3;
 j1 = UINT64_C(16);
 j0 = j0 + j1;
 v3 = j0;
-j0 = v13;
+j0 = v9;
 j1 = v15;
 j2 = UINT64_C(2);
 j1 = j1 + j2;
@@ -41676,7 +41676,7 @@ p48 += 16;
 }
 j0 = v14;
 i0 = (j0 == 0);
-if (i0) { goto l72; }
+if (i0) { goto l76; }
 }
 j0 = UINT64_C(1);
 j1 = UINT64_C(2);
@@ -41697,11 +41697,11 @@ j3 = v17;
 i2 = (j2 == j3);
 j0 = i2 ? j0 : j1;
 v2 = j0;
-l72:;
+l76:;
 j0 = v2;
 j1 = UINT64_C(1);
 i0 = (j0 > j1);
-if (i0) { goto l70; }
+if (i0) { goto l74; }
 }
 }
 j0 = v1;
@@ -41718,7 +41718,7 @@ j0 = v1;
 j1 = UINT64_C(82000);
 j0 = j0 + j1;
 v29 = j0;
-goto l11;
+goto l15;
 }
 j0 = v1;
 j1 = UINT64_C(84056);
@@ -41735,7 +41735,7 @@ p51 = read_at(j0, m, 8u);
 j0 = load64(p51 + 0);
 v26 = j0;
 i0 = (j0 == 0);
-if (i0) { goto l11; }
+if (i0) { goto l15; }
 j0 = v1;
 j1 = UINT64_C(8);
 j0 = j0 + j1;
@@ -41769,7 +41769,7 @@ j0 = j0 + j1;
 v28 = j0;
 j0 = UINT64_C(0);
 v24 = j0;
-l76:;
+l80:;
 j0 = v27;
 j1 = v24;
 j2 = UINT64_C(784);
@@ -41778,16 +41778,16 @@ j0 = j0 + j1;
 v3 = j0;
 j0 = v4;
 i0 = (j0 == 0);
-v11 = i0;
+v10 = i0;
 if (!i0) {
 j0 = UINT64_C(0);
 v17 = j0;
-l82:;
+l86:;
 j0 = v4;
 j1 = v17;
 v2 = j1;
 i0 = (j0 == j1);
-if (i0) { goto l81; }
+if (i0) { goto l85; }
 j0 = v2;
 j1 = UINT64_C(1);
 j0 = j0 + j1;
@@ -41799,8 +41799,8 @@ p52 = read_at(j0, m, 1u);
 i0 = load8(p52 + 0);
 i1 = UINT32_C(48);
 i0 = (i0 == i1);
-if (i0) { goto l82; }
-l81:;
+if (i0) { goto l86; }
+l85:;
 j0 = v3;
 j1 = UINT64_C(512);
 j0 = j0 + j1;
@@ -41808,40 +41808,40 @@ p53 = read_at(j0, m, 8u);
 j0 = load64(p53 + 0);
 v5 = j0;
 i0 = (j0 == 0);
-v18 = i0;
+v19 = i0;
 if (!i0) {
 j0 = v6;
 v17 = j0;
 j0 = v4;
 v15 = j0;
-l89:;
+l93:;
 j0 = v17;
 p54 = read_at(j0, m, 1u);
 i0 = load8(p54 + 0);
-v19 = i0;
+v18 = i0;
 i1 = UINT32_C(48);
 i0 = (i0 < i1);
-if (i0) { goto l88; }
-i0 = v19;
+if (i0) { goto l92; }
+i0 = v18;
 i1 = UINT32_C(58);
 i0 = (i0 < i1);
 if (!i0) {
-i0 = v19;
+i0 = v18;
 i1 = UINT32_C(65);
 i0 = (i0 < i1);
-if (i0) { goto l88; }
-i0 = v19;
+if (i0) { goto l92; }
+i0 = v18;
 i1 = UINT32_C(71);
 i0 = (i0 < i1);
 if (!i0) {
-i0 = v19;
+i0 = v18;
 i1 = UINT32_C(4294967199);
 i0 = i0 + i1;
 i1 = UINT32_C(255);
 i0 = i0 & i1;
 i1 = UINT32_C(5);
 i0 = (i0 > i1);
-if (i0) { goto l88; }
+if (i0) { goto l92; }
 }
 }
 j0 = v17;
@@ -41854,12 +41854,12 @@ j0 = j0 + j1;
 v15 = j0;
 j1 = UINT64_C(0);
 i0 = (j0 != j1);
-if (i0) { goto l89; }
+if (i0) { goto l93; }
 j0 = v4;
 j1 = v2;
 i0 = (j0 != j1);
-if (i0) { goto l79; }
-l88:;
+if (i0) { goto l83; }
+l92:;
 j0 = v3;
 j1 = UINT64_C(772);
 j0 = j0 + j1;
@@ -41867,8 +41867,8 @@ p55 = read_at(j0, m, 1u);
 i0 = load8(p55 + 0);
 i1 = UINT32_C(1);
 i0 = (i0 == i1);
-if (i0) { goto l86; }
-goto l85;
+if (i0) { goto l90; }
+goto l89;
 }
 j0 = UINT64_C(0);
 v2 = j0;
@@ -41879,40 +41879,40 @@ p56 = read_at(j0, m, 1u);
 i0 = load8(p56 + 0);
 i1 = UINT32_C(1);
 i0 = (i0 != i1);
-if (i0) { goto l84; }
-l86:;
+if (i0) { goto l88; }
+l90:;
 j0 = v6;
 v17 = j0;
 j0 = v4;
 v15 = j0;
-l91:;
+l95:;
 j0 = v17;
 p57 = read_at(j0, m, 1u);
 i0 = load8(p57 + 0);
-v19 = i0;
+v18 = i0;
 i1 = UINT32_C(48);
 i0 = (i0 < i1);
-if (i0) { goto l79; }
-i0 = v19;
+if (i0) { goto l83; }
+i0 = v18;
 i1 = UINT32_C(58);
 i0 = (i0 < i1);
 if (!i0) {
-i0 = v19;
+i0 = v18;
 i1 = UINT32_C(65);
 i0 = (i0 < i1);
-if (i0) { goto l79; }
-i0 = v19;
+if (i0) { goto l83; }
+i0 = v18;
 i1 = UINT32_C(71);
 i0 = (i0 < i1);
 if (!i0) {
-i0 = v19;
+i0 = v18;
 i1 = UINT32_C(4294967199);
 i0 = i0 + i1;
 i1 = UINT32_C(255);
 i0 = i0 & i1;
 i1 = UINT32_C(5);
 i0 = (i0 > i1);
-if (i0) { goto l79; }
+if (i0) { goto l83; }
 }
 }
 j0 = v17;
@@ -41927,10 +41927,10 @@ j0 = j0 + j1;
 v15 = j0;
 j1 = UINT64_C(0);
 i0 = (j0 != j1);
-if (i0) { goto l91; }
-i0 = v18;
-if (i0) { goto l84; }
-l85:;
+if (i0) { goto l95; }
+i0 = v19;
+if (i0) { goto l88; }
+l89:;
 j0 = v3;
 j1 = UINT64_C(664);
 j0 = j0 + j1;
@@ -41947,11 +41947,11 @@ j0 = v28;
 v17 = j0;
 j0 = v5;
 v15 = j0;
-l93:;
+l97:;
 j0 = v4;
 j1 = v2;
 i0 = (j0 <= j1);
-if (i0) { goto l78; }
+if (i0) { goto l82; }
 j0 = v7;
 j1 = UINT64_C(304);
 j0 = j0 + j1;
@@ -41960,7 +41960,7 @@ j2 = UINT64_C(18446744073709551615);
 j1 = j1 + j2;
 p59 = read_at(j1, m, 2u);
 i1 = load8(p59 + 0);
-v19 = i1;
+v18 = i1;
 j2 = v17;
 i2 = load8(p59 + 1);
 j3 = v16;
@@ -41968,7 +41968,7 @@ j4 = v12;
 j5 = v6;
 j6 = v2;
 j5 = j5 + j6;
-v13 = j5;
+v9 = j5;
 j6 = v4;
 j7 = v2;
 j6 = j6 - j7;
@@ -41978,7 +41978,7 @@ j0 = v7;
 i0 = load8(p1 + 304);
 i1 = UINT32_C(1);
 i0 = (i0 != i1);
-if (i0) { goto l83; }
+if (i0) { goto l87; }
 j0 = v17;
 j1 = UINT64_C(2);
 j0 = j0 + j1;
@@ -41994,26 +41994,26 @@ j0 = j0 + j1;
 v15 = j0;
 i0 = (j0 == 0);
 i0 = (i0 == 0);
-if (i0) { goto l93; }
-l84:;
+if (i0) { goto l97; }
+l88:;
 j0 = v3;
 j1 = UINT64_C(521);
 j0 = j0 + j1;
 p60 = read_at(j0 + UINT64_C(18446744073709551615), m, 2u);
 i0 = load8(p60 + 1);
-v10 = i0;
+v13 = i0;
 j0 = v3;
 j1 = UINT64_C(520);
 j0 = j0 + j1;
 i0 = load8(p60 + 0);
-v19 = i0;
+v18 = i0;
 i1 = UINT32_C(7);
 i0 = (i0 != i1);
 if (!i0) {
 j0 = v2;
 i0 = (j0 == 0);
 if (!i0) {
-i0 = v10;
+i0 = v13;
 i1 = UINT32_C(255);
 i0 = i0 & i1;
 if (!i0) {
@@ -42024,7 +42024,7 @@ j1 = UINT64_C(18446744073709551615);
 j0 = j0 + j1;
 p61 = read_at(j0, m, 1u);
 i0 = load8(p61 + 0);
-v10 = i0;
+v13 = i0;
 }
 }
 }
@@ -42043,7 +42043,7 @@ store8(p1 + 324, i1);
 j0 = v4;
 j1 = v2;
 i0 = (j0 == j1);
-if (i0) { goto l78; }
+if (i0) { goto l82; }
 j0 = v6;
 j1 = v2;
 j0 = j0 + j1;
@@ -42052,8 +42052,8 @@ j0 = v35;
 j1 = v2;
 j0 = j0 - j1;
 v2 = j0;
-l95:;
-i0 = v19;
+l99:;
+i0 = v18;
 j1 = v7;
 j2 = UINT64_C(2456);
 j1 = j1 + j2;
@@ -42063,23 +42063,23 @@ j2 = j2 + j3;
 v15 = j2;
 j3 = v2;
 i0 = fio_form_octets_makes_longer(m, i0, j1, j2, j3);
-v18 = i0;
+v19 = i0;
 j0 = v7;
 j1 = UINT64_C(320);
 j0 = j0 + j1;
-i1 = v19;
-i2 = v10;
+i1 = v18;
+i2 = v13;
 j3 = v7;
 j4 = UINT64_C(2456);
 j3 = j3 + j4;
 j4 = v17;
 p62 = read_at(j4, m, 1u);
 i4 = load8(p62 + 0);
-i5 = v18;
+i5 = v19;
 fio_form_octets_next_in(m, j0, i1, i2, j3, i4, i5);
 j0 = v7;
 i0 = load8(p1 + 320);
-if (i0) { goto l79; }
+if (i0) { goto l83; }
 j0 = v7;
 j1 = v7;
 i1 = load8(p1 + 323);
@@ -42096,92 +42096,92 @@ j0 = j0 + j1;
 v2 = j0;
 j1 = UINT64_C(18446744073709551615);
 i0 = (j0 != j1);
-if (i0) { goto l95; }
-goto l78;
-l83:;
+if (i0) { goto l99; }
+goto l82;
+l87:;
 j0 = UINT64_C(0);
 v17 = j0;
-i0 = v19;
+i0 = v18;
 switch (i0) {
 case 0:
-goto l97;
-case 1:
-goto l100;
-case 2:
-goto l99;
-case 3:
-goto l98;
-case 4:
 goto l101;
+case 1:
+goto l104;
+case 2:
+goto l103;
+case 3:
+goto l102;
+case 4:
+goto l105;
 case 5:
-goto l97;
+goto l101;
 case 6:
-goto l99;
+goto l103;
 default:
-goto l97;
+goto l101;
 }
-l101:;
-l103:;
-j0 = v13;
+l105:;
+l107:;
+j0 = v9;
 p63 = read_at(j0, m, 1u);
 i0 = load8(p63 + 0);
-v19 = i0;
+v18 = i0;
 i1 = UINT32_C(32);
 i0 = (i0 == i1);
 if (!i0) {
-i0 = v19;
+i0 = v18;
 i1 = UINT32_C(9);
 i0 = (i0 != i1);
-if (i0) { goto l102; }
+if (i0) { goto l106; }
 }
-j0 = v13;
+j0 = v9;
 j1 = UINT64_C(1);
 j0 = j0 + j1;
-v13 = j0;
+v9 = j0;
 j0 = v14;
 j1 = UINT64_C(18446744073709551615);
 j0 = j0 + j1;
 v14 = j0;
 i0 = (j0 == 0);
 i0 = (i0 == 0);
-if (i0) { goto l103; }
-goto l78;
-l102:;
+if (i0) { goto l107; }
+goto l82;
+l106:;
 j0 = v14;
 i0 = (j0 == 0);
-if (i0) { goto l78; }
+if (i0) { goto l82; }
 j0 = UINT64_C(0);
 v2 = j0;
-l105:;
-j0 = v13;
+l109:;
+j0 = v9;
 j1 = v2;
 j0 = j0 + j1;
 p64 = read_at(j0, m, 1u);
 i0 = load8(p64 + 0);
-v19 = i0;
+v18 = i0;
 i1 = UINT32_C(48);
 i0 = (i0 < i1);
-if (i0) { goto l96; }
-i0 = v19;
+if (i0) { goto l100; }
+i0 = v18;
 i1 = UINT32_C(58);
 i0 = (i0 < i1);
 if (!i0) {
-i0 = v19;
+i0 = v18;
 i1 = UINT32_C(65);
 i0 = (i0 < i1);
-if (i0) { goto l96; }
-i0 = v19;
+if (i0) { goto l100; }
+i0 = v18;
 i1 = UINT32_C(71);
 i0 = (i0 < i1);
 if (!i0) {
-i0 = v19;
+i0 = v18;
 i1 = UINT32_C(4294967199);
 i0 = i0 + i1;
 i1 = UINT32_C(255);
 i0 = i0 & i1;
 i1 = UINT32_C(5);
 i0 = (i0 > i1);
-if (i0) { goto l96; }
+if (i0) { goto l100; }
 }
 }
 j0 = v14;
@@ -42190,9 +42190,9 @@ j2 = UINT64_C(1);
 j1 = j1 + j2;
 v2 = j1;
 i0 = (j0 != j1);
-if (i0) { goto l105; }
-goto l78;
-l100:;
+if (i0) { goto l109; }
+goto l82;
+l104:;
 j0 = v6;
 j1 = v2;
 j0 = j0 + j1;
@@ -42203,7 +42203,7 @@ j0 = j0 - j1;
 v2 = j0;
 j0 = UINT64_C(0);
 v17 = j0;
-l107:;
+l111:;
 j0 = v15;
 j1 = v17;
 j0 = j0 + j1;
@@ -42215,16 +42215,16 @@ i1 = UINT32_C(255);
 i0 = i0 & i1;
 i1 = UINT32_C(9);
 i0 = (i0 > i1);
-if (i0) { goto l97; }
+if (i0) { goto l101; }
 j0 = v2;
 j1 = v17;
 j2 = UINT64_C(1);
 j1 = j1 + j2;
 v17 = j1;
 i0 = (j0 != j1);
-if (i0) { goto l107; }
-goto l78;
-l99:;
+if (i0) { goto l111; }
+goto l82;
+l103:;
 j0 = v6;
 j1 = v2;
 j0 = j0 + j1;
@@ -42235,36 +42235,36 @@ j0 = j0 - j1;
 v2 = j0;
 j0 = UINT64_C(0);
 v17 = j0;
-l108:;
+l112:;
 j0 = v15;
 j1 = v17;
 j0 = j0 + j1;
 p66 = read_at(j0, m, 1u);
 i0 = load8(p66 + 0);
-v19 = i0;
+v18 = i0;
 i1 = UINT32_C(48);
 i0 = (i0 < i1);
-if (i0) { goto l97; }
-i0 = v19;
+if (i0) { goto l101; }
+i0 = v18;
 i1 = UINT32_C(58);
 i0 = (i0 < i1);
 if (!i0) {
-i0 = v19;
+i0 = v18;
 i1 = UINT32_C(65);
 i0 = (i0 < i1);
-if (i0) { goto l97; }
-i0 = v19;
+if (i0) { goto l101; }
+i0 = v18;
 i1 = UINT32_C(71);
 i0 = (i0 < i1);
 if (!i0) {
-i0 = v19;
+i0 = v18;
 i1 = UINT32_C(4294967199);
 i0 = i0 + i1;
 i1 = UINT32_C(255);
 i0 = i0 & i1;
 i1 = UINT32_C(5);
 i0 = (i0 > i1);
-if (i0) { goto l97; }
+if (i0) { goto l101; }
 }
 }
 j0 = v2;
@@ -42273,9 +42273,9 @@ j2 = UINT64_C(1);
 j1 = j1 + j2;
 v17 = j1;
 i0 = (j0 != j1);
-if (i0) { goto l108; }
-goto l78;
-l98:;
+if (i0) { goto l112; }
+goto l82;
+l102:;
 j0 = v6;
 j1 = v2;
 j0 = j0 + j1;
@@ -42286,20 +42286,20 @@ j0 = j0 - j1;
 v2 = j0;
 j0 = UINT64_C(0);
 v17 = j0;
-l110:;
+l114:;
 j0 = v15;
 j1 = v17;
 j0 = j0 + j1;
 p67 = read_at(j0, m, 1u);
 i0 = load8(p67 + 0);
-v19 = i0;
+v18 = i0;
 i1 = UINT32_C(32);
 i0 = (i0 == i1);
 if (!i0) {
-i0 = v19;
+i0 = v18;
 i1 = UINT32_C(9);
 i0 = (i0 != i1);
-if (i0) { goto l97; }
+if (i0) { goto l101; }
 }
 j0 = v2;
 j1 = v17;
@@ -42307,20 +42307,20 @@ j2 = UINT64_C(1);
 j1 = j1 + j2;
 v17 = j1;
 i0 = (j0 != j1);
-if (i0) { goto l110; }
-goto l78;
-l97:;
+if (i0) { goto l114; }
+goto l82;
+l101:;
 j0 = v17;
 j1 = v14;
 i0 = (j0 == j1);
-if (i0) { goto l78; }
-goto l79;
-l96:;
+if (i0) { goto l82; }
+goto l83;
+l100:;
 j0 = v14;
 j1 = v2;
 i0 = (j0 != j1);
-if (i0) { goto l79; }
-goto l78;
+if (i0) { goto l83; }
+goto l82;
 }
 j0 = v3;
 j1 = UINT64_C(512);
@@ -42328,14 +42328,14 @@ j0 = j0 + j1;
 p68 = read_at(j0, m, 8u);
 j0 = load64(p68 + 0);
 v5 = j0;
-l79:;
+l83:;
 j0 = v5;
 i0 = (j0 == 0);
 i0 = (i0 == 0);
 if (!i0) {
 j0 = UINT64_C(0);
 v15 = j0;
-goto l112;
+goto l116;
 }
 j0 = v5;
 j1 = UINT64_C(18446744073709551615);
@@ -42344,14 +42344,14 @@ v14 = j0;
 j0 = v3;
 j1 = UINT64_C(664);
 j0 = j0 + j1;
-v20 = j0;
+v31 = j0;
 j0 = UINT64_C(0);
 v16 = j0;
 j0 = UINT64_C(1);
 v2 = j0;
 j0 = v25;
-v13 = j0;
-l114:;
+v9 = j0;
+l118:;
 j0 = v16;
 j1 = UINT64_C(1);
 j0 = j0 + j1;
@@ -42379,23 +42379,23 @@ j1 = UINT64_C(512);
 j0 = j0 + j1;
 p70 = read_at(j0, m, 8u);
 j0 = load64(p70 + 0);
-v9 = j0;
+v20 = j0;
 j1 = v2;
 i0 = (j0 <= j1);
 if (!i0) {
 j0 = v14;
 v17 = j0;
-j0 = v13;
+j0 = v9;
 v15 = j0;
 j0 = v5;
-j1 = v9;
+j1 = v20;
 i0 = (j0 < j1);
 if (!i0) {
-j0 = v9;
+j0 = v20;
 j1 = v16;
 j0 = j0 - j1;
 v17 = j0;
-j0 = v13;
+j0 = v9;
 v15 = j0;
 }
 }
@@ -42403,7 +42403,7 @@ v15 = j0;
 j0 = v7;
 j1 = UINT64_C(288);
 j0 = j0 + j1;
-j1 = v20;
+j1 = v31;
 j2 = v12;
 j3 = v15;
 j4 = v17;
@@ -42423,30 +42423,30 @@ j3 = load64(p1 + 296);
 j4 = v29;
 j5 = v23;
 i0 = fio_log_cut_has_message(m, j0, j1, j2, j3, j4, j5);
-if (i0) { goto l78; }
+if (i0) { goto l82; }
 }
 j0 = v2;
 j1 = UINT64_C(1);
 j0 = j0 + j1;
 v2 = j0;
-j0 = v13;
+j0 = v9;
 j1 = UINT64_C(2);
 j0 = j0 + j1;
-v13 = j0;
+v9 = j0;
 j0 = v14;
 j1 = UINT64_C(18446744073709551615);
 j0 = j0 + j1;
 v14 = j0;
 j1 = UINT64_C(18446744073709551615);
 i0 = (j0 != j1);
-if (i0) { goto l114; }
+if (i0) { goto l118; }
 j0 = v3;
 j1 = UINT64_C(512);
 j0 = j0 + j1;
 p71 = read_at(j0, m, 8u);
 j0 = load64(p71 + 0);
 v15 = j0;
-l112:;
+l116:;
 j0 = v7;
 j1 = UINT64_C(272);
 j0 = j0 + j1;
@@ -42473,12 +42473,12 @@ if (!i0) {
 j0 = v4;
 j1 = v7;
 j1 = load64(p1 + 280);
-v13 = j1;
+v9 = j1;
 i0 = (j0 < j1);
 if (!i0) {
-i0 = v11;
+i0 = v10;
 if (!i0) {
-j0 = v13;
+j0 = v9;
 j1 = UINT64_C(0);
 i0 = (j0 != j1);
 if (!i0) {
@@ -42486,34 +42486,34 @@ j0 = v6;
 v2 = j0;
 j0 = v4;
 v17 = j0;
-l119:;
+l123:;
 j0 = v2;
 p73 = read_at(j0, m, 1u);
 i0 = load8(p73 + 0);
-v19 = i0;
+v18 = i0;
 i1 = UINT32_C(48);
 i0 = (i0 < i1);
-if (i0) { goto l118; }
-i0 = v19;
+if (i0) { goto l122; }
+i0 = v18;
 i1 = UINT32_C(58);
 i0 = (i0 < i1);
 if (!i0) {
-i0 = v19;
+i0 = v18;
 i1 = UINT32_C(65);
 i0 = (i0 < i1);
-if (i0) { goto l118; }
-i0 = v19;
+if (i0) { goto l122; }
+i0 = v18;
 i1 = UINT32_C(71);
 i0 = (i0 < i1);
 if (!i0) {
-i0 = v19;
+i0 = v18;
 i1 = UINT32_C(4294967199);
 i0 = i0 + i1;
 i1 = UINT32_C(255);
 i0 = i0 & i1;
 i1 = UINT32_C(5);
 i0 = (i0 > i1);
-if (i0) { goto l118; }
+if (i0) { goto l122; }
 }
 }
 j0 = v2;
@@ -42526,84 +42526,84 @@ j0 = j0 + j1;
 v17 = j0;
 j1 = UINT64_C(0);
 i0 = (j0 != j1);
-if (i0) { goto l119; }
+if (i0) { goto l123; }
 j0 = v4;
 j1 = UINT64_C(2);
 i0 = (j0 > j1);
-if (i0) { goto l117; }
+if (i0) { goto l121; }
 }
 }
-l118:;
+l122:;
 j0 = v7;
 i1 = UINT32_C(1);
 store16(p1 + 320, i1);
 j0 = v4;
-j1 = v13;
+j1 = v9;
 i0 = (j0 == j1);
 if (!i0) {
 j0 = v4;
-j1 = v13;
+j1 = v9;
 j0 = j0 - j1;
 v17 = j0;
 j0 = v6;
-j1 = v13;
+j1 = v9;
 j0 = j0 + j1;
 v2 = j0;
 j0 = v3;
 j1 = UINT64_C(528);
 j0 = j0 + j1;
-v13 = j0;
+v9 = j0;
 i0 = UINT32_C(0);
-v18 = i0;
-l121:;
-i0 = v18;
-v10 = i0;
+v19 = i0;
+l125:;
+i0 = v19;
+v13 = i0;
 j0 = v2;
 p74 = read_at(j0, m, 1u);
 i0 = load8(p74 + 0);
-v19 = i0;
+v18 = i0;
 i1 = UINT32_C(48);
 i0 = (i0 < i1);
 if (!i0) {
 i0 = UINT32_C(1);
-v18 = i0;
-i0 = v19;
+v19 = i0;
+i0 = v18;
 i1 = UINT32_C(58);
 i0 = (i0 < i1);
-if (i0) { goto l122; }
-i0 = v19;
+if (i0) { goto l126; }
+i0 = v18;
 i1 = UINT32_C(65);
 i0 = (i0 < i1);
-if (i0) { goto l123; }
-i0 = v19;
+if (i0) { goto l127; }
+i0 = v18;
 i1 = UINT32_C(71);
 i0 = (i0 < i1);
-if (i0) { goto l122; }
-i0 = v19;
+if (i0) { goto l126; }
+i0 = v18;
 i1 = UINT32_C(4294967199);
 i0 = i0 + i1;
 i1 = UINT32_C(255);
 i0 = i0 & i1;
 i1 = UINT32_C(6);
 i0 = (i0 < i1);
-if (i0) { goto l122; }
-goto l123;
+if (i0) { goto l126; }
+goto l127;
 }
-i0 = v19;
+i0 = v18;
 i1 = UINT32_C(32);
 i0 = (i0 != i1);
 if (!i0) {
-i0 = v10;
-v18 = i0;
-goto l122;
+i0 = v13;
+v19 = i0;
+goto l126;
 }
-l123:;
+l127:;
 j0 = v7;
-i1 = v19;
+i1 = v18;
 store8(p1 + 321, i1);
-i0 = v10;
-v18 = i0;
-j0 = v13;
+i0 = v13;
+v19 = i0;
+j0 = v9;
 j1 = v3;
 j2 = UINT64_C(656);
 j1 = j1 + j2;
@@ -42614,8 +42614,8 @@ j3 = UINT64_C(320);
 j2 = j2 + j3;
 i0 = core_slice_reads_slice_T_contains(m, j0, j1, j2);
 i0 = (i0 == 0);
-if (i0) { goto l117; }
-l122:;
+if (i0) { goto l121; }
+l126:;
 j0 = v2;
 j1 = UINT64_C(1);
 j0 = j0 + j1;
@@ -42626,15 +42626,15 @@ j0 = j0 + j1;
 v17 = j0;
 i0 = (j0 == 0);
 i0 = (i0 == 0);
-if (i0) { goto l121; }
-i0 = v18;
+if (i0) { goto l125; }
+i0 = v19;
 i1 = UINT32_C(1);
 i0 = i0 & i1;
-if (i0) { goto l78; }
+if (i0) { goto l82; }
 }
 }
 }
-l117:;
+l121:;
 j0 = v7;
 j1 = UINT64_C(256);
 j0 = j0 + j1;
@@ -42659,7 +42659,7 @@ if (!i0) {
 j0 = v4;
 j1 = v2;
 j0 = j0 - j1;
-v13 = j0;
+v9 = j0;
 j0 = v6;
 j1 = v2;
 j0 = j0 + j1;
@@ -42669,74 +42669,74 @@ j1 = UINT64_C(521);
 j0 = j0 + j1;
 p76 = read_at(j0 + UINT64_C(18446744073709551615), m, 2u);
 i0 = load8(p76 + 1);
-v8 = i0;
+v11 = i0;
 j0 = UINT64_C(2);
 v17 = j0;
 i0 = UINT32_C(0);
-v10 = i0;
+v13 = i0;
 i0 = UINT32_C(1);
-v18 = i0;
+v19 = i0;
 j0 = v3;
 j1 = UINT64_C(520);
 j0 = j0 + j1;
 i0 = load8(p76 + 0);
-v19 = i0;
+v18 = i0;
 j0 = (uint64_t)i0;
 j1 = UINT64_C(255);
 j0 = j0 & j1;
 i0 = (uint32_t)j0;
 switch (i0) {
 case 0:
-goto l129;
+goto l133;
 case 1:
-goto l128;
+goto l132;
 case 2:
-goto l128;
+goto l132;
 case 3:
-goto l128;
+goto l132;
 case 4:
-goto l128;
+goto l132;
 case 5:
-goto l131;
+goto l135;
 case 6:
-goto l130;
+goto l134;
 case 7:
-goto l128;
+goto l132;
 case 8:
-goto l128;
+goto l132;
 case 9:
-goto l128;
+goto l132;
 default:
-goto l129;
+goto l133;
 }
-l131:;
+l135:;
 j0 = UINT64_C(3);
 v17 = j0;
 i0 = UINT32_C(1);
-v10 = i0;
+v13 = i0;
 i0 = UINT32_C(0);
-v18 = i0;
-goto l129;
-l130:;
+v19 = i0;
+goto l133;
+l134:;
 j0 = UINT64_C(8);
 v17 = j0;
 i0 = UINT32_C(0);
-v18 = i0;
+v19 = i0;
 i0 = UINT32_C(0);
-v10 = i0;
-l129:;
-j0 = v13;
+v13 = i0;
+l133:;
+j0 = v9;
 j1 = v17;
 i0 = (j0 < j1);
 if (!i0) {
 j0 = v16;
 p77 = read_at(j0, m, 1u);
 i0 = load8(p77 + 0);
-v31 = i0;
+v8 = i0;
 i1 = UINT32_C(48);
 i0 = (i0 < i1);
 if (!i0) {
-i0 = v31;
+i0 = v8;
 i1 = UINT32_C(58);
 i0 = (i0 >= i1);
 if (!i0) {
@@ -42744,21 +42744,21 @@ i0 = UINT32_C(1);
 v36 = i0;
 i0 = UINT32_C(0);
 v32 = i0;
-goto l132;
+goto l136;
 }
-i0 = v31;
+i0 = v8;
 i1 = UINT32_C(65);
 i0 = (i0 < i1);
-if (i0) { goto l133; }
+if (i0) { goto l137; }
 i0 = UINT32_C(1);
 v36 = i0;
 i0 = UINT32_C(0);
 v32 = i0;
-i0 = v31;
+i0 = v8;
 i1 = UINT32_C(71);
 i0 = (i0 < i1);
-if (i0) { goto l132; }
-i0 = v31;
+if (i0) { goto l136; }
+i0 = v8;
 i1 = UINT32_C(4294967199);
 i0 = i0 + i1;
 v33 = i0;
@@ -42766,61 +42766,61 @@ i1 = UINT32_C(255);
 i0 = i0 & i1;
 i1 = UINT32_C(6);
 i0 = (i0 < i1);
-if (i0) { goto l132; }
-i0 = v31;
+if (i0) { goto l136; }
+i0 = v8;
 i1 = UINT32_C(95);
 i0 = (i0 == i1);
-if (i0) { goto l128; }
-i0 = v31;
+if (i0) { goto l132; }
+i0 = v8;
 i1 = UINT32_C(91);
 i0 = (i0 < i1);
-if (i0) { goto l128; }
+if (i0) { goto l132; }
 i0 = v33;
 i1 = UINT32_C(255);
 i0 = i0 & i1;
 i1 = UINT32_C(26);
 i0 = (i0 >= i1);
-if (i0) { goto l133; }
-goto l128;
+if (i0) { goto l137; }
+goto l132;
 }
-i0 = v31;
+i0 = v8;
 i1 = UINT32_C(32);
 i0 = (i0 == i1);
-if (i0) { goto l128; }
-l133:;
+if (i0) { goto l132; }
+l137:;
 i0 = UINT32_C(0);
 v36 = i0;
 i0 = UINT32_C(1);
 v32 = i0;
-l132:;
+l136:;
 j0 = v16;
 j1 = UINT64_C(1);
 j0 = j0 + j1;
 p78 = read_at(j0, m, 1u);
 i0 = load8(p78 + 0);
-v31 = i0;
+v8 = i0;
 i1 = UINT32_C(48);
 i0 = (i0 < i1);
 if (!i0) {
-i0 = v31;
+i0 = v8;
 i1 = UINT32_C(58);
 i0 = (i0 >= i1);
 if (!i0) {
 i0 = UINT32_C(1);
 v33 = i0;
-goto l136;
+goto l140;
 }
-i0 = v31;
+i0 = v8;
 i1 = UINT32_C(65);
 i0 = (i0 < i1);
-if (i0) { goto l137; }
+if (i0) { goto l141; }
 i0 = UINT32_C(1);
 v33 = i0;
-i0 = v31;
+i0 = v8;
 i1 = UINT32_C(71);
 i0 = (i0 < i1);
-if (i0) { goto l136; }
-i0 = v31;
+if (i0) { goto l140; }
+i0 = v8;
 i1 = UINT32_C(4294967199);
 i0 = i0 + i1;
 v37 = i0;
@@ -42828,63 +42828,63 @@ i1 = UINT32_C(255);
 i0 = i0 & i1;
 i1 = UINT32_C(6);
 i0 = (i0 < i1);
-if (i0) { goto l136; }
-i0 = v31;
+if (i0) { goto l140; }
+i0 = v8;
 i1 = UINT32_C(95);
 i0 = (i0 == i1);
-if (i0) { goto l128; }
-i0 = v31;
+if (i0) { goto l132; }
+i0 = v8;
 i1 = UINT32_C(91);
 i0 = (i0 < i1);
-if (i0) { goto l128; }
+if (i0) { goto l132; }
 i0 = v37;
 i1 = UINT32_C(255);
 i0 = i0 & i1;
 i1 = UINT32_C(26);
 i0 = (i0 >= i1);
-if (i0) { goto l137; }
-goto l128;
+if (i0) { goto l141; }
+goto l132;
 }
-i0 = v31;
+i0 = v8;
 i1 = UINT32_C(32);
 i0 = (i0 == i1);
-if (i0) { goto l128; }
-l137:;
+if (i0) { goto l132; }
+l141:;
 i0 = UINT32_C(1);
 v32 = i0;
 i0 = v36;
 v33 = i0;
-l136:;
-i0 = v18;
+l140:;
+i0 = v19;
 if (!i0) {
 j0 = v16;
 j1 = UINT64_C(2);
 j0 = j0 + j1;
 p79 = read_at(j0, m, 1u);
 i0 = load8(p79 + 0);
-v18 = i0;
+v19 = i0;
 i1 = UINT32_C(48);
 i0 = (i0 < i1);
 if (!i0) {
-i0 = v18;
+i0 = v19;
 i1 = UINT32_C(58);
 i0 = (i0 >= i1);
 if (!i0) {
 i0 = UINT32_C(1);
-v31 = i0;
-goto l141;
+v8 = i0;
+goto l145;
 }
-i0 = v18;
+i0 = v19;
 i1 = UINT32_C(65);
 i0 = (i0 < i1);
-if (i0) { goto l142; }
+if (i0) { goto l146; }
 i0 = UINT32_C(1);
-v31 = i0;
-i0 = v18;
+v8 = i0;
+i0 = v19;
 i1 = UINT32_C(71);
 i0 = (i0 < i1);
-if (i0) { goto l141; }
-i0 = v18;
+if (i0) { goto l145; }
+i0 = v19;
 i1 = UINT32_C(4294967199);
 i0 = i0 + i1;
 v36 = i0;
@@ -42892,68 +42892,68 @@ i1 = UINT32_C(255);
 i0 = i0 & i1;
 i1 = UINT32_C(6);
 i0 = (i0 < i1);
-if (i0) { goto l141; }
-i0 = v18;
+if (i0) { goto l145; }
+i0 = v19;
 i1 = UINT32_C(95);
 i0 = (i0 == i1);
-if (i0) { goto l128; }
-i0 = v18;
+if (i0) { goto l132; }
+i0 = v19;
 i1 = UINT32_C(91);
 i0 = (i0 < i1);
-if (i0) { goto l128; }
+if (i0) { goto l132; }
 i0 = v36;
 i1 = UINT32_C(255);
 i0 = i0 & i1;
 i1 = UINT32_C(26);
 i0 = (i0 >= i1);
-if (i0) { goto l142; }
-goto l128;
+if (i0) { goto l146; }
+goto l132;
 }
-i0 = v18;
+i0 = v19;
 i1 = UINT32_C(32);
 i0 = (i0 == i1);
-if (i0) { goto l128; }
-l142:;
+if (i0) { goto l132; }
+l146:;
 i0 = UINT32_C(1);
 v32 = i0;
 i0 = v33;
-v31 = i0;
-l141:;
-i0 = v10;
+v8 = i0;
+l145:;
+i0 = v13;
 i0 = (i0 == 0);
 if (!i0) {
-i0 = v31;
+i0 = v8;
 v33 = i0;
-goto l140;
+goto l144;
 }
 j0 = v16;
 j1 = UINT64_C(3);
 j0 = j0 + j1;
 p80 = read_at(j0, m, 1u);
 i0 = load8(p80 + 0);
-v18 = i0;
+v19 = i0;
 i1 = UINT32_C(48);
 i0 = (i0 < i1);
 if (!i0) {
-i0 = v18;
+i0 = v19;
 i1 = UINT32_C(58);
 i0 = (i0 >= i1);
 if (!i0) {
 i0 = UINT32_C(1);
-v10 = i0;
-goto l146;
+v13 = i0;
+goto l150;
 }
-i0 = v18;
+i0 = v19;
 i1 = UINT32_C(65);
 i0 = (i0 < i1);
-if (i0) { goto l147; }
+if (i0) { goto l151; }
 i0 = UINT32_C(1);
-v10 = i0;
-i0 = v18;
+v13 = i0;
+i0 = v19;
 i1 = UINT32_C(71);
 i0 = (i0 < i1);
-if (i0) { goto l146; }
-i0 = v18;
+if (i0) { goto l150; }
+i0 = v19;
 i1 = UINT32_C(4294967199);
 i0 = i0 + i1;
 v33 = i0;
@@ -42961,61 +42961,61 @@ i1 = UINT32_C(255);
 i0 = i0 & i1;
 i1 = UINT32_C(6);
 i0 = (i0 < i1);
-if (i0) { goto l146; }
-i0 = v18;
+if (i0) { goto l150; }
+i0 = v19;
 i1 = UINT32_C(95);
 i0 = (i0 == i1);
-if (i0) { goto l128; }
-i0 = v18;
+if (i0) { goto l132; }
+i0 = v19;
 i1 = UINT32_C(91);
 i0 = (i0 < i1);
-if (i0) { goto l128; }
+if (i0) { goto l132; }
 i0 = v33;
 i1 = UINT32_C(255);
 i0 = i0 & i1;
 i1 = UINT32_C(26);
 i0 = (i0 >= i1);
-if (i0) { goto l147; }
-goto l128;
+if (i0) { goto l151; }
+goto l132;
 }
-i0 = v18;
+i0 = v19;
 i1 = UINT32_C(32);
 i0 = (i0 == i1);
-if (i0) { goto l128; }
-l147:;
+if (i0) { goto l132; }
+l151:;
 i0 = UINT32_C(1);
 v32 = i0;
-i0 = v31;
-v10 = i0;
-l146:;
+i0 = v8;
+v13 = i0;
+l150:;
 j0 = v16;
 j1 = UINT64_C(4);
 j0 = j0 + j1;
 p81 = read_at(j0, m, 1u);
 i0 = load8(p81 + 0);
-v18 = i0;
+v19 = i0;
 i1 = UINT32_C(48);
 i0 = (i0 < i1);
 if (!i0) {
-i0 = v18;
+i0 = v19;
 i1 = UINT32_C(58);
 i0 = (i0 >= i1);
 if (!i0) {
 i0 = UINT32_C(1);
-v31 = i0;
-goto l150;
+v8 = i0;
+goto l154;
 }
-i0 = v18;
+i0 = v19;
 i1 = UINT32_C(65);
 i0 = (i0 < i1);
-if (i0) { goto l151; }
+if (i0) { goto l155; }
 i0 = UINT32_C(1);
-v31 = i0;
-i0 = v18;
+v8 = i0;
+i0 = v19;
 i1 = UINT32_C(71);
 i0 = (i0 < i1);
-if (i0) { goto l150; }
-i0 = v18;
+if (i0) { goto l154; }
+i0 = v19;
 i1 = UINT32_C(4294967199);
 i0 = i0 + i1;
 v33 = i0;
@@ -43023,61 +43023,61 @@ i1 = UINT32_C(255);
 i0 = i0 & i1;
 i1 = UINT32_C(6);
 i0 = (i0 < i1);
-if (i0) { goto l150; }
-i0 = v18;
+if (i0) { goto l154; }
+i0 = v19;
 i1 = UINT32_C(95);
 i0 = (i0 == i1);
-if (i0) { goto l128; }
-i0 = v18;
+if (i0) { goto l132; }
+i0 = v19;
 i1 = UINT32_C(91);
 i0 = (i0 < i1);
-if (i0) { goto l128; }
+if (i0) { goto l132; }
 i0 = v33;
 i1 = UINT32_C(255);
 i0 = i0 & i1;
 i1 = UINT32_C(26);
 i0 = (i0 >= i1);
-if (i0) { goto l151; }
-goto l128;
+if (i0) { goto l155; }
+goto l132;
 }
-i0 = v18;
+i0 = v19;
 i1 = UINT32_C(32);
 i0 = (i0 == i1);
-if (i0) { goto l128; }
-l151:;
+if (i0) { goto l132; }
+l155:;
 i0 = UINT32_C(1);
 v32 = i0;
-i0 = v10;
-v31 = i0;
-l150:;
+i0 = v13;
+v8 = i0;
+l154:;
 j0 = v16;
 j1 = UINT64_C(5);
 j0 = j0 + j1;
 p82 = read_at(j0, m, 1u);
 i0 = load8(p82 + 0);
-v18 = i0;
+v19 = i0;
 i1 = UINT32_C(48);
 i0 = (i0 < i1);
 if (!i0) {
-i0 = v18;
+i0 = v19;
 i1 = UINT32_C(58);
 i0 = (i0 >= i1);
 if (!i0) {
 i0 = UINT32_C(1);
-v10 = i0;
-goto l154;
+v13 = i0;
+goto l158;
 }
-i0 = v18;
+i0 = v19;
 i1 = UINT32_C(65);
 i0 = (i0 < i1);
-if (i0) { goto l155; }
+if (i0) { goto l159; }
 i0 = UINT32_C(1);
-v10 = i0;
-i0 = v18;
+v13 = i0;
+i0 = v19;
 i1 = UINT32_C(71);
 i0 = (i0 < i1);
-if (i0) { goto l154; }
-i0 = v18;
+if (i0) { goto l158; }
+i0 = v19;
 i1 = UINT32_C(4294967199);
 i0 = i0 + i1;
 v33 = i0;
@@ -43085,61 +43085,61 @@ i1 = UINT32_C(255);
 i0 = i0 & i1;
 i1 = UINT32_C(6);
 i0 = (i0 < i1);
-if (i0) { goto l154; }
-i0 = v18;
+if (i0) { goto l158; }
+i0 = v19;
 i1 = UINT32_C(95);
 i0 = (i0 == i1);
-if (i0) { goto l128; }
-i0 = v18;
+if (i0) { goto l132; }
+i0 = v19;
 i1 = UINT32_C(91);
 i0 = (i0 < i1);
-if (i0) { goto l128; }
+if (i0) { goto l132; }
 i0 = v33;
 i1 = UINT32_C(255);
 i0 = i0 & i1;
 i1 = UINT32_C(26);
 i0 = (i0 >= i1);
-if (i0) { goto l155; }
-goto l128;
+if (i0) { goto l159; }
+goto l132;
 }
-i0 = v18;
+i0 = v19;
 i1 = UINT32_C(32);
 i0 = (i0 == i1);
-if (i0) { goto l128; }
-l155:;
+if (i0) { goto l132; }
+l159:;
 i0 = UINT32_C(1);
 v32 = i0;
-i0 = v31;
-v10 = i0;
-l154:;
+i0 = v8;
+v13 = i0;
+l158:;
 j0 = v16;
 j1 = UINT64_C(6);
 j0 = j0 + j1;
 p83 = read_at(j0, m, 1u);
 i0 = load8(p83 + 0);
-v18 = i0;
+v19 = i0;
 i1 = UINT32_C(48);
 i0 = (i0 < i1);
 if (!i0) {
-i0 = v18;
+i0 = v19;
 i1 = UINT32_C(58);
 i0 = (i0 >= i1);
 if (!i0) {
 i0 = UINT32_C(1);
-v31 = i0;
-goto l158;
+v8 = i0;
+goto l162;
 }
-i0 = v18;
+i0 = v19;
 i1 = UINT32_C(65);
 i0 = (i0 < i1);
-if (i0) { goto l159; }
+if (i0) { goto l163; }
 i0 = UINT32_C(1);
-v31 = i0;
-i0 = v18;
+v8 = i0;
+i0 = v19;
 i1 = UINT32_C(71);
 i0 = (i0 < i1);
-if (i0) { goto l158; }
-i0 = v18;
+if (i0) { goto l162; }
+i0 = v19;
 i1 = UINT32_C(4294967199);
 i0 = i0 + i1;
 v33 = i0;
@@ -43147,116 +43147,116 @@ i1 = UINT32_C(255);
 i0 = i0 & i1;
 i1 = UINT32_C(6);
 i0 = (i0 < i1);
-if (i0) { goto l158; }
-i0 = v18;
+if (i0) { goto l162; }
+i0 = v19;
 i1 = UINT32_C(95);
 i0 = (i0 == i1);
-if (i0) { goto l128; }
-i0 = v18;
+if (i0) { goto l132; }
+i0 = v19;
 i1 = UINT32_C(91);
 i0 = (i0 < i1);
-if (i0) { goto l128; }
+if (i0) { goto l132; }
 i0 = v33;
 i1 = UINT32_C(255);
 i0 = i0 & i1;
 i1 = UINT32_C(26);
 i0 = (i0 >= i1);
-if (i0) { goto l159; }
-goto l128;
+if (i0) { goto l163; }
+goto l132;
 }
-i0 = v18;
+i0 = v19;
 i1 = UINT32_C(32);
 i0 = (i0 == i1);
-if (i0) { goto l128; }
-l159:;
+if (i0) { goto l132; }
+l163:;
 i0 = UINT32_C(1);
 v32 = i0;
-i0 = v10;
-v31 = i0;
-l158:;
+i0 = v13;
+v8 = i0;
+l162:;
 j0 = v16;
 j1 = UINT64_C(7);
 j0 = j0 + j1;
 p84 = read_at(j0, m, 1u);
 i0 = load8(p84 + 0);
-v18 = i0;
+v19 = i0;
 i1 = UINT32_C(48);
 i0 = (i0 < i1);
 if (!i0) {
-i0 = v18;
+i0 = v19;
 i1 = UINT32_C(58);
 i0 = (i0 >= i1);
 if (!i0) {
 i0 = UINT32_C(1);
 v33 = i0;
-goto l140;
+goto l144;
 }
-i0 = v18;
+i0 = v19;
 i1 = UINT32_C(65);
 i0 = (i0 < i1);
-if (i0) { goto l162; }
+if (i0) { goto l166; }
 i0 = UINT32_C(1);
 v33 = i0;
-i0 = v18;
+i0 = v19;
 i1 = UINT32_C(71);
 i0 = (i0 < i1);
-if (i0) { goto l140; }
-i0 = v18;
+if (i0) { goto l144; }
+i0 = v19;
 i1 = UINT32_C(4294967199);
 i0 = i0 + i1;
-v10 = i0;
+v13 = i0;
 i1 = UINT32_C(255);
 i0 = i0 & i1;
 i1 = UINT32_C(6);
 i0 = (i0 < i1);
-if (i0) { goto l140; }
-i0 = v18;
+if (i0) { goto l144; }
+i0 = v19;
 i1 = UINT32_C(95);
 i0 = (i0 == i1);
-if (i0) { goto l128; }
-i0 = v18;
+if (i0) { goto l132; }
+i0 = v19;
 i1 = UINT32_C(91);
 i0 = (i0 < i1);
-if (i0) { goto l128; }
-i0 = v10;
+if (i0) { goto l132; }
+i0 = v13;
 i1 = UINT32_C(255);
 i0 = i0 & i1;
 i1 = UINT32_C(26);
 i0 = (i0 >= i1);
-if (i0) { goto l162; }
-goto l128;
+if (i0) { goto l166; }
+goto l132;
 }
-i0 = v18;
+i0 = v19;
 i1 = UINT32_C(32);
 i0 = (i0 == i1);
-if (i0) { goto l128; }
-l162:;
+if (i0) { goto l132; }
+l166:;
 i0 = UINT32_C(1);
 v32 = i0;
-i0 = v31;
+i0 = v8;
 v33 = i0;
 }
-l140:;
+l144:;
 i0 = v33;
 i0 = (i0 == 0);
 if (!i0) {
 i0 = v32;
 i0 = (i0 == 0);
 if (!i0) {
-j0 = v13;
+j0 = v9;
 j1 = v17;
 i0 = (j0 != j1);
 if (!i0) {
 j0 = v15;
 i0 = (j0 == 0);
 i0 = (i0 == 0);
-if (i0) { goto l78; }
-goto l128;
+if (i0) { goto l82; }
+goto l132;
 }
-j0 = v13;
+j0 = v9;
 j1 = v17;
 j0 = j0 - j1;
-v20 = j0;
+v31 = j0;
 j0 = v16;
 j1 = v17;
 j0 = j0 + j1;
@@ -43276,7 +43276,7 @@ i0 = (i0 == 0);
 if (!i0) {
 j0 = UINT64_C(0);
 v15 = j0;
-goto l166;
+goto l170;
 }
 j0 = UINT64_C(0);
 v15 = j0;
@@ -43286,7 +43286,7 @@ j0 = v40;
 v5 = j0;
 j0 = UINT64_C(0);
 v12 = j0;
-l169:;
+l173:;
 j0 = v17;
 j1 = UINT64_C(18446744073709551615);
 j0 = j0 + j1;
@@ -43295,30 +43295,30 @@ j0 = load8(p86 + 0);
 i0 = (uint32_t)j0;
 switch (i0) {
 case 0:
-goto l172;
+goto l176;
 case 1:
-goto l171;
+goto l175;
 case 2:
-goto l170;
+goto l174;
 default:
-goto l172;
+goto l176;
 }
-l172:;
+l176:;
 j0 = UINT64_C(0);
 v12 = j0;
 j0 = v15;
-v9 = j0;
+v20 = j0;
 j0 = v15;
 i0 = (j0 == 0);
-if (i0) { goto l170; }
-goto l168;
-l171:;
+if (i0) { goto l174; }
+goto l172;
+l175:;
 j0 = UINT64_C(0);
-v9 = j0;
+v20 = j0;
 j0 = v15;
-j1 = v20;
+j1 = v31;
 i0 = (j0 >= j1);
-if (i0) { goto l168; }
+if (i0) { goto l172; }
 j0 = v38;
 j1 = v15;
 j0 = j0 + j1;
@@ -43328,12 +43328,12 @@ j1 = v17;
 p88 = read_at(j1, m, 1u);
 i1 = load8(p88 + 0);
 i0 = (i0 != i1);
-if (i0) { goto l168; }
+if (i0) { goto l172; }
 j0 = v15;
 j1 = UINT64_C(1);
 j0 = j0 + j1;
 v12 = j0;
-l170:;
+l174:;
 j0 = v17;
 j1 = UINT64_C(2);
 j0 = j0 + j1;
@@ -43341,35 +43341,35 @@ v17 = j0;
 j0 = v12;
 v15 = j0;
 j0 = v12;
-v9 = j0;
+v20 = j0;
 j0 = v5;
 j1 = UINT64_C(18446744073709551615);
 j0 = j0 + j1;
 v5 = j0;
 i0 = (j0 == 0);
 i0 = (i0 == 0);
-if (i0) { goto l169; }
-l168:;
-j0 = v20;
-j1 = v9;
-j2 = v20;
-j3 = v9;
+if (i0) { goto l173; }
+l172:;
+j0 = v31;
+j1 = v20;
+j2 = v31;
+j3 = v20;
 i2 = (j2 < j3);
 j0 = i2 ? j0 : j1;
 v15 = j0;
-l166:;
+l170:;
 j0 = v7;
 j1 = UINT64_C(240);
 j0 = j0 + j1;
-i1 = v19;
-i2 = v8;
+i1 = v18;
+i2 = v11;
 j3 = v39;
 j4 = v40;
 j5 = v38;
 j6 = v15;
 j5 = j5 + j6;
 v17 = j5;
-j6 = v20;
+j6 = v31;
 j7 = v15;
 j6 = j6 - j7;
 v15 = j6;
@@ -43379,12 +43379,12 @@ j0 = v7;
 i0 = load8(p1 + 240);
 i1 = UINT32_C(1);
 i0 = (i0 != i1);
-if (i0) { goto l78; }
+if (i0) { goto l82; }
 j0 = v3;
 j1 = UINT64_C(520);
 j0 = j0 + j1;
 i0 = load8(p76 + 0);
-v19 = i0;
+v18 = i0;
 j0 = v1;
 j1 = UINT64_C(84048);
 j0 = j0 + j1;
@@ -43401,7 +43401,7 @@ j3 = v12;
 i2 = (j2 < j3);
 j0 = i2 ? j0 : j1;
 v5 = j0;
-i0 = v19;
+i0 = v18;
 i1 = UINT32_C(255);
 i0 = i0 & i1;
 i1 = UINT32_C(7);
@@ -43410,47 +43410,47 @@ if (!i0) {
 j0 = v15;
 j1 = v12;
 i0 = (j0 <= j1);
-if (i0) { goto l78; }
+if (i0) { goto l82; }
 j0 = v17;
 j1 = v5;
 j0 = j0 + j1;
 p90 = read_at(j0, m, 1u);
 i0 = load8(p90 + 0);
-v18 = i0;
+v19 = i0;
 i1 = UINT32_C(95);
 i0 = (i0 == i1);
 if (!i0) {
-i0 = v18;
+i0 = v19;
 i1 = UINT32_C(48);
 i0 = (i0 < i1);
-if (i0) { goto l78; }
-i0 = v18;
+if (i0) { goto l82; }
+i0 = v19;
 i1 = UINT32_C(58);
 i0 = (i0 < i1);
 if (!i0) {
-i0 = v18;
+i0 = v19;
 i1 = UINT32_C(65);
 i0 = (i0 < i1);
-if (i0) { goto l78; }
-i0 = v18;
+if (i0) { goto l82; }
+i0 = v19;
 i1 = UINT32_C(91);
 i0 = (i0 < i1);
 if (!i0) {
-i0 = v18;
+i0 = v19;
 i1 = UINT32_C(97);
 i0 = (i0 < i1);
-if (i0) { goto l78; }
-i0 = v18;
+if (i0) { goto l82; }
+i0 = v19;
 i0 = (uint32_t)extend(i0 & 255, 7);
 i1 = UINT32_C(122);
 i0 = (SIGNED32(i0) > SIGNED32(i1));
-if (i0) { goto l78; }
+if (i0) { goto l82; }
 }
 }
 }
 j0 = v12;
 i0 = (j0 == 0);
-if (i0) { goto l128; }
+if (i0) { goto l132; }
 j0 = v5;
 j1 = UINT64_C(18446744073709551615);
 j0 = j0 + j1;
@@ -43458,69 +43458,69 @@ v15 = j0;
 j0 = UINT64_C(0);
 v12 = j0;
 i0 = UINT32_C(0);
-v18 = i0;
-l175:;
-i0 = v18;
+v19 = i0;
+l179:;
+i0 = v19;
 i1 = UINT32_C(1);
 i0 = i0 & i1;
 if (!i0) {
 j0 = v17;
 p91 = read_at(j0, m, 1u);
 i0 = load8(p91 + 0);
-v18 = i0;
+v19 = i0;
 i1 = UINT32_C(95);
 i0 = (i0 == i1);
-if (i0) { goto l177; }
-i0 = v18;
+if (i0) { goto l181; }
+i0 = v19;
 i1 = UINT32_C(48);
 i0 = (i0 < i1);
 if (!i0) {
-i0 = v18;
+i0 = v19;
 i1 = UINT32_C(58);
 i0 = (i0 < i1);
-if (i0) { goto l177; }
-i0 = v18;
+if (i0) { goto l181; }
+i0 = v19;
 i1 = UINT32_C(65);
 i0 = (i0 < i1);
 if (!i0) {
-i0 = v18;
+i0 = v19;
 i1 = UINT32_C(91);
 i0 = (i0 < i1);
-if (i0) { goto l177; }
-i0 = v18;
+if (i0) { goto l181; }
+i0 = v19;
 i1 = UINT32_C(97);
 i0 = (i0 < i1);
 if (!i0) {
-i0 = v18;
+i0 = v19;
 i0 = (uint32_t)extend(i0 & 255, 7);
 i1 = UINT32_C(123);
 i0 = (SIGNED32(i0) < SIGNED32(i1));
-if (i0) { goto l177; }
+if (i0) { goto l181; }
 }
 }
 }
 }
 j0 = v15;
 i0 = (j0 == 0);
-if (i0) { goto l78; }
+if (i0) { goto l82; }
 j0 = v12;
 j1 = UINT64_C(1);
 j0 = j0 + j1;
 v12 = j0;
 i0 = UINT32_C(1);
-v18 = i0;
-goto l176;
-l177:;
+v19 = i0;
+goto l180;
+l181:;
 j0 = v15;
 i0 = (j0 == 0);
-if (i0) { goto l128; }
+if (i0) { goto l132; }
 j0 = v12;
 j1 = UINT64_C(1);
 j0 = j0 + j1;
 v12 = j0;
 i0 = UINT32_C(0);
-v18 = i0;
-l176:;
+v19 = i0;
+l180:;
 j0 = v17;
 j1 = UINT64_C(1);
 j0 = j0 + j1;
@@ -43529,20 +43529,20 @@ j0 = v15;
 j1 = UINT64_C(18446744073709551615);
 j0 = j0 + j1;
 v15 = j0;
-goto l175;
+goto l179;
 }
 j0 = v17;
 j1 = v5;
 j2 = UINT64_C(1049338);
 i0 = core_slice_reads_slice_T_contains_i8_31_core_cmp_numbers_U8PartialEq(m, j0, j1, j2);
-if (i0) { goto l78; }
-goto l127;
+if (i0) { goto l82; }
+goto l131;
 }
 }
 }
 }
-l128:;
-i0 = v19;
+l132:;
+i0 = v18;
 i1 = UINT32_C(4294967286);
 i0 = i0 + i1;
 i1 = UINT32_C(255);
@@ -43561,37 +43561,37 @@ i0 = (i0 == 0);
 if (!i0) {
 j0 = UINT64_C(0);
 v12 = j0;
-goto l125;
+goto l129;
 }
 j0 = v4;
 j1 = v2;
 i0 = (j0 == j1);
-if (i0) { goto l126; }
-j0 = v13;
+if (i0) { goto l130; }
+j0 = v9;
 j1 = UINT64_C(10);
-j2 = v13;
+j2 = v9;
 j3 = UINT64_C(10);
 i2 = (j2 < j3);
 j0 = i2 ? j0 : j1;
-v20 = j0;
+v31 = j0;
 j0 = v3;
 j1 = UINT64_C(528);
 j0 = j0 + j1;
-v9 = j0;
+v20 = j0;
 j0 = UINT64_C(0);
 v15 = j0;
 j0 = v16;
 v12 = j0;
-l180:;
+l184:;
 j0 = v7;
 j1 = UINT64_C(224);
 j0 = j0 + j1;
-i1 = v19;
+i1 = v18;
 j2 = v3;
 j3 = UINT64_C(521);
 j2 = j2 + j3;
 i2 = load8(p76 + 1);
-j3 = v9;
+j3 = v20;
 j4 = v3;
 j5 = UINT64_C(656);
 j4 = j4 + j5;
@@ -43601,7 +43601,7 @@ j5 = v16;
 j6 = v15;
 j5 = j5 + j6;
 v5 = j5;
-j6 = v13;
+j6 = v9;
 j7 = v15;
 j6 = j6 - j7;
 v2 = j6;
@@ -43630,34 +43630,34 @@ i0 = (j0 >= j1);
 if (!i0) {
 j0 = v12;
 v2 = j0;
-l182:;
+l186:;
 j0 = v2;
 p95 = read_at(j0, m, 1u);
 i0 = load8(p95 + 0);
-v19 = i0;
+v18 = i0;
 i1 = UINT32_C(48);
 i0 = (i0 < i1);
-if (i0) { goto l78; }
-i0 = v19;
+if (i0) { goto l82; }
+i0 = v18;
 i1 = UINT32_C(58);
 i0 = (i0 < i1);
 if (!i0) {
-i0 = v19;
+i0 = v18;
 i1 = UINT32_C(65);
 i0 = (i0 < i1);
-if (i0) { goto l78; }
-i0 = v19;
+if (i0) { goto l82; }
+i0 = v18;
 i1 = UINT32_C(71);
 i0 = (i0 < i1);
 if (!i0) {
-i0 = v19;
+i0 = v18;
 i1 = UINT32_C(4294967199);
 i0 = i0 + i1;
 i1 = UINT32_C(255);
 i0 = i0 & i1;
 i1 = UINT32_C(5);
 i0 = (i0 > i1);
-if (i0) { goto l78; }
+if (i0) { goto l82; }
 }
 }
 j0 = v2;
@@ -43670,69 +43670,69 @@ j0 = j0 + j1;
 v17 = j0;
 j1 = UINT64_C(0);
 i0 = (j0 != j1);
-if (i0) { goto l182; }
+if (i0) { goto l186; }
 }
 }
 }
 j0 = v5;
 p96 = read_at(j0, m, 1u);
 i0 = load8(p96 + 0);
-v19 = i0;
+v18 = i0;
 i1 = UINT32_C(95);
 i0 = (i0 == i1);
-if (i0) { goto l127; }
-i0 = v19;
+if (i0) { goto l131; }
+i0 = v18;
 i1 = UINT32_C(65);
 i0 = (i0 < i1);
 if (!i0) {
-i0 = v19;
+i0 = v18;
 i1 = UINT32_C(91);
 i0 = (i0 < i1);
 if (!i0) {
-i0 = v19;
+i0 = v18;
 i1 = UINT32_C(97);
 i0 = (i0 < i1);
-if (i0) { goto l185; }
-i0 = v19;
+if (i0) { goto l189; }
+i0 = v18;
 i0 = (uint32_t)extend(i0 & 255, 7);
 i1 = UINT32_C(122);
 i0 = (SIGNED32(i0) > SIGNED32(i1));
-if (i0) { goto l185; }
+if (i0) { goto l189; }
 j0 = v15;
 j1 = UINT64_C(1);
 j0 = j0 + j1;
 v15 = j0;
-j1 = v20;
+j1 = v31;
 i0 = (j0 >= j1);
-if (i0) { goto l127; }
-i0 = v19;
+if (i0) { goto l131; }
+i0 = v18;
 i1 = UINT32_C(103);
 i0 = (i0 < i1);
-if (i0) { goto l184; }
-goto l127;
+if (i0) { goto l188; }
+goto l131;
 }
 j0 = v15;
 j1 = UINT64_C(1);
 j0 = j0 + j1;
 v15 = j0;
-j1 = v20;
+j1 = v31;
 i0 = (j0 >= j1);
-if (i0) { goto l127; }
-i0 = v19;
+if (i0) { goto l131; }
+i0 = v18;
 i1 = UINT32_C(71);
 i0 = (i0 < i1);
-if (i0) { goto l184; }
-goto l127;
+if (i0) { goto l188; }
+goto l131;
 }
-l185:;
+l189:;
 j0 = v15;
 j1 = UINT64_C(1);
 j0 = j0 + j1;
 v15 = j0;
-j1 = v20;
+j1 = v31;
 i0 = (j0 >= j1);
-if (i0) { goto l127; }
-l184:;
+if (i0) { goto l131; }
+l188:;
 j0 = v12;
 j1 = UINT64_C(1);
 j0 = j0 + j1;
@@ -43741,19 +43741,19 @@ j0 = v3;
 j1 = UINT64_C(520);
 j0 = j0 + j1;
 i0 = load8(p76 + 0);
-v19 = i0;
-goto l180;
+v18 = i0;
+goto l184;
 }
 }
 }
-l127:;
+l131:;
 j0 = v3;
 j1 = UINT64_C(512);
 j0 = j0 + j1;
 p97 = read_at(j0, m, 8u);
 j0 = load64(p97 + 0);
 v12 = j0;
-l126:;
+l130:;
 j0 = v12;
 j1 = UINT64_C(2);
 i0 = (j0 < j1);
@@ -43772,65 +43772,65 @@ j0 = load8(p98 + 0);
 i0 = (uint32_t)j0;
 switch (i0) {
 case 0:
-goto l188;
+goto l192;
 case 1:
-goto l125;
+goto l129;
 case 2:
-goto l125;
+goto l129;
 case 3:
-goto l125;
+goto l129;
 case 4:
-goto l125;
+goto l129;
 case 5:
-goto l187;
+goto l191;
 case 6:
-goto l125;
+goto l129;
 default:
-goto l188;
+goto l192;
 }
-l188:;
+l192:;
 j0 = v17;
 j1 = UINT64_C(1);
 j0 = j0 + j1;
 p99 = read_at(j0, m, 1u);
 i0 = load8(p99 + 0);
-v19 = i0;
+v18 = i0;
 i1 = UINT32_C(32);
 i0 = (i0 == i1);
-if (i0) { goto l125; }
-i0 = v19;
+if (i0) { goto l129; }
+i0 = v18;
 i1 = UINT32_C(95);
 i0 = (i0 == i1);
-if (i0) { goto l125; }
-i0 = v19;
+if (i0) { goto l129; }
+i0 = v18;
 i1 = UINT32_C(48);
 i0 = (i0 < i1);
 if (!i0) {
-i0 = v19;
+i0 = v18;
 i1 = UINT32_C(58);
 i0 = (i0 < i1);
-if (i0) { goto l125; }
-i0 = v19;
+if (i0) { goto l129; }
+i0 = v18;
 i1 = UINT32_C(65);
 i0 = (i0 < i1);
 if (!i0) {
-i0 = v19;
+i0 = v18;
 i1 = UINT32_C(91);
 i0 = (i0 < i1);
-if (i0) { goto l125; }
-i0 = v19;
+if (i0) { goto l129; }
+i0 = v18;
 i1 = UINT32_C(97);
 i0 = (i0 < i1);
 if (!i0) {
-i0 = v19;
+i0 = v18;
 i0 = (uint32_t)extend(i0 & 255, 7);
 i1 = UINT32_C(122);
 i0 = (SIGNED32(i0) <= SIGNED32(i1));
-if (i0) { goto l125; }
+if (i0) { goto l129; }
 }
 }
 }
-l187:;
+l191:;
 j0 = v7;
 j1 = UINT64_C(208);
 j0 = j0 + j1;
@@ -43848,33 +43848,33 @@ j0 = v7;
 i0 = load8(p1 + 208);
 i1 = UINT32_C(1);
 i0 = (i0 == i1);
-if (i0) { goto l78; }
+if (i0) { goto l82; }
 }
-l125:;
-i0 = v11;
-if (i0) { goto l77; }
+l129:;
+i0 = v10;
+if (i0) { goto l81; }
 j0 = v3;
 j1 = UINT64_C(520);
 j0 = j0 + j1;
 p100 = read_at(j0, m, 1u);
 i0 = load8(p100 + 0);
-v11 = i0;
+v10 = i0;
 i1 = UINT32_C(4294967289);
 i0 = i0 + i1;
 i1 = UINT32_C(255);
 i0 = i0 & i1;
 i1 = UINT32_C(3);
 i0 = (i0 < i1);
-if (i0) { goto l77; }
+if (i0) { goto l81; }
 j0 = UINT64_C(0);
 v2 = j0;
 j0 = v4;
-v13 = j0;
+v9 = j0;
 j0 = v6;
 v15 = j0;
 j0 = v35;
 v17 = j0;
-l190:;
+l194:;
 j0 = v6;
 j1 = v2;
 j0 = j0 + j1;
@@ -43882,11 +43882,11 @@ p101 = read_at(j0, m, 1u);
 i0 = load8(p101 + 0);
 i1 = UINT32_C(32);
 i0 = (i0 != i1);
-if (i0) { goto l189; }
-j0 = v13;
+if (i0) { goto l193; }
+j0 = v9;
 j1 = UINT64_C(18446744073709551615);
 j0 = j0 + j1;
-v13 = j0;
+v9 = j0;
 j0 = v15;
 j1 = UINT64_C(1);
 j0 = j0 + j1;
@@ -43901,49 +43901,49 @@ j2 = UINT64_C(1);
 j1 = j1 + j2;
 v2 = j1;
 i0 = (j0 != j1);
-if (i0) { goto l190; }
-goto l77;
-l189:;
+if (i0) { goto l194; }
+goto l81;
+l193:;
 j0 = v4;
 j1 = v2;
 i0 = (j0 == j1);
-if (i0) { goto l77; }
+if (i0) { goto l81; }
 j0 = v4;
 j1 = v2;
 j0 = j0 - j1;
 v5 = j0;
-j0 = v13;
+j0 = v9;
 v16 = j0;
 j0 = v15;
 v14 = j0;
-l192:;
+l196:;
 j0 = v14;
 p102 = read_at(j0, m, 1u);
 i0 = load8(p102 + 0);
-v19 = i0;
+v18 = i0;
 i1 = UINT32_C(48);
 i0 = (i0 < i1);
-if (i0) { goto l191; }
-i0 = v19;
+if (i0) { goto l195; }
+i0 = v18;
 i1 = UINT32_C(58);
 i0 = (i0 < i1);
 if (!i0) {
-i0 = v19;
+i0 = v18;
 i1 = UINT32_C(65);
 i0 = (i0 < i1);
-if (i0) { goto l191; }
-i0 = v19;
+if (i0) { goto l195; }
+i0 = v18;
 i1 = UINT32_C(71);
 i0 = (i0 < i1);
 if (!i0) {
-i0 = v19;
+i0 = v18;
 i1 = UINT32_C(4294967199);
 i0 = i0 + i1;
 i1 = UINT32_C(255);
 i0 = i0 & i1;
 i1 = UINT32_C(5);
 i0 = (i0 > i1);
-if (i0) { goto l191; }
+if (i0) { goto l195; }
 }
 }
 j0 = v14;
@@ -43956,16 +43956,16 @@ j0 = j0 + j1;
 v16 = j0;
 j1 = UINT64_C(0);
 i0 = (j0 != j1);
-if (i0) { goto l192; }
+if (i0) { goto l196; }
 j0 = v5;
 j1 = UINT64_C(18446744073709551605);
 j0 = j0 + j1;
 j1 = UINT64_C(18446744073709551609);
 i0 = (j0 < j1);
-if (i0) { goto l78; }
+if (i0) { goto l82; }
 j0 = v12;
 i0 = (j0 == 0);
-if (i0) { goto l77; }
+if (i0) { goto l81; }
 i0 = UINT32_C(1);
 j1 = v3;
 p103 = read_at(j1, m, 1u);
@@ -43974,16 +43974,16 @@ i0 = i0 << (i1 & 31);
 i1 = UINT32_C(86);
 i0 = i0 & i1;
 i0 = (i0 == 0);
-if (i0) { goto l78; }
+if (i0) { goto l82; }
 j0 = v12;
 j1 = UINT64_C(18446744073709551615);
 j0 = j0 + j1;
 v17 = j0;
 i0 = (j0 == 0);
-if (i0) { goto l77; }
+if (i0) { goto l81; }
 j0 = v25;
 v2 = j0;
-l194:;
+l198:;
 i0 = UINT32_C(1);
 j1 = v2;
 p104 = read_at(j1, m, 1u);
@@ -43992,7 +43992,7 @@ i0 = i0 << (i1 & 31);
 i1 = UINT32_C(41);
 i0 = i0 & i1;
 i0 = (i0 == 0);
-if (i0) { goto l78; }
+if (i0) { goto l82; }
 j0 = v2;
 j1 = UINT64_C(2);
 j0 = j0 + j1;
@@ -44003,9 +44003,9 @@ j0 = j0 + j1;
 v17 = j0;
 i0 = (j0 == 0);
 i0 = (i0 == 0);
-if (i0) { goto l194; }
-goto l77;
-l191:;
+if (i0) { goto l198; }
+goto l81;
+l195:;
 j0 = v5;
 j1 = UINT64_C(10);
 i0 = (j0 > j1);
@@ -44020,57 +44020,57 @@ v16 = j0;
 j0 = UINT64_C(0);
 v14 = j0;
 i0 = UINT32_C(0);
-v18 = i0;
-l196:;
-i0 = v18;
-v10 = i0;
+v19 = i0;
+l200:;
+i0 = v19;
+v13 = i0;
 j0 = v15;
 j1 = v14;
 j0 = j0 + j1;
 p105 = read_at(j0, m, 1u);
 i0 = load8(p105 + 0);
-v19 = i0;
+v18 = i0;
 i1 = UINT32_C(48);
 i0 = (i0 < i1);
 if (!i0) {
 i0 = UINT32_C(1);
-v18 = i0;
-i0 = v19;
+v19 = i0;
+i0 = v18;
 i1 = UINT32_C(58);
 i0 = (i0 < i1);
-if (i0) { goto l197; }
-i0 = v19;
+if (i0) { goto l201; }
+i0 = v18;
 i1 = UINT32_C(65);
 i0 = (i0 < i1);
-if (i0) { goto l198; }
-i0 = v19;
+if (i0) { goto l202; }
+i0 = v18;
 i1 = UINT32_C(71);
 i0 = (i0 < i1);
-if (i0) { goto l197; }
-i0 = v19;
+if (i0) { goto l201; }
+i0 = v18;
 i1 = UINT32_C(4294967199);
 i0 = i0 + i1;
 i1 = UINT32_C(255);
 i0 = i0 & i1;
 i1 = UINT32_C(6);
 i0 = (i0 < i1);
-if (i0) { goto l197; }
-goto l198;
+if (i0) { goto l201; }
+goto l202;
 }
-i0 = v19;
+i0 = v18;
 i1 = UINT32_C(32);
 i0 = (i0 != i1);
 if (!i0) {
-i0 = v10;
-v18 = i0;
-goto l197;
+i0 = v13;
+v19 = i0;
+goto l201;
 }
-l198:;
+l202:;
 j0 = v7;
-i1 = v19;
+i1 = v18;
 store8(p1 + 321, i1);
-i0 = v10;
-v18 = i0;
+i0 = v13;
+v19 = i0;
 j0 = v16;
 j1 = v3;
 j2 = UINT64_C(656);
@@ -44082,86 +44082,86 @@ j3 = UINT64_C(320);
 j2 = j2 + j3;
 i0 = core_slice_reads_slice_T_contains(m, j0, j1, j2);
 i0 = (i0 == 0);
-if (i0) { goto l195; }
-l197:;
-j0 = v13;
+if (i0) { goto l199; }
+l201:;
+j0 = v9;
 j1 = v14;
 j2 = UINT64_C(1);
 j1 = j1 + j2;
 v14 = j1;
 i0 = (j0 != j1);
-if (i0) { goto l196; }
-i0 = v18;
+if (i0) { goto l200; }
+i0 = v19;
 i1 = UINT32_C(1);
 i0 = i0 & i1;
-if (i0) { goto l78; }
+if (i0) { goto l82; }
 }
-l195:;
+l199:;
 j0 = v4;
-v13 = j0;
-l202:;
+v9 = j0;
+l206:;
 j0 = v30;
-j1 = v13;
+j1 = v9;
 j0 = j0 + j1;
 p107 = read_at(j0, m, 1u);
 i0 = load8(p107 + 0);
-v19 = i0;
+v18 = i0;
 i1 = UINT32_C(4294967262);
 i0 = i0 + i1;
 switch (i0) {
 case 0:
-goto l201;
+goto l205;
 case 1:
-goto l200;
-case 2:
-goto l200;
-case 3:
-goto l200;
-case 4:
-goto l200;
-case 5:
-goto l201;
-case 6:
-goto l200;
-case 7:
-goto l203;
-case 8:
-goto l200;
-case 9:
-goto l200;
-case 10:
-goto l203;
-default:
 goto l204;
+case 2:
+goto l204;
+case 3:
+goto l204;
+case 4:
+goto l204;
+case 5:
+goto l205;
+case 6:
+goto l204;
+case 7:
+goto l207;
+case 8:
+goto l204;
+case 9:
+goto l204;
+case 10:
+goto l207;
+default:
+goto l208;
 }
-l204:;
-i0 = v19;
+l208:;
+i0 = v18;
 i1 = UINT32_C(125);
 i0 = (i0 == i1);
 if (!i0) {
-i0 = v19;
+i0 = v18;
 i1 = UINT32_C(93);
 i0 = (i0 != i1);
-if (i0) { goto l200; }
+if (i0) { goto l204; }
 }
-l203:;
+l207:;
 j0 = v17;
 j1 = UINT64_C(18446744073709551615);
 j0 = j0 + j1;
 v17 = j0;
 j0 = v2;
-j1 = v13;
+j1 = v9;
 j2 = UINT64_C(18446744073709551615);
 j1 = j1 + j2;
-v13 = j1;
+v9 = j1;
 i0 = (j0 != j1);
-if (i0) { goto l202; }
-goto l200;
-l201:;
+if (i0) { goto l206; }
+goto l204;
+l205:;
 j0 = v7;
 i1 = UINT32_C(1);
 store16(p1 + 320, i1);
-j0 = v13;
+j0 = v9;
 j1 = UINT64_C(18446744073709551615);
 j0 = j0 + j1;
 j1 = v2;
@@ -44172,55 +44172,55 @@ j1 = UINT64_C(528);
 j0 = j0 + j1;
 v2 = j0;
 i0 = UINT32_C(0);
-v18 = i0;
-l205:;
-i0 = v18;
-v10 = i0;
+v19 = i0;
+l209:;
+i0 = v19;
+v13 = i0;
 j0 = v15;
 p108 = read_at(j0, m, 1u);
 i0 = load8(p108 + 0);
-v19 = i0;
+v18 = i0;
 i1 = UINT32_C(48);
 i0 = (i0 < i1);
 if (!i0) {
 i0 = UINT32_C(1);
-v18 = i0;
-i0 = v19;
+v19 = i0;
+i0 = v18;
 i1 = UINT32_C(58);
 i0 = (i0 < i1);
-if (i0) { goto l206; }
-i0 = v19;
+if (i0) { goto l210; }
+i0 = v18;
 i1 = UINT32_C(65);
 i0 = (i0 < i1);
-if (i0) { goto l207; }
-i0 = v19;
+if (i0) { goto l211; }
+i0 = v18;
 i1 = UINT32_C(71);
 i0 = (i0 < i1);
-if (i0) { goto l206; }
-i0 = v19;
+if (i0) { goto l210; }
+i0 = v18;
 i1 = UINT32_C(4294967199);
 i0 = i0 + i1;
 i1 = UINT32_C(255);
 i0 = i0 & i1;
 i1 = UINT32_C(6);
 i0 = (i0 < i1);
-if (i0) { goto l206; }
-goto l207;
+if (i0) { goto l210; }
+goto l211;
 }
-i0 = v19;
+i0 = v18;
 i1 = UINT32_C(32);
 i0 = (i0 != i1);
 if (!i0) {
-i0 = v10;
-v18 = i0;
-goto l206;
+i0 = v13;
+v19 = i0;
+goto l210;
 }
-l207:;
+l211:;
 j0 = v7;
-i1 = v19;
+i1 = v18;
 store8(p1 + 321, i1);
-i0 = v10;
-v18 = i0;
+i0 = v13;
+v19 = i0;
 j0 = v2;
 j1 = v3;
 j2 = UINT64_C(656);
@@ -44232,8 +44232,8 @@ j3 = UINT64_C(320);
 j2 = j2 + j3;
 i0 = core_slice_reads_slice_T_contains(m, j0, j1, j2);
 i0 = (i0 == 0);
-if (i0) { goto l200; }
-l206:;
+if (i0) { goto l204; }
+l210:;
 j0 = v15;
 j1 = UINT64_C(1);
 j0 = j0 + j1;
@@ -44244,13 +44244,13 @@ j0 = j0 + j1;
 v17 = j0;
 i0 = (j0 == 0);
 i0 = (i0 == 0);
-if (i0) { goto l205; }
-i0 = v18;
+if (i0) { goto l209; }
+i0 = v19;
 i1 = UINT32_C(1);
 i0 = i0 & i1;
-if (i0) { goto l78; }
+if (i0) { goto l82; }
 }
-l200:;
+l204:;
 j0 = v3;
 j1 = UINT64_C(528);
 j0 = j0 + j1;
@@ -44258,12 +44258,12 @@ v16 = j0;
 j0 = UINT64_C(0);
 v15 = j0;
 j0 = v6;
-v13 = j0;
-l209:;
+v9 = j0;
+l213:;
 j0 = v7;
 j1 = UINT64_C(192);
 j0 = j0 + j1;
-i1 = v11;
+i1 = v10;
 j2 = v3;
 j3 = UINT64_C(521);
 j2 = j2 + j3;
@@ -44305,36 +44305,36 @@ j0 = j0 + j1;
 j1 = v2;
 i0 = (j0 >= j1);
 if (!i0) {
-j0 = v13;
+j0 = v9;
 v2 = j0;
-l211:;
+l215:;
 j0 = v2;
 p112 = read_at(j0, m, 1u);
 i0 = load8(p112 + 0);
-v19 = i0;
+v18 = i0;
 i1 = UINT32_C(48);
 i0 = (i0 < i1);
-if (i0) { goto l78; }
-i0 = v19;
+if (i0) { goto l82; }
+i0 = v18;
 i1 = UINT32_C(58);
 i0 = (i0 < i1);
 if (!i0) {
-i0 = v19;
+i0 = v18;
 i1 = UINT32_C(65);
 i0 = (i0 < i1);
-if (i0) { goto l78; }
-i0 = v19;
+if (i0) { goto l82; }
+i0 = v18;
 i1 = UINT32_C(71);
 i0 = (i0 < i1);
 if (!i0) {
-i0 = v19;
+i0 = v18;
 i1 = UINT32_C(4294967199);
 i0 = i0 + i1;
 i1 = UINT32_C(255);
 i0 = i0 & i1;
 i1 = UINT32_C(5);
 i0 = (i0 > i1);
-if (i0) { goto l78; }
+if (i0) { goto l82; }
 }
 }
 j0 = v2;
@@ -44347,41 +44347,41 @@ j0 = j0 + j1;
 v17 = j0;
 j1 = UINT64_C(0);
 i0 = (j0 != j1);
-if (i0) { goto l211; }
+if (i0) { goto l215; }
 }
 }
 }
 j0 = v14;
 p113 = read_at(j0, m, 1u);
 i0 = load8(p113 + 0);
-v19 = i0;
+v18 = i0;
 j0 = v7;
 i1 = UINT32_C(1);
 store16(p1 + 320, i1);
-i0 = v19;
+i0 = v18;
 i1 = UINT32_C(48);
 i0 = (i0 < i1);
 if (!i0) {
-i0 = v19;
+i0 = v18;
 i1 = UINT32_C(58);
 i0 = (i0 < i1);
 if (!i0) {
-i0 = v19;
+i0 = v18;
 i1 = UINT32_C(65);
 i0 = (i0 < i1);
-if (i0) { goto l214; }
-i0 = v19;
+if (i0) { goto l218; }
+i0 = v18;
 i1 = UINT32_C(71);
 i0 = (i0 < i1);
 if (!i0) {
-i0 = v19;
+i0 = v18;
 i1 = UINT32_C(4294967199);
 i0 = i0 + i1;
 i1 = UINT32_C(255);
 i0 = i0 & i1;
 i1 = UINT32_C(5);
 i0 = (i0 > i1);
-if (i0) { goto l214; }
+if (i0) { goto l218; }
 }
 }
 j0 = v15;
@@ -44390,12 +44390,12 @@ j0 = j0 + j1;
 v15 = j0;
 j1 = v34;
 i0 = (j0 >= j1);
-if (i0) { goto l77; }
-goto l213;
+if (i0) { goto l81; }
+goto l217;
 }
-l214:;
+l218:;
 j0 = v7;
-i1 = v19;
+i1 = v18;
 store8(p1 + 321, i1);
 j0 = v16;
 j1 = v3;
@@ -44406,29 +44406,29 @@ j2 = v7;
 j3 = UINT64_C(320);
 j2 = j2 + j3;
 i0 = core_slice_reads_slice_T_contains(m, j0, j1, j2);
-v19 = i0;
+v18 = i0;
 j0 = v15;
 j1 = UINT64_C(1);
 j0 = j0 + j1;
 v15 = j0;
 j1 = v34;
 i0 = (j0 >= j1);
-if (i0) { goto l77; }
-i0 = v19;
+if (i0) { goto l81; }
+i0 = v18;
 i0 = (i0 == 0);
-if (i0) { goto l77; }
-l213:;
-j0 = v13;
+if (i0) { goto l81; }
+l217:;
+j0 = v9;
 j1 = UINT64_C(1);
 j0 = j0 + j1;
-v13 = j0;
+v9 = j0;
 j0 = v3;
 j1 = UINT64_C(520);
 j0 = j0 + j1;
 i0 = load8(p100 + 0);
-v11 = i0;
-goto l209;
-l78:;
+v10 = i0;
+goto l213;
+l82:;
 j0 = v3;
 j1 = UINT64_C(768);
 j0 = j0 + j1;
@@ -44436,8 +44436,8 @@ p114 = read_at(j0, m, 1u);
 i0 = load8(p114 + 0);
 i1 = UINT32_C(1);
 i0 = (i0 != i1);
-if (i0) { goto l70; }
-l77:;
+if (i0) { goto l74; }
+l81:;
 j0 = v21;
 j1 = UINT64_C(784);
 j0 = j0 + j1;
@@ -44456,9 +44456,9 @@ j0 = j0 + j1;
 v24 = j0;
 j1 = v26;
 i0 = (j0 == j1);
-if (i0) { goto l11; }
-goto l76;
-l70:;
+if (i0) { goto l15; }
+goto l80;
+l74:;
 j0 = v1;
 j1 = UINT64_C(44936);
 j0 = j0 + j1;
@@ -44466,9 +44466,9 @@ p115 = read_at(j0, m, 8u);
 j0 = load64(p115 + 0);
 v3 = j0;
 i0 = (j0 == 0);
-v19 = i0;
+v18 = i0;
 if (!i0) {
-i0 = v19;
+i0 = v18;
 if (!i0) {
 j0 = v1;
 j1 = UINT64_C(42888);
@@ -44491,9 +44491,9 @@ p117 = read_at(j0, m, 8u);
 j0 = load64(p117 + 0);
 v3 = j0;
 i0 = (j0 == 0);
-v19 = i0;
+v18 = i0;
 if (!i0) {
-i0 = v19;
+i0 = v18;
 if (!i0) {
 j0 = v1;
 j1 = UINT64_C(44944);
@@ -44516,9 +44516,9 @@ p119 = read_at(j0, m, 8u);
 j0 = load64(p119 + 0);
 v3 = j0;
 i0 = (j0 == 0);
-v19 = i0;
+v18 = i0;
 if (!i0) {
-i0 = v19;
+i0 = v18;
 if (!i0) {
 j0 = v1;
 j1 = UINT64_C(44960);
@@ -44568,21 +44568,21 @@ j0 = j0 + j1;
 j1 = UINT64_C(0);
 p123 = write_at(j0, m, 8u);
 store64(p123 + 0, j1);
-l13:;
+l17:;
 i0 = UINT32_C(4);
 v19 = i0;
 i0 = UINT32_C(2);
 v18 = i0;
 goto l2;
-l12:;
+l16:;
 i0 = UINT32_C(0);
 v19 = i0;
 j0 = v17;
 j1 = UINT64_C(15);
 i0 = (j0 > j1);
-if (i0) { goto l10; }
+if (i0) { goto l14; }
 goto l2;
-l11:;
+l15:;
 j0 = v6;
 j1 = v4;
 j0 = fio_log_shapes_sum_of(m, j0, j1);
@@ -44590,7 +44590,7 @@ v17 = j0;
 j0 = v1;
 j1 = UINT64_C(20248);
 j0 = j0 + j1;
-v13 = j0;
+v9 = j0;
 p124 = read_at(j0, m, 8u);
 j0 = load64(p124 + 0);
 v15 = j0;
@@ -44602,7 +44602,7 @@ j0 = j0 + j1;
 v3 = j0;
 j0 = v15;
 v2 = j0;
-l228:;
+l232:;
 j0 = v3;
 j1 = UINT64_C(18446744073709551606);
 j0 = j0 + j1;
@@ -44610,7 +44610,7 @@ p125 = read_at(j0, m, 8u);
 j0 = load64(p125 + 0);
 j1 = v17;
 i0 = (j0 == j1);
-if (i0) { goto l227; }
+if (i0) { goto l231; }
 j0 = v3;
 j1 = UINT64_C(16);
 j0 = j0 + j1;
@@ -44620,56 +44620,56 @@ j1 = UINT64_C(18446744073709551615);
 j0 = j0 + j1;
 v2 = j0;
 i0 = (j0 == 0);
-if (i0) { goto l226; }
-goto l228;
-l227:;
+if (i0) { goto l230; }
+goto l232;
+l231:;
 j0 = v3;
 j1 = UINT64_C(18446744073709551614);
 j0 = j0 + j1;
 v2 = j0;
 p126 = read_at(j0, m, 4u);
 i0 = load16(p126 + 0);
-v10 = i0;
+v13 = i0;
 i1 = UINT32_C(65535);
 i0 = i0 & i1;
-v18 = i0;
+v19 = i0;
 i1 = UINT32_C(2);
 i0 = (i0 > i1);
 j1 = v3;
 i1 = load16(p126 + 2);
 i2 = UINT32_C(65535);
 i1 = i1 & i2;
-v19 = i1;
+v18 = i1;
 i2 = UINT32_C(0);
-i3 = v18;
-i4 = v19;
+i3 = v19;
+i4 = v18;
 i3 = i3 - i4;
-v19 = i3;
-i4 = v19;
-i5 = v18;
+v18 = i3;
+i4 = v18;
+i5 = v19;
 i4 = (i4 > i5);
 i2 = i4 ? i2 : i3;
 i1 = (i1 < i2);
 i0 = i0 & i1;
-v19 = i0;
-i0 = v18;
+v18 = i0;
+i0 = v19;
 i1 = UINT32_C(999);
 i0 = (i0 > i1);
-if (i0) { goto l224; }
+if (i0) { goto l228; }
 j0 = v2;
-i1 = v10;
+i1 = v13;
 i2 = UINT32_C(1);
 i1 = i1 + i2;
 p127 = write_at(j0, m, 2u);
 store16(p127 + 0, i1);
-goto l224;
-l226:;
+goto l228;
+l230:;
 i0 = UINT32_C(0);
-v19 = i0;
+v18 = i0;
 j0 = v15;
 j1 = UINT64_C(256);
 i0 = (j0 == j1);
-if (i0) { goto l224; }
+if (i0) { goto l228; }
 }
 j0 = v1;
 j1 = UINT64_C(16152);
@@ -44685,15 +44685,15 @@ store64(p128 + 0, j1);
 j0 = v3;
 j1 = UINT64_C(1);
 store64(p128 + 8, j1);
-j0 = v13;
+j0 = v9;
 j1 = v15;
 j2 = UINT64_C(1);
 j1 = j1 + j2;
 p129 = write_at(j0, m, 8u);
 store64(p129 + 0, j1);
 i0 = UINT32_C(0);
-v19 = i0;
-l224:;
+v18 = i0;
+l228:;
 j0 = UINT64_C(0);
 v15 = j0;
 j0 = UINT64_C(0);
@@ -44703,7 +44703,7 @@ j1 = j1 + j2;
 v24 = j1;
 p130 = read_at(j1 + UINT64_C(18446744073709547504), m, 4128u);
 j1 = load64(p130 + 4112);
-v20 = j1;
+v31 = j1;
 j2 = v1;
 j3 = UINT64_C(20264);
 j2 = j2 + j3;
@@ -44712,7 +44712,7 @@ v25 = j2;
 j1 = j1 - j2;
 v3 = j1;
 j2 = v3;
-j3 = v20;
+j3 = v31;
 i2 = (j2 > j3);
 j0 = i2 ? j0 : j1;
 v2 = j0;
@@ -44720,15 +44720,15 @@ j0 = v1;
 j1 = UINT64_C(16144);
 j0 = j0 + j1;
 j0 = load64(p130 + 0);
-v9 = j0;
+v20 = j0;
 i0 = (j0 == 0);
-v31 = i0;
+v8 = i0;
 if (!i0) {
-j0 = v9;
+j0 = v20;
 j1 = UINT64_C(3);
 j0 = j0 & j1;
 v17 = j0;
-j0 = v9;
+j0 = v20;
 j1 = UINT64_C(4);
 i0 = (j0 < j1);
 if (!i0) {
@@ -44736,7 +44736,7 @@ j0 = v1;
 j1 = UINT64_C(13368);
 j0 = j0 + j1;
 v3 = j0;
-j0 = v9;
+j0 = v20;
 j1 = UINT64_C(18446744073709551612);
 j0 = j0 & j1;
 v5 = j0;
@@ -44747,7 +44747,7 @@ for (;;) {
 j0 = UINT64_C(18446744073709551615);
 j1 = v3;
 j1 = load64(p131 + 672);
-v13 = j1;
+v9 = j1;
 j2 = UINT64_C(18446744073709551615);
 j3 = v3;
 j4 = UINT64_C(18446744073709551392);
@@ -44788,7 +44788,7 @@ j2 = i4 ? j2 : j3;
 j1 = j1 + j2;
 v2 = j1;
 j2 = v2;
-j3 = v13;
+j3 = v9;
 i2 = (j2 < j3);
 j0 = i2 ? j0 : j1;
 v2 = j0;
@@ -44807,7 +44807,7 @@ p131 += 896;
 }
 j0 = v17;
 i0 = (j0 == 0);
-if (i0) { goto l229; }
+if (i0) { goto l233; }
 }
 j0 = v15;
 j1 = UINT64_C(224);
@@ -44845,10 +44845,10 @@ if (!i0) break;
 p132 += 224;
 }
 }
-l229:;
+l233:;
 j0 = v24;
 j1 = UINT64_C(18446744073709551615);
-j2 = v20;
+j2 = v31;
 j3 = UINT64_C(1);
 j2 = j2 + j3;
 v3 = j2;
@@ -44858,8 +44858,8 @@ j1 = i3 ? j1 : j2;
 p133 = write_at(j0, m, 8u);
 store64(p133 + 0, j1);
 i0 = UINT32_C(0);
-v8 = i0;
-i0 = v19;
+v11 = i0;
+i0 = v18;
 if (!i0) {
 j0 = v1;
 j1 = UINT64_C(20264);
@@ -44893,36 +44893,36 @@ j0 = j0 + j1;
 v16 = j0;
 j0 = UINT64_C(0);
 v3 = j0;
-l235:;
+l239:;
 j0 = v6;
 j1 = v3;
 j0 = j0 + j1;
 p135 = read_at(j0, m, 1u);
 i0 = load8(p135 + 0);
-v19 = i0;
+v18 = i0;
 i1 = UINT32_C(47);
 i0 = (i0 <= i1);
-if (i0) { goto l234; }
-i0 = v19;
+if (i0) { goto l238; }
+i0 = v18;
 i1 = UINT32_C(58);
 i0 = (i0 < i1);
 if (!i0) {
-i0 = v19;
+i0 = v18;
 i1 = UINT32_C(65);
 i0 = (i0 < i1);
-if (i0) { goto l234; }
-i0 = v19;
+if (i0) { goto l238; }
+i0 = v18;
 i1 = UINT32_C(71);
 i0 = (i0 < i1);
 if (!i0) {
-i0 = v19;
+i0 = v18;
 i1 = UINT32_C(4294967199);
 i0 = i0 + i1;
 i1 = UINT32_C(255);
 i0 = i0 & i1;
 i1 = UINT32_C(5);
 i0 = (i0 > i1);
-if (i0) { goto l234; }
+if (i0) { goto l238; }
 }
 }
 j0 = v4;
@@ -44931,20 +44931,20 @@ j2 = UINT64_C(1);
 j1 = j1 + j2;
 v3 = j1;
 i0 = (j0 != j1);
-if (i0) { goto l235; }
-goto l233;
-l234:;
+if (i0) { goto l239; }
+goto l237;
+l238:;
 j0 = UINT64_C(0);
 v2 = j0;
 i0 = UINT32_C(0);
-v18 = i0;
+v19 = i0;
 i0 = UINT32_C(0);
-v11 = i0;
+v10 = i0;
 j0 = UINT64_C(0);
 v3 = j0;
-l237:;
-i0 = v18;
-v8 = i0;
+l241:;
+i0 = v19;
+v11 = i0;
 j0 = UINT64_C(18446744073709551615);
 j1 = v2;
 j2 = UINT64_C(1);
@@ -44959,111 +44959,111 @@ j1 = v3;
 j0 = j0 + j1;
 p136 = read_at(j0, m, 1u);
 i0 = load8(p136 + 0);
-v19 = i0;
+v18 = i0;
 i1 = UINT32_C(90);
 i0 = (i0 > i1);
 if (!i0) {
 i0 = UINT32_C(0);
-v18 = i0;
+v19 = i0;
 j0 = UINT64_C(0);
 v2 = j0;
-i0 = v19;
+i0 = v18;
 i1 = UINT32_C(48);
 i0 = (i0 >= i1);
 if (!i0) {
 i0 = UINT32_C(0);
-v10 = i0;
-goto l238;
+v13 = i0;
+goto l242;
 }
-i0 = v19;
+i0 = v18;
 i1 = UINT32_C(58);
 i0 = (i0 >= i1);
 if (!i0) {
 i0 = UINT32_C(1);
-v8 = i0;
-goto l233;
+v11 = i0;
+goto l237;
 }
 i0 = UINT32_C(0);
-v10 = i0;
-i0 = v19;
+v13 = i0;
+i0 = v18;
 i1 = UINT32_C(65);
 i0 = (i0 < i1);
-if (i0) { goto l238; }
-i0 = v19;
+if (i0) { goto l242; }
+i0 = v18;
 i1 = UINT32_C(71);
 i0 = (i0 < i1);
-if (i0) { goto l240; }
-goto l239;
+if (i0) { goto l244; }
+goto l243;
 }
 i0 = UINT32_C(0);
-v18 = i0;
+v19 = i0;
 j0 = UINT64_C(0);
 v2 = j0;
-i0 = v19;
+i0 = v18;
 i1 = UINT32_C(97);
 i0 = (i0 >= i1);
 if (!i0) {
 i0 = UINT32_C(0);
-v10 = i0;
-goto l238;
+v13 = i0;
+goto l242;
 }
-i0 = v19;
+i0 = v18;
 i1 = UINT32_C(103);
 i0 = (i0 < i1);
 if (!i0) {
-i0 = v19;
+i0 = v18;
 i1 = UINT32_C(123);
 i0 = (i0 < i1);
-if (i0) { goto l239; }
+if (i0) { goto l243; }
 i0 = UINT32_C(0);
-v10 = i0;
-i0 = v19;
+v13 = i0;
+i0 = v18;
 i0 = (uint32_t)extend(i0 & 255, 7);
 i1 = UINT32_C(4294967295);
 i0 = (SIGNED32(i0) > SIGNED32(i1));
-if (i0) { goto l238; }
+if (i0) { goto l242; }
 i0 = UINT32_C(1);
-v8 = i0;
-goto l233;
+v11 = i0;
+goto l237;
 }
-l240:;
-i0 = v8;
+l244:;
+i0 = v11;
 j1 = v17;
 j2 = UINT64_C(2);
 i1 = (j1 > j2);
 i0 = i0 & i1;
-v10 = i0;
+v13 = i0;
 j0 = v17;
 v2 = j0;
-i0 = v8;
-v18 = i0;
-goto l238;
-l239:;
+i0 = v11;
+v19 = i0;
+goto l242;
+l243:;
 j0 = v17;
 j1 = UINT64_C(2);
 i0 = (j0 > j1);
-v10 = i0;
+v13 = i0;
 i0 = UINT32_C(1);
-v18 = i0;
+v19 = i0;
 j0 = v17;
 v2 = j0;
-l238:;
-i0 = v11;
-i1 = v10;
+l242:;
+i0 = v10;
+i1 = v13;
 i0 = i0 | i1;
-v11 = i0;
+v10 = i0;
 j0 = v4;
 j1 = v3;
 j2 = UINT64_C(1);
 j1 = j1 + j2;
 v3 = j1;
 i0 = (j0 != j1);
-if (i0) { goto l237; }
-i0 = v31;
-i1 = v11;
+if (i0) { goto l241; }
+i0 = v8;
+i1 = v10;
 i2 = UINT32_C(1);
 i1 = i1 ^ i2;
-v8 = i1;
+v11 = i1;
 i0 = i0 | i1;
 i1 = UINT32_C(1);
 i0 = i0 & i1;
@@ -45071,7 +45071,7 @@ if (!i0) {
 j0 = v1;
 j1 = UINT64_C(12728);
 j0 = j0 + j1;
-v13 = j0;
+v9 = j0;
 j0 = v6;
 j1 = UINT64_C(18446744073709551615);
 j0 = j0 + j1;
@@ -45080,7 +45080,7 @@ j0 = v1;
 j1 = UINT64_C(12752);
 j0 = j0 + j1;
 v17 = j0;
-l246:;
+l250:;
 j0 = v16;
 j1 = UINT64_C(216);
 j0 = j0 + j1;
@@ -45100,98 +45100,98 @@ if (!i0) {
 j0 = UINT64_C(0);
 v3 = j0;
 i0 = UINT32_C(0);
-v19 = i0;
-l248:;
-i0 = v19;
+v18 = i0;
+l252:;
+i0 = v18;
 i1 = UINT32_C(1);
 i0 = i0 & i1;
 i0 = (i0 == 0);
 if (!i0) {
 i0 = UINT32_C(1);
-v19 = i0;
-goto l249;
+v18 = i0;
+goto l253;
 }
 i0 = UINT32_C(0);
-v19 = i0;
+v18 = i0;
 j0 = v17;
 j1 = v3;
 j0 = j0 + j1;
 p139 = read_at(j0, m, 1u);
 i0 = load8(p139 + 0);
-v18 = i0;
+v19 = i0;
 i1 = UINT32_C(4294967264);
 i0 = i0 + i1;
 switch (i0) {
 case 0:
-goto l249;
-case 1:
-goto l252;
-case 2:
-goto l252;
-case 3:
-goto l249;
-default:
 goto l253;
+case 1:
+goto l256;
+case 2:
+goto l256;
+case 3:
+goto l253;
+default:
+goto l257;
 }
-l253:;
-i0 = v18;
+l257:;
+i0 = v19;
 i1 = UINT32_C(95);
 i0 = (i0 == i1);
-if (i0) { goto l251; }
-l252:;
-i0 = v18;
+if (i0) { goto l255; }
+l256:;
+i0 = v19;
 i1 = UINT32_C(48);
 i0 = (i0 >= i1);
 if (!i0) {
 i0 = UINT32_C(1);
-v19 = i0;
-goto l249;
+v18 = i0;
+goto l253;
 }
-i0 = v18;
+i0 = v19;
 i1 = UINT32_C(58);
 i0 = (i0 < i1);
 if (!i0) {
-i0 = v18;
+i0 = v19;
 i1 = UINT32_C(65);
 i0 = (i0 >= i1);
 if (!i0) {
 i0 = UINT32_C(1);
-v19 = i0;
-goto l249;
+v18 = i0;
+goto l253;
 }
-i0 = v18;
+i0 = v19;
 i1 = UINT32_C(91);
 i0 = (i0 < i1);
 if (!i0) {
-i0 = v18;
+i0 = v19;
 i1 = UINT32_C(97);
 i0 = (i0 >= i1);
 if (!i0) {
 i0 = UINT32_C(1);
-v19 = i0;
-goto l249;
+v18 = i0;
+goto l253;
 }
 i0 = UINT32_C(1);
-v19 = i0;
-i0 = v18;
+v18 = i0;
+i0 = v19;
 i0 = (uint32_t)extend(i0 & 255, 7);
 i1 = UINT32_C(122);
 i0 = (SIGNED32(i0) > SIGNED32(i1));
-if (i0) { goto l249; }
+if (i0) { goto l253; }
 }
 }
-l251:;
+l255:;
 i0 = UINT32_C(0);
-v19 = i0;
-l249:;
+v18 = i0;
+l253:;
 j0 = v2;
 j1 = v3;
 j2 = UINT64_C(1);
 j1 = j1 + j2;
 v3 = j1;
 i0 = (j0 != j1);
-if (i0) { goto l248; }
-i0 = v19;
+if (i0) { goto l252; }
+i0 = v18;
 i0 = (i0 == 0);
 if (!i0) {
 j0 = UINT64_C(0);
@@ -45207,7 +45207,7 @@ j1 = UINT64_C(0);
 store64(p1 + 320, j1);
 j0 = UINT64_C(0);
 v15 = j0;
-l258:;
+l262:;
 j0 = v3;
 j1 = UINT64_C(16);
 i0 = (j0 != j1);
@@ -45224,7 +45224,7 @@ j0 = v7;
 j1 = v7;
 j1 = load64(p1 + 320);
 store64(p1 + 2400, j1);
-goto l257;
+goto l261;
 }
 i0 = UINT32_C(39);
 i1 = UINT32_C(35);
@@ -45233,8 +45233,8 @@ j3 = v15;
 j2 = j2 + j3;
 p140 = read_at(j2, m, 1u);
 i2 = load8(p140 + 0);
-v19 = i2;
-i3 = v19;
+v18 = i2;
+i3 = v18;
 i4 = UINT32_C(4294967248);
 i3 = i3 + i4;
 i4 = UINT32_C(255);
@@ -45242,11 +45242,11 @@ i3 = i3 & i4;
 i4 = UINT32_C(10);
 i3 = (i3 < i4);
 i1 = i3 ? i1 : i2;
-i2 = v19;
+i2 = v18;
 i3 = UINT32_C(34);
 i2 = (i2 == i3);
 i0 = i2 ? i0 : i1;
-v19 = i0;
+v18 = i0;
 i1 = UINT32_C(35);
 i0 = (i0 == i1);
 if (!i0) {
@@ -45255,14 +45255,14 @@ j1 = UINT64_C(320);
 j0 = j0 + j1;
 j1 = v3;
 j0 = j0 + j1;
-i1 = v19;
+i1 = v18;
 p141 = write_at(j0, m, 1u);
 store8(p141 + 0, i1);
 j0 = v3;
 j1 = UINT64_C(1);
 j0 = j0 + j1;
 v3 = j0;
-goto l261;
+goto l265;
 }
 j0 = v7;
 j1 = UINT64_C(320);
@@ -45280,7 +45280,7 @@ p142 = read_at(j0, m, 1u);
 i0 = load8(p142 + 0);
 i1 = UINT32_C(35);
 i0 = (i0 == i1);
-if (i0) { goto l260; }
+if (i0) { goto l264; }
 }
 j0 = v14;
 i1 = UINT32_C(35);
@@ -45290,18 +45290,18 @@ j0 = v3;
 j1 = UINT64_C(1);
 j0 = j0 + j1;
 v3 = j0;
-l261:;
+l265:;
 j0 = v7;
 j1 = v3;
 store64(p1 + 336, j1);
-l260:;
+l264:;
 j0 = v4;
 j1 = v15;
 j2 = UINT64_C(1);
 j1 = j1 + j2;
 v15 = j1;
 i0 = (j0 != j1);
-if (i0) { goto l258; }
+if (i0) { goto l262; }
 j0 = v7;
 j1 = v7;
 j1 = load64(p1 + 336);
@@ -45314,7 +45314,7 @@ j0 = v7;
 j1 = v7;
 j1 = load64(p1 + 320);
 store64(p1 + 2400, j1);
-l257:;
+l261:;
 j0 = UINT64_C(0);
 v3 = j0;
 j0 = v7;
@@ -45328,7 +45328,7 @@ j1 = UINT64_C(0);
 store64(p1 + 320, j1);
 j0 = v4;
 v15 = j0;
-l265:;
+l269:;
 j0 = v3;
 j1 = UINT64_C(16);
 i0 = (j0 != j1);
@@ -45345,7 +45345,7 @@ j0 = v7;
 j1 = v7;
 j1 = load64(p1 + 320);
 store64(p1 + 2376, j1);
-goto l264;
+goto l268;
 }
 i0 = UINT32_C(39);
 i1 = UINT32_C(35);
@@ -45354,8 +45354,8 @@ j3 = v15;
 j2 = j2 + j3;
 p144 = read_at(j2, m, 1u);
 i2 = load8(p144 + 0);
-v19 = i2;
-i3 = v19;
+v18 = i2;
+i3 = v18;
 i4 = UINT32_C(4294967248);
 i3 = i3 + i4;
 i4 = UINT32_C(255);
@@ -45363,11 +45363,11 @@ i3 = i3 & i4;
 i4 = UINT32_C(10);
 i3 = (i3 < i4);
 i1 = i3 ? i1 : i2;
-i2 = v19;
+i2 = v18;
 i3 = UINT32_C(34);
 i2 = (i2 == i3);
 i0 = i2 ? i0 : i1;
-v19 = i0;
+v18 = i0;
 i1 = UINT32_C(35);
 i0 = (i0 == i1);
 if (!i0) {
@@ -45376,14 +45376,14 @@ j1 = UINT64_C(320);
 j0 = j0 + j1;
 j1 = v3;
 j0 = j0 + j1;
-i1 = v19;
+i1 = v18;
 p145 = write_at(j0, m, 1u);
 store8(p145 + 0, i1);
 j0 = v3;
 j1 = UINT64_C(1);
 j0 = j0 + j1;
 v3 = j0;
-goto l268;
+goto l272;
 }
 j0 = v7;
 j1 = UINT64_C(320);
@@ -45401,7 +45401,7 @@ p146 = read_at(j0, m, 1u);
 i0 = load8(p146 + 0);
 i1 = UINT32_C(35);
 i0 = (i0 == i1);
-if (i0) { goto l267; }
+if (i0) { goto l271; }
 }
 j0 = v14;
 i1 = UINT32_C(35);
@@ -45411,18 +45411,18 @@ j0 = v3;
 j1 = UINT64_C(1);
 j0 = j0 + j1;
 v3 = j0;
-l268:;
+l272:;
 j0 = v7;
 j1 = v3;
 store64(p1 + 336, j1);
-l267:;
+l271:;
 j0 = v15;
 j1 = UINT64_C(18446744073709551615);
 j0 = j0 + j1;
 v15 = j0;
 j1 = UINT64_C(0);
 i0 = (j0 != j1);
-if (i0) { goto l265; }
+if (i0) { goto l269; }
 j0 = v7;
 j1 = v7;
 j1 = load64(p1 + 336);
@@ -45435,7 +45435,7 @@ j0 = v7;
 j1 = v7;
 j1 = load64(p1 + 320);
 store64(p1 + 2376, j1);
-l264:;
+l268:;
 j0 = v7;
 j1 = v7;
 j1 = load64(p1 + 2400);
@@ -45472,20 +45472,20 @@ p148 = read_at(j0, m, 8u);
 j0 = load64(p148 + 0);
 v12 = j0;
 i0 = (j0 == 0);
-v19 = i0;
+v18 = i0;
 if (!i0) {
 j0 = UINT64_C(0);
 v15 = j0;
-l272:;
+l276:;
 j0 = v14;
 j1 = v15;
 i0 = (j0 != j1);
 if (!i0) {
 j0 = v14;
 v15 = j0;
-goto l271;
+goto l275;
 }
-j0 = v13;
+j0 = v9;
 j1 = v15;
 j0 = j0 + j1;
 p149 = read_at(j0, m, 1u);
@@ -45498,18 +45498,18 @@ j1 = j1 + j2;
 p150 = read_at(j1, m, 1u);
 i1 = load8(p150 + 0);
 i0 = (i0 != i1);
-if (i0) { goto l271; }
+if (i0) { goto l275; }
 j0 = v12;
 j1 = v15;
 j2 = UINT64_C(1);
 j1 = j1 + j2;
 v15 = j1;
 i0 = (j0 != j1);
-if (i0) { goto l272; }
+if (i0) { goto l276; }
 j0 = v12;
 v15 = j0;
 }
-l271:;
+l275:;
 j0 = v15;
 j1 = v12;
 i0 = (j0 != j1);
@@ -45517,18 +45517,18 @@ j1 = v15;
 j2 = v14;
 i1 = (j1 != j2);
 i0 = i0 & i1;
-v18 = i0;
+v19 = i0;
 j0 = v7;
 j0 = load64(p1 + 2440);
 v15 = j0;
-l275:;
+l279:;
 j0 = v15;
 j1 = v3;
 i0 = (j0 != j1);
 if (!i0) {
 j0 = v15;
 v3 = j0;
-goto l274;
+goto l278;
 }
 j0 = v17;
 j1 = v3;
@@ -45543,17 +45543,17 @@ j1 = j1 + j2;
 p152 = read_at(j1, m, 1u);
 i1 = load8(p152 + 0);
 i0 = (i0 != i1);
-if (i0) { goto l274; }
+if (i0) { goto l278; }
 j0 = v2;
 j1 = v3;
 j2 = UINT64_C(1);
 j1 = j1 + j2;
 v3 = j1;
 i0 = (j0 != j1);
-if (i0) { goto l275; }
+if (i0) { goto l279; }
 j0 = v2;
 v3 = j0;
-l274:;
+l278:;
 j0 = v3;
 j1 = v2;
 i0 = (j0 == j1);
@@ -45561,17 +45561,17 @@ j1 = v3;
 j2 = v15;
 i1 = (j1 == j2);
 i0 = i0 | i1;
-v10 = i0;
+v13 = i0;
 j0 = UINT64_C(0);
 v3 = j0;
-l278:;
+l282:;
 j0 = v15;
 j1 = v3;
 i0 = (j0 != j1);
 if (!i0) {
 j0 = v15;
 v3 = j0;
-goto l277;
+goto l281;
 }
 j0 = v17;
 j1 = v3;
@@ -45586,31 +45586,31 @@ j1 = j1 + j2;
 p154 = read_at(j1, m, 1u);
 i1 = load8(p154 + 0);
 i0 = (i0 != i1);
-if (i0) { goto l277; }
+if (i0) { goto l281; }
 j0 = v2;
 j1 = v3;
 j2 = UINT64_C(1);
 j1 = j1 + j2;
 v3 = j1;
 i0 = (j0 != j1);
-if (i0) { goto l278; }
+if (i0) { goto l282; }
 j0 = v2;
 v3 = j0;
-l277:;
-i0 = v19;
+l281:;
+i0 = v18;
 if (!i0) {
 j0 = UINT64_C(0);
 v2 = j0;
-l282:;
+l286:;
 j0 = v14;
 j1 = v2;
 i0 = (j0 != j1);
 if (!i0) {
 j0 = v14;
 v2 = j0;
-goto l281;
+goto l285;
 }
-j0 = v13;
+j0 = v9;
 j1 = v2;
 j0 = j0 + j1;
 p155 = read_at(j0, m, 1u);
@@ -45623,19 +45623,19 @@ j1 = j1 + j2;
 p156 = read_at(j1, m, 1u);
 i1 = load8(p156 + 0);
 i0 = (i0 != i1);
-if (i0) { goto l281; }
+if (i0) { goto l285; }
 j0 = v12;
 j1 = v2;
 j2 = UINT64_C(1);
 j1 = j1 + j2;
 v2 = j1;
 i0 = (j0 != j1);
-if (i0) { goto l282; }
+if (i0) { goto l286; }
 j0 = v12;
 v2 = j0;
-l281:;
-i0 = v18;
-i1 = v10;
+l285:;
+i0 = v19;
+i1 = v13;
 j2 = v14;
 j3 = v2;
 j4 = v14;
@@ -45654,47 +45654,47 @@ v2 = j0;
 j0 = UINT64_C(0);
 v12 = j0;
 i0 = UINT32_C(0);
-v19 = i0;
+v18 = i0;
 j0 = v7;
 j1 = UINT64_C(2456);
 j0 = j0 + j1;
 v14 = j0;
-l285:;
-i0 = v19;
+l289:;
+i0 = v18;
 i1 = UINT32_C(1);
 i0 = i0 & i1;
 if (!i0) {
 j0 = v14;
 p157 = read_at(j0, m, 1u);
 i0 = load8(p157 + 0);
-v19 = i0;
+v18 = i0;
 j0 = v2;
 i0 = (j0 == 0);
-if (i0) { goto l284; }
-i0 = v19;
+if (i0) { goto l288; }
+i0 = v18;
 i1 = UINT32_C(35);
 i0 = (i0 != i1);
-i1 = v19;
+i1 = v18;
 i2 = UINT32_C(32);
 i1 = (i1 != i2);
 i0 = i0 & i1;
-v19 = i0;
+v18 = i0;
 j0 = v12;
 j1 = UINT64_C(1);
 j0 = j0 + j1;
 v12 = j0;
-goto l286;
+goto l290;
 }
 j0 = v2;
 i0 = (j0 == 0);
-if (i0) { goto l245; }
+if (i0) { goto l249; }
 j0 = v12;
 j1 = UINT64_C(1);
 j0 = j0 + j1;
 v12 = j0;
 i0 = UINT32_C(1);
-v19 = i0;
-l286:;
+v18 = i0;
+l290:;
 j0 = v14;
 j1 = UINT64_C(1);
 j0 = j0 + j1;
@@ -45703,28 +45703,28 @@ j0 = v2;
 j1 = UINT64_C(18446744073709551615);
 j0 = j0 + j1;
 v2 = j0;
-goto l285;
-l284:;
-i0 = v19;
+goto l289;
+l288:;
+i0 = v18;
 i1 = UINT32_C(4294967264);
 i0 = i0 + i1;
 switch (i0) {
 case 0:
-goto l280;
+goto l284;
 case 1:
-goto l245;
+goto l249;
 case 2:
-goto l245;
+goto l249;
 case 3:
-goto l280;
+goto l284;
 default:
-goto l245;
+goto l249;
 }
 }
 }
-l280:;
-i0 = v10;
-i1 = v18;
+l284:;
+i0 = v13;
+i1 = v19;
 j2 = v15;
 j3 = v3;
 j4 = v15;
@@ -45740,92 +45740,92 @@ i1 = UINT32_C(1);
 i0 = (i0 != i1);
 if (!i0) {
 i0 = UINT32_C(0);
-v19 = i0;
+v18 = i0;
 j0 = v7;
 j1 = UINT64_C(2424);
 j0 = j0 + j1;
 v3 = j0;
-l288:;
-i0 = v19;
+l292:;
+i0 = v18;
 i1 = UINT32_C(1);
 i0 = i0 & i1;
 i0 = (i0 == 0);
 if (!i0) {
 i0 = UINT32_C(1);
-v19 = i0;
-goto l289;
+v18 = i0;
+goto l293;
 }
 i0 = UINT32_C(0);
-v19 = i0;
+v18 = i0;
 j0 = v3;
 p158 = read_at(j0, m, 1u);
 i0 = load8(p158 + 0);
-v18 = i0;
+v19 = i0;
 i1 = UINT32_C(4294967264);
 i0 = i0 + i1;
 switch (i0) {
 case 0:
-goto l289;
-case 1:
-goto l292;
-case 2:
-goto l292;
-case 3:
-goto l289;
-default:
 goto l293;
+case 1:
+goto l296;
+case 2:
+goto l296;
+case 3:
+goto l293;
+default:
+goto l297;
 }
-l293:;
-i0 = v18;
+l297:;
+i0 = v19;
 i1 = UINT32_C(95);
 i0 = (i0 == i1);
-if (i0) { goto l291; }
-l292:;
-i0 = v18;
+if (i0) { goto l295; }
+l296:;
+i0 = v19;
 i1 = UINT32_C(48);
 i0 = (i0 >= i1);
 if (!i0) {
 i0 = UINT32_C(1);
-v19 = i0;
-goto l289;
+v18 = i0;
+goto l293;
 }
-i0 = v18;
+i0 = v19;
 i1 = UINT32_C(58);
 i0 = (i0 < i1);
 if (!i0) {
-i0 = v18;
+i0 = v19;
 i1 = UINT32_C(65);
 i0 = (i0 >= i1);
 if (!i0) {
 i0 = UINT32_C(1);
-v19 = i0;
-goto l289;
+v18 = i0;
+goto l293;
 }
-i0 = v18;
+i0 = v19;
 i1 = UINT32_C(91);
 i0 = (i0 < i1);
 if (!i0) {
-i0 = v18;
+i0 = v19;
 i1 = UINT32_C(97);
 i0 = (i0 >= i1);
 if (!i0) {
 i0 = UINT32_C(1);
-v19 = i0;
-goto l289;
+v18 = i0;
+goto l293;
 }
 i0 = UINT32_C(1);
-v19 = i0;
-i0 = v18;
+v18 = i0;
+i0 = v19;
 i0 = (uint32_t)extend(i0 & 255, 7);
 i1 = UINT32_C(122);
 i0 = (SIGNED32(i0) > SIGNED32(i1));
-if (i0) { goto l289; }
+if (i0) { goto l293; }
 }
 }
-l291:;
+l295:;
 i0 = UINT32_C(0);
-v19 = i0;
-l289:;
+v18 = i0;
+l293:;
 j0 = v3;
 j1 = UINT64_C(1);
 j0 = j0 + j1;
@@ -45836,13 +45836,13 @@ j0 = j0 + j1;
 v2 = j0;
 i0 = (j0 == 0);
 i0 = (i0 == 0);
-if (i0) { goto l288; }
-i0 = v19;
+if (i0) { goto l292; }
+i0 = v18;
 i0 = (i0 == 0);
 if (!i0) {
 i0 = UINT32_C(1);
-v8 = i0;
-goto l233;
+v11 = i0;
+goto l237;
 }
 }
 }
@@ -45852,33 +45852,33 @@ j0 = v16;
 j1 = UINT64_C(224);
 j0 = j0 + j1;
 v16 = j0;
-j0 = v13;
+j0 = v9;
 j1 = UINT64_C(224);
 j0 = j0 + j1;
-v13 = j0;
+v9 = j0;
 j0 = v17;
 j1 = UINT64_C(224);
 j0 = j0 + j1;
 v17 = j0;
-j0 = v9;
+j0 = v20;
 j1 = UINT64_C(18446744073709551615);
 j0 = j0 + j1;
-v9 = j0;
+v20 = j0;
 j1 = UINT64_C(0);
 i0 = (j0 != j1);
-if (i0) { goto l246; }
+if (i0) { goto l250; }
 i0 = UINT32_C(0);
-v8 = i0;
-goto l233;
-l245:;
+v11 = i0;
+goto l237;
+l249:;
 i0 = UINT32_C(1);
-v8 = i0;
+v11 = i0;
 }
 }
 }
 }
 }
-l233:;
+l237:;
 j0 = v1;
 p159 = read_at(j0, m, 1u);
 i0 = load8(p159 + 0);
@@ -45891,7 +45891,7 @@ j0 = v7;
 j1 = UINT64_C(2488);
 j0 = j0 + j1;
 v2 = j0;
-goto l297;
+goto l301;
 }
 j0 = v1;
 j1 = UINT64_C(8);
@@ -45903,7 +45903,7 @@ j0 = j0 + j1;
 p160 = read_at(j0, m, 8u);
 j0 = load64(p160 + 0);
 v3 = j0;
-l297:;
+l301:;
 j0 = v2;
 j1 = v3;
 j2 = v6;
@@ -45912,7 +45912,7 @@ j4 = v29;
 i0 = fio_log_quiet_held_by_text(m, j0, j1, j2, j3, j4);
 i1 = UINT32_C(255);
 i0 = i0 & i1;
-v31 = i0;
+v8 = i0;
 if (!i0) {
 j0 = v1;
 p161 = read_at(j0, m, 1u);
@@ -45923,23 +45923,23 @@ if (!i0) {
 j0 = v1;
 j1 = UINT64_C(8);
 j0 = j0 + j1;
-v20 = j0;
+v31 = j0;
 j0 = v1;
 j1 = UINT64_C(12552);
 j0 = j0 + j1;
 p162 = read_at(j0, m, 8u);
 j0 = load64(p162 + 0);
-v9 = j0;
+v20 = j0;
 j0 = v4;
 i0 = (j0 == 0);
 if (!i0) {
-j0 = v9;
+j0 = v20;
 i0 = (j0 == 0);
 if (!i0) {
 j0 = UINT64_C(0);
 v24 = j0;
-l303:;
-j0 = v20;
+l307:;
+j0 = v31;
 j1 = v24;
 j2 = UINT64_C(784);
 j1 = j1 * j2;
@@ -45971,7 +45971,7 @@ i3 = (j3 < j4);
 j1 = i3 ? j1 : j2;
 v12 = j1;
 j0 = j0 - j1;
-v13 = j0;
+v9 = j0;
 j1 = UINT64_C(1);
 j0 = j0 << (j1 & 63);
 v5 = j0;
@@ -45979,7 +45979,7 @@ j0 = v6;
 v2 = j0;
 j0 = v4;
 v17 = j0;
-l305:;
+l309:;
 j0 = v7;
 j1 = UINT64_C(176);
 j0 = j0 + j1;
@@ -45997,21 +45997,21 @@ j7 = UINT64_C(512);
 j6 = j6 + j7;
 j6 = load64(p164 + 0);
 v15 = j6;
-j7 = v13;
+j7 = v9;
 i6 = (j6 > j7);
-v19 = i6;
+v18 = i6;
 j4 = i6 ? j4 : j5;
 j3 = j3 + j4;
 j4 = v12;
 j5 = v15;
-j6 = v13;
+j6 = v9;
 j5 = j5 - j6;
 j6 = v14;
 j7 = v15;
 i6 = (j6 < j7);
 j4 = i6 ? j4 : j5;
 j5 = UINT64_C(0);
-i6 = v19;
+i6 = v18;
 j4 = i6 ? j4 : j5;
 j5 = v2;
 j6 = v17;
@@ -46029,7 +46029,7 @@ j3 = load64(p1 + 184);
 j4 = v29;
 j5 = v23;
 i0 = fio_log_cut_has_message(m, j0, j1, j2, j3, j4, j5);
-if (i0) { goto l300; }
+if (i0) { goto l304; }
 }
 j0 = v2;
 j1 = UINT64_C(1);
@@ -46041,35 +46041,35 @@ j0 = j0 + j1;
 v17 = j0;
 j1 = UINT64_C(0);
 i0 = (j0 != j1);
-if (i0) { goto l305; }
+if (i0) { goto l309; }
 }
 }
 j0 = v24;
 j1 = UINT64_C(1);
 j0 = j0 + j1;
 v24 = j0;
-j1 = v9;
+j1 = v20;
 i0 = (j0 != j1);
-if (i0) { goto l303; }
+if (i0) { goto l307; }
 j0 = v1;
 i0 = load8(p161 + 0);
 i1 = UINT32_C(1);
 i0 = (i0 != i1);
-if (i0) { goto l301; }
+if (i0) { goto l305; }
 j0 = v1;
 j1 = UINT64_C(12552);
 j0 = j0 + j1;
 j0 = load64(p162 + 0);
-v9 = j0;
+v20 = j0;
 }
 }
-j0 = v9;
+j0 = v20;
 i0 = (j0 == 0);
 if (!i0) {
 j0 = UINT64_C(0);
 v3 = j0;
-l307:;
-j0 = v20;
+l311:;
+j0 = v31;
 j1 = v3;
 j2 = UINT64_C(784);
 j1 = j1 * j2;
@@ -46151,19 +46151,19 @@ i0 = (i0 != i1);
 if (!i0) {
 j0 = v7;
 j0 = load64(p1 + 152);
-v13 = j0;
+v9 = j0;
 j1 = v4;
 i0 = (j0 > j1);
 if (!i0) {
 j0 = UINT64_C(3);
 v17 = j0;
-l310:;
-j0 = v13;
+l314:;
+j0 = v9;
 v14 = j0;
 j0 = v15;
 j1 = v17;
 i0 = (j0 == j1);
-if (i0) { goto l309; }
+if (i0) { goto l313; }
 j0 = v7;
 j1 = UINT64_C(128);
 j0 = j0 + j1;
@@ -46178,21 +46178,21 @@ j0 = v7;
 i0 = load8(p1 + 128);
 i1 = UINT32_C(1);
 i0 = (i0 != i1);
-if (i0) { goto l309; }
+if (i0) { goto l313; }
 j0 = v17;
 j1 = UINT64_C(1);
 j0 = j0 + j1;
 v17 = j0;
 j0 = v7;
 j0 = load64(p1 + 136);
-v13 = j0;
+v9 = j0;
 j1 = v4;
 i0 = (j0 <= j1);
-if (i0) { goto l310; }
+if (i0) { goto l314; }
 }
 }
 }
-l309:;
+l313:;
 j0 = v7;
 i1 = UINT32_C(1);
 store16(p1 + 320, i1);
@@ -46211,125 +46211,125 @@ v17 = j0;
 j0 = v2;
 j1 = UINT64_C(528);
 j0 = j0 + j1;
-v13 = j0;
+v9 = j0;
 i0 = UINT32_C(0);
-v18 = i0;
+v19 = i0;
 i0 = UINT32_C(0);
+v13 = i0;
+l315:;
+i0 = v19;
 v10 = i0;
-l311:;
-i0 = v18;
-v11 = i0;
 j0 = v17;
 p170 = read_at(j0, m, 1u);
 i0 = load8(p170 + 0);
-v19 = i0;
-i0 = v10;
+v18 = i0;
+i0 = v13;
 i1 = UINT32_C(1);
 i0 = i0 & i1;
 i0 = (i0 == 0);
 if (!i0) {
-i0 = v19;
+i0 = v18;
 i1 = UINT32_C(255);
 i0 = i0 & i1;
-v18 = i0;
+v19 = i0;
 i1 = UINT32_C(95);
 i0 = (i0 == i1);
-if (i0) { goto l308; }
+if (i0) { goto l312; }
 i0 = UINT32_C(1);
-v10 = i0;
-i0 = v18;
+v13 = i0;
+i0 = v19;
 i1 = UINT32_C(48);
 i0 = (i0 >= i1);
 if (!i0) {
-i0 = v11;
-v18 = i0;
-goto l312;
+i0 = v10;
+v19 = i0;
+goto l316;
 }
-i0 = v19;
-i1 = UINT32_C(255);
-i0 = i0 & i1;
-v18 = i0;
-i1 = UINT32_C(58);
-i0 = (i0 < i1);
-if (i0) { goto l308; }
 i0 = v18;
-i1 = UINT32_C(65);
-i0 = (i0 >= i1);
-if (!i0) {
-i0 = v11;
-v18 = i0;
-goto l312;
-}
-i0 = v19;
 i1 = UINT32_C(255);
 i0 = i0 & i1;
-v18 = i0;
-i1 = UINT32_C(91);
-i0 = (i0 < i1);
-if (i0) { goto l308; }
-i0 = v18;
-i1 = UINT32_C(97);
-i0 = (i0 >= i1);
-if (i0) { goto l316; }
-i0 = v11;
-v18 = i0;
-goto l312;
-}
-i0 = v19;
-i1 = UINT32_C(255);
-i0 = i0 & i1;
-v32 = i0;
-i1 = UINT32_C(48);
-i0 = (i0 < i1);
-if (!i0) {
-i0 = UINT32_C(1);
-v18 = i0;
-i0 = UINT32_C(0);
-v10 = i0;
-i0 = v32;
+v19 = i0;
 i1 = UINT32_C(58);
 i0 = (i0 < i1);
 if (i0) { goto l312; }
 i0 = v19;
+i1 = UINT32_C(65);
+i0 = (i0 >= i1);
+if (!i0) {
+i0 = v10;
+v19 = i0;
+goto l316;
+}
+i0 = v18;
+i1 = UINT32_C(255);
+i0 = i0 & i1;
+v19 = i0;
+i1 = UINT32_C(91);
+i0 = (i0 < i1);
+if (i0) { goto l312; }
+i0 = v19;
+i1 = UINT32_C(97);
+i0 = (i0 >= i1);
+if (i0) { goto l320; }
+i0 = v10;
+v19 = i0;
+goto l316;
+}
+i0 = v18;
+i1 = UINT32_C(255);
+i0 = i0 & i1;
+v32 = i0;
+i1 = UINT32_C(48);
+i0 = (i0 < i1);
+if (!i0) {
+i0 = UINT32_C(1);
+v19 = i0;
+i0 = UINT32_C(0);
+v13 = i0;
+i0 = v32;
+i1 = UINT32_C(58);
+i0 = (i0 < i1);
+if (i0) { goto l316; }
+i0 = v18;
 i1 = UINT32_C(255);
 i0 = i0 & i1;
 v32 = i0;
 i1 = UINT32_C(65);
 i0 = (i0 < i1);
-if (i0) { goto l315; }
+if (i0) { goto l319; }
 i0 = v32;
 i1 = UINT32_C(71);
 i0 = (i0 < i1);
-if (i0) { goto l312; }
-i0 = v19;
+if (i0) { goto l316; }
+i0 = v18;
 i1 = UINT32_C(4294967199);
 i0 = i0 + i1;
 i1 = UINT32_C(255);
 i0 = i0 & i1;
 i1 = UINT32_C(6);
 i0 = (i0 < i1);
-if (i0) { goto l312; }
-goto l315;
+if (i0) { goto l316; }
+goto l319;
 }
 i0 = v32;
 i1 = UINT32_C(32);
 i0 = (i0 != i1);
-if (i0) { goto l315; }
-goto l314;
-l316:;
-i0 = v11;
-v18 = i0;
-i0 = v19;
+if (i0) { goto l319; }
+goto l318;
+l320:;
+i0 = v10;
+v19 = i0;
+i0 = v18;
 i0 = (uint32_t)extend(i0 & 255, 7);
 i1 = UINT32_C(122);
 i0 = (SIGNED32(i0) > SIGNED32(i1));
-if (i0) { goto l312; }
-goto l308;
-l315:;
+if (i0) { goto l316; }
+goto l312;
+l319:;
 j0 = v7;
-i1 = v19;
+i1 = v18;
 store8(p1 + 321, i1);
-j0 = v13;
+j0 = v9;
 j1 = v2;
 j2 = UINT64_C(656);
 j1 = j1 + j2;
@@ -46340,53 +46340,53 @@ j3 = UINT64_C(320);
 j2 = j2 + j3;
 i0 = core_slice_reads_slice_T_contains(m, j0, j1, j2);
 if (!i0) {
-i0 = v19;
+i0 = v18;
 i1 = UINT32_C(255);
 i0 = i0 & i1;
-v18 = i0;
+v19 = i0;
 i1 = UINT32_C(95);
 i0 = (i0 == i1);
-if (i0) { goto l308; }
+if (i0) { goto l312; }
 i0 = UINT32_C(1);
-v10 = i0;
-i0 = v18;
+v13 = i0;
+i0 = v19;
 i1 = UINT32_C(65);
 i0 = (i0 >= i1);
-if (i0) { goto l313; }
-i0 = v11;
-v18 = i0;
-goto l312;
+if (i0) { goto l317; }
+i0 = v10;
+v19 = i0;
+goto l316;
 }
-l314:;
+l318:;
 i0 = UINT32_C(0);
-v10 = i0;
-i0 = v11;
-v18 = i0;
-goto l312;
-l313:;
-i0 = v19;
+v13 = i0;
+i0 = v10;
+v19 = i0;
+goto l316;
+l317:;
+i0 = v18;
 i1 = UINT32_C(255);
 i0 = i0 & i1;
-v18 = i0;
+v19 = i0;
 i1 = UINT32_C(91);
 i0 = (i0 < i1);
-if (i0) { goto l308; }
-i0 = v18;
+if (i0) { goto l312; }
+i0 = v19;
 i1 = UINT32_C(97);
 i0 = (i0 >= i1);
 if (!i0) {
-i0 = v11;
-v18 = i0;
-goto l312;
+i0 = v10;
+v19 = i0;
+goto l316;
 }
-i0 = v11;
-v18 = i0;
-i0 = v19;
+i0 = v10;
+v19 = i0;
+i0 = v18;
 i0 = (uint32_t)extend(i0 & 255, 7);
 i1 = UINT32_C(123);
 i0 = (SIGNED32(i0) < SIGNED32(i1));
-if (i0) { goto l308; }
-l312:;
+if (i0) { goto l312; }
+l316:;
 j0 = v17;
 j1 = UINT64_C(1);
 j0 = j0 + j1;
@@ -46397,29 +46397,29 @@ j0 = j0 + j1;
 v15 = j0;
 i0 = (j0 == 0);
 i0 = (i0 == 0);
-if (i0) { goto l311; }
-i0 = v18;
+if (i0) { goto l315; }
+i0 = v19;
 i1 = UINT32_C(1);
 i0 = i0 & i1;
-if (i0) { goto l300; }
+if (i0) { goto l304; }
 }
 }
 }
 }
 }
 }
-l308:;
+l312:;
 j0 = v3;
 j1 = UINT64_C(1);
 j0 = j0 + j1;
 v3 = j0;
-j1 = v9;
+j1 = v20;
 i0 = (j0 != j1);
-if (i0) { goto l307; }
+if (i0) { goto l311; }
 }
 }
-l301:;
-i0 = v8;
+l305:;
+i0 = v11;
 i1 = UINT32_C(1);
 i0 = i0 & i1;
 i0 = (i0 == 0);
@@ -46434,12 +46434,12 @@ i2 = UINT32_C(255);
 i1 = i1 & i2;
 i2 = UINT32_C(1);
 i1 = (i1 == i2);
-v19 = i1;
+v18 = i1;
 p172 = write_at(j0, m, 1u);
 store8(p172 + 0, i1);
-i0 = v19;
-if (i0) { goto l299; }
-goto l322;
+i0 = v18;
+if (i0) { goto l303; }
+goto l326;
 }
 j0 = v1;
 j1 = UINT64_C(90216);
@@ -46447,7 +46447,7 @@ j0 = j0 + j1;
 i1 = UINT32_C(0);
 p173 = write_at(j0, m, 1u);
 store8(p173 + 0, i1);
-l322:;
+l326:;
 j0 = v6;
 j1 = v4;
 i0 = fio_log_wordings_reason_without_octets(m, j0, j1);
@@ -46508,7 +46508,7 @@ p175 = write_at(j0, m, 8u);
 store64(p175 + 0, j1);
 i0 = UINT32_C(0);
 v19 = i0;
-goto l324;
+goto l328;
 }
 j0 = v1;
 j1 = UINT64_C(79824);
@@ -46526,16 +46526,16 @@ i0 = (i0 == i1);
 if (!i0) {
 i0 = UINT32_C(0);
 v19 = i0;
-goto l324;
+goto l328;
 }
 j0 = v4;
 i0 = (j0 == 0);
 if (!i0) {
 j0 = UINT64_C(0);
 v3 = j0;
-l328:;
+l332:;
 i0 = UINT32_C(0);
-v8 = i0;
+v11 = i0;
 j0 = v6;
 j1 = v3;
 j0 = j0 + j1;
@@ -46547,11 +46547,11 @@ i1 = UINT32_C(45);
 i0 = (i0 != i1);
 if (!i0) {
 i0 = UINT32_C(1);
-v11 = i0;
-goto l332;
+v10 = i0;
+goto l336;
 }
 i0 = UINT32_C(3);
-v11 = i0;
+v10 = i0;
 i0 = v19;
 i1 = UINT32_C(60);
 i0 = (i0 < i1);
@@ -46561,57 +46561,57 @@ i1 = UINT32_C(63);
 i0 = (i0 >= i1);
 if (!i0) {
 i0 = UINT32_C(1);
-v11 = i0;
-goto l332;
+v10 = i0;
+goto l336;
 }
 i0 = v19;
 i1 = UINT32_C(65);
 i0 = (i0 < i1);
 if (!i0) {
 i0 = UINT32_C(1);
-v8 = i0;
+v11 = i0;
 i0 = v19;
 i1 = UINT32_C(91);
 i0 = (i0 >= i1);
 if (!i0) {
 i0 = UINT32_C(0);
-v11 = i0;
-goto l332;
+v10 = i0;
+goto l336;
 }
 i0 = v19;
 i1 = UINT32_C(97);
 i0 = (i0 >= i1);
 if (!i0) {
 i0 = UINT32_C(0);
-v8 = i0;
-goto l332;
+v11 = i0;
+goto l336;
 }
 i0 = v19;
 i1 = UINT32_C(123);
 i0 = (i0 >= i1);
 if (!i0) {
 i0 = UINT32_C(0);
-v11 = i0;
-goto l332;
+v10 = i0;
+goto l336;
 }
 i0 = UINT32_C(0);
-v8 = i0;
+v11 = i0;
 i0 = v19;
 i0 = (uint32_t)extend(i0 & 255, 7);
 i1 = UINT32_C(0);
 i0 = (SIGNED32(i0) < SIGNED32(i1));
-if (i0) { goto l331; }
+if (i0) { goto l335; }
 }
 }
-l332:;
+l336:;
 j0 = v3;
 j1 = UINT64_C(1);
 j0 = j0 + j1;
 v15 = j0;
 j1 = v4;
 i0 = (j0 >= j1);
-if (i0) { goto l329; }
-l338:;
+if (i0) { goto l333; }
+l342:;
 i0 = UINT32_C(1);
 v19 = i0;
 j0 = v6;
@@ -46619,87 +46619,87 @@ j1 = v15;
 j0 = j0 + j1;
 p178 = read_at(j0, m, 1u);
 i0 = load8(p178 + 0);
-v10 = i0;
+v13 = i0;
 i1 = UINT32_C(45);
 i0 = (i0 == i1);
 if (!i0) {
-i0 = v10;
+i0 = v13;
 i1 = UINT32_C(60);
 i0 = (i0 >= i1);
 if (!i0) {
 i0 = UINT32_C(3);
 v19 = i0;
-goto l339;
+goto l343;
 }
-i0 = v10;
+i0 = v13;
 i1 = UINT32_C(63);
 i0 = (i0 < i1);
 if (!i0) {
-i0 = v10;
+i0 = v13;
 i1 = UINT32_C(65);
 i0 = (i0 >= i1);
 if (!i0) {
 i0 = UINT32_C(3);
 v19 = i0;
-goto l339;
+goto l343;
 }
 i0 = UINT32_C(0);
 v19 = i0;
-i0 = v10;
+i0 = v13;
 i1 = UINT32_C(91);
 i0 = (i0 < i1);
 if (!i0) {
-i0 = v10;
+i0 = v13;
 i1 = UINT32_C(97);
 i0 = (i0 >= i1);
 if (!i0) {
 i0 = UINT32_C(3);
 v19 = i0;
-goto l339;
+goto l343;
 }
-i0 = v10;
+i0 = v13;
 i1 = UINT32_C(123);
 i0 = (i0 < i1);
 if (!i0) {
 i0 = UINT32_C(3);
 v19 = i0;
-i0 = v10;
+i0 = v13;
 i0 = (uint32_t)extend(i0 & 255, 7);
 i1 = UINT32_C(0);
 i0 = (SIGNED32(i0) < SIGNED32(i1));
-if (i0) { goto l329; }
+if (i0) { goto l333; }
 }
 }
 }
 }
-l339:;
+l343:;
 i0 = v19;
-i1 = v11;
+i1 = v10;
 i0 = (i0 != i1);
-if (i0) { goto l329; }
+if (i0) { goto l333; }
 j0 = v4;
 j1 = v15;
 j2 = UINT64_C(1);
 j1 = j1 + j2;
 v15 = j1;
 i0 = (j0 != j1);
-if (i0) { goto l338; }
-goto l330;
-l331:;
+if (i0) { goto l342; }
+goto l334;
+l335:;
 j0 = UINT64_C(1);
 v2 = j0;
 i0 = UINT32_C(0);
-v8 = i0;
-i0 = UINT32_C(2);
 v11 = i0;
+i0 = UINT32_C(2);
+v10 = i0;
 j0 = v3;
 j1 = UINT64_C(1);
 j0 = j0 + j1;
 v15 = j0;
 j1 = v4;
 i0 = (j0 >= j1);
-if (i0) { goto l329; }
-l343:;
+if (i0) { goto l333; }
+l347:;
 j0 = v6;
 j1 = v15;
 j0 = j0 + j1;
@@ -46708,7 +46708,7 @@ p179 = read_at(j0, m, 1u);
 i0 = (uint32_t)extend(load8(p179 + 0), 7);
 i1 = UINT32_C(4294967295);
 i0 = (SIGNED32(i0) > SIGNED32(i1));
-if (i0) { goto l329; }
+if (i0) { goto l333; }
 j0 = v2;
 j1 = UINT64_C(3);
 i0 = (j0 < j1);
@@ -46722,15 +46722,15 @@ i1 = UINT32_C(4294967152);
 i0 = i0 + i1;
 switch (i0) {
 case 0:
-goto l345;
+goto l349;
 case 1:
-goto l344;
+goto l348;
 case 2:
-goto l345;
+goto l349;
 default:
-goto l344;
+goto l348;
 }
-l345:;
+l349:;
 j0 = v17;
 j1 = UINT64_C(18446744073709551614);
 j0 = j0 + j1;
@@ -46746,10 +46746,10 @@ p182 = read_at(j0, m, 1u);
 i0 = load8(p182 + 0);
 i1 = UINT32_C(226);
 i0 = (i0 == i1);
-if (i0) { goto l329; }
+if (i0) { goto l333; }
 }
 }
-l344:;
+l348:;
 j0 = v2;
 j1 = UINT64_C(1);
 j0 = j0 + j1;
@@ -46760,11 +46760,11 @@ j2 = UINT64_C(1);
 j1 = j1 + j2;
 v15 = j1;
 i0 = (j0 != j1);
-if (i0) { goto l343; }
-l330:;
+if (i0) { goto l347; }
+l334:;
 j0 = v4;
 v15 = j0;
-l329:;
+l333:;
 j0 = v3;
 j1 = UINT64_C(0);
 i0 = (j0 != j1);
@@ -46772,7 +46772,7 @@ if (!i0) {
 j0 = v7;
 j1 = UINT64_C(120);
 j0 = j0 + j1;
-i1 = v11;
+i1 = v10;
 j2 = v6;
 j3 = v15;
 fio_log_sides_said_by(m, j0, i1, j2, j3);
@@ -46782,9 +46782,9 @@ j0 = v7;
 i0 = load8(p1 + 120);
 i1 = UINT32_C(1);
 i0 = (i0 == i1);
-if (i0) { goto l324; }
+if (i0) { goto l328; }
 }
-i0 = v8;
+i0 = v11;
 i0 = (i0 == 0);
 if (!i0) {
 j0 = v3;
@@ -46796,10 +46796,10 @@ j1 = v3;
 j0 = j0 - j1;
 v14 = j0;
 j0 = UINT64_C(0);
-v13 = j0;
-l349:;
+v9 = j0;
+l353:;
 j0 = v14;
-j1 = v13;
+j1 = v9;
 j2 = UINT64_C(24);
 j1 = j1 * j2;
 v3 = j1;
@@ -46819,10 +46819,10 @@ j0 = v12;
 v3 = j0;
 j0 = v16;
 v17 = j0;
-l351:;
+l355:;
 j0 = v3;
 i0 = (j0 == 0);
-if (i0) { goto l348; }
+if (i0) { goto l352; }
 j0 = v17;
 p185 = read_at(j0, m, 1u);
 i0 = load8(p185 + 0);
@@ -46830,7 +46830,7 @@ v19 = i0;
 j0 = v2;
 p186 = read_at(j0, m, 1u);
 i0 = load8(p186 + 0);
-v10 = i0;
+v13 = i0;
 j0 = v3;
 j1 = UINT64_C(1);
 j0 = j0 + j1;
@@ -46843,7 +46843,7 @@ j0 = v17;
 j1 = UINT64_C(1);
 j0 = j0 + j1;
 v17 = j0;
-i0 = v10;
+i0 = v13;
 i1 = v19;
 i2 = UINT32_C(32);
 i1 = i1 + i2;
@@ -46859,26 +46859,26 @@ i1 = i3 ? i1 : i2;
 i2 = UINT32_C(255);
 i1 = i1 & i2;
 i0 = (i0 == i1);
-if (i0) { goto l351; }
+if (i0) { goto l355; }
 }
-j0 = v13;
+j0 = v9;
 j1 = UINT64_C(1);
 j0 = j0 + j1;
-v13 = j0;
+v9 = j0;
 j1 = UINT64_C(19);
 i0 = (j0 != j1);
-if (i0) { goto l349; }
+if (i0) { goto l353; }
 i0 = UINT32_C(0);
 v19 = i0;
-goto l324;
-l348:;
-j0 = v13;
+goto l328;
+l352:;
+j0 = v9;
 j1 = UINT64_C(18);
 i0 = (j0 <= j1);
 if (!i0) {
 i0 = UINT32_C(0);
 v19 = i0;
-goto l324;
+goto l328;
 }
 }
 j0 = v15;
@@ -46886,11 +46886,11 @@ v3 = j0;
 j0 = v15;
 j1 = v4;
 i0 = (j0 < j1);
-if (i0) { goto l328; }
+if (i0) { goto l332; }
 }
 i0 = UINT32_C(1);
 v19 = i0;
-l324:;
+l328:;
 j0 = v1;
 j1 = UINT64_C(79832);
 j0 = j0 + j1;
@@ -46901,14 +46901,14 @@ i0 = UINT32_C(5);
 v19 = i0;
 goto l2;
 }
-l300:;
+l304:;
 j0 = v1;
 j1 = UINT64_C(90216);
 j0 = j0 + j1;
 i1 = UINT32_C(1);
 p188 = write_at(j0, m, 1u);
 store8(p188 + 0, i1);
-l299:;
+l303:;
 j0 = v6;
 j1 = v4;
 i0 = fio_log_wordings_is_heading(m, j0, j1);
@@ -46927,7 +46927,7 @@ v17 = j0;
 j0 = v1;
 j1 = UINT64_C(90208);
 j0 = j0 + j1;
-v13 = j0;
+v9 = j0;
 p189 = read_at(j0, m, 8u);
 j0 = load64(p189 + 0);
 v15 = j0;
@@ -46939,7 +46939,7 @@ j0 = j0 + j1;
 v3 = j0;
 j0 = v15;
 v2 = j0;
-l361:;
+l365:;
 j0 = v3;
 j1 = UINT64_C(18446744073709551606);
 j0 = j0 + j1;
@@ -46947,7 +46947,7 @@ p190 = read_at(j0, m, 8u);
 j0 = load64(p190 + 0);
 j1 = v17;
 i0 = (j0 == j1);
-if (i0) { goto l360; }
+if (i0) { goto l364; }
 j0 = v3;
 j1 = UINT64_C(16);
 j0 = j0 + j1;
@@ -46957,9 +46957,9 @@ j1 = UINT64_C(18446744073709551615);
 j0 = j0 + j1;
 v2 = j0;
 i0 = (j0 == 0);
-if (i0) { goto l359; }
-goto l361;
-l360:;
+if (i0) { goto l363; }
+goto l365;
+l364:;
 i0 = UINT32_C(0);
 j1 = v3;
 j2 = UINT64_C(18446744073709551614);
@@ -46970,18 +46970,18 @@ i1 = load16(p191 + 0);
 v19 = i1;
 j2 = v3;
 i2 = load16(p191 + 2);
-v10 = i2;
+v13 = i2;
 i1 = i1 - i2;
 v18 = i1;
 i2 = v18;
 i3 = v19;
 i2 = (i2 > i3);
 i0 = i2 ? i0 : i1;
-v11 = i0;
+v10 = i0;
 i0 = v19;
 i1 = UINT32_C(999);
 i0 = (i0 > i1);
-if (i0) { goto l357; }
+if (i0) { goto l361; }
 j0 = v2;
 i1 = v19;
 i2 = UINT32_C(1);
@@ -46989,10 +46989,10 @@ i1 = i1 + i2;
 p192 = write_at(j0, m, 4u);
 store16(p192 + 0, i1);
 j0 = v3;
-i1 = v31;
+i1 = v8;
 i2 = UINT32_C(2);
 i1 = (i1 == i2);
-i2 = v10;
+i2 = v13;
 i1 = i1 + i2;
 v18 = i1;
 i2 = UINT32_C(65535);
@@ -47006,21 +47006,21 @@ v18 = i0;
 i0 = v19;
 i1 = UINT32_C(3);
 i0 = (i0 < i1);
-if (i0) { goto l354; }
+if (i0) { goto l358; }
 i0 = UINT32_C(3);
 v19 = i0;
-i0 = v10;
-i1 = v11;
+i0 = v13;
+i1 = v10;
 i2 = UINT32_C(65535);
 i1 = i1 & i2;
 i0 = (i0 < i1);
-if (i0) { goto l356; }
+if (i0) { goto l360; }
 goto l2;
-l359:;
+l363:;
 j0 = v15;
 j1 = UINT64_C(256);
 i0 = (j0 == j1);
-if (i0) { goto l355; }
+if (i0) { goto l359; }
 }
 j0 = v1;
 j1 = UINT64_C(86112);
@@ -47037,34 +47037,34 @@ j0 = v3;
 i1 = UINT32_C(0);
 store32(p193 + 12, i1);
 j0 = v3;
-i1 = v31;
+i1 = v8;
 i2 = UINT32_C(2);
 i1 = (i1 == i2);
 store16(p193 + 10, i1);
 j0 = v3;
 i1 = UINT32_C(1);
 store16(p193 + 8, i1);
-j0 = v13;
+j0 = v9;
 j1 = v15;
 j2 = UINT64_C(1);
 j1 = j1 + j2;
 p194 = write_at(j0, m, 8u);
 store64(p194 + 0, j1);
-goto l355;
-l357:;
-i0 = v10;
-i1 = v11;
+goto l359;
+l361:;
+i0 = v13;
+i1 = v10;
 i2 = UINT32_C(65535);
 i1 = i1 & i2;
 i0 = (i0 >= i1);
-if (i0) { goto l355; }
-l356:;
+if (i0) { goto l359; }
+l360:;
 j0 = v1;
 p195 = read_at(j0, m, 1u);
 i0 = load8(p195 + 0);
 i1 = UINT32_C(1);
 i0 = (i0 != i1);
-if (i0) { goto l353; }
+if (i0) { goto l357; }
 j0 = v1;
 j1 = UINT64_C(12552);
 j0 = j0 + j1;
@@ -47072,7 +47072,7 @@ p196 = read_at(j0, m, 8u);
 j0 = load64(p196 + 0);
 v14 = j0;
 i0 = (j0 == 0);
-if (i0) { goto l353; }
+if (i0) { goto l357; }
 j0 = v1;
 j1 = UINT64_C(8);
 j0 = j0 + j1;
@@ -47085,13 +47085,13 @@ j0 = v4;
 i0 = (uint32_t)j0;
 switch (i0) {
 case 0:
-goto l364;
+goto l368;
 case 1:
-goto l363;
+goto l367;
 default:
-goto l364;
+goto l368;
 }
-l364:;
+l368:;
 j0 = v7;
 j1 = UINT64_C(0);
 store64(p1 + 2448, j1);
@@ -47118,11 +47118,11 @@ j0 = v7;
 i0 = load8(p1 + 2424);
 i1 = UINT32_C(1);
 i0 = (i0 == i1);
-if (i0) { goto l354; }
+if (i0) { goto l358; }
 j0 = v14;
 j1 = UINT64_C(1);
 i0 = (j0 == j1);
-if (i0) { goto l353; }
+if (i0) { goto l357; }
 j0 = v14;
 j1 = UINT64_C(18446744073709551615);
 j0 = j0 + j1;
@@ -47131,7 +47131,7 @@ j0 = v1;
 j1 = UINT64_C(792);
 j0 = j0 + j1;
 v3 = j0;
-l365:;
+l369:;
 j0 = v7;
 j1 = UINT64_C(0);
 store64(p1 + 344, j1);
@@ -47160,7 +47160,7 @@ j0 = load64(p198 + 0);
 v2 = j0;
 i0 = (j0 == 0);
 v19 = i0;
-if (i0) { goto l366; }
+if (i0) { goto l370; }
 i0 = v19;
 if (!i0) {
 j0 = v29;
@@ -47174,7 +47174,7 @@ j0 = j0 + j1;
 j1 = UINT64_C(0);
 p199 = write_at(j0, m, 8u);
 store64(p199 + 0, j1);
-goto l366;
+goto l370;
 }
 j0 = v7;
 j1 = UINT64_C(320);
@@ -47189,7 +47189,7 @@ j0 = v7;
 i0 = load8(p1 + 320);
 i1 = UINT32_C(1);
 i0 = (i0 == i1);
-if (i0) { goto l354; }
+if (i0) { goto l358; }
 j0 = v1;
 j1 = UINT64_C(84048);
 j0 = j0 + j1;
@@ -47213,7 +47213,7 @@ j1 = UINT64_C(0);
 p201 = write_at(j0, m, 8u);
 store64(p201 + 0, j1);
 }
-l366:;
+l370:;
 j0 = v3;
 j1 = UINT64_C(784);
 j0 = j0 + j1;
@@ -47223,14 +47223,14 @@ j1 = UINT64_C(18446744073709551615);
 j0 = j0 + j1;
 v4 = j0;
 i0 = (j0 == 0);
-if (i0) { goto l353; }
-goto l365;
-l363:;
+if (i0) { goto l357; }
+goto l369;
+l367:;
 j0 = v1;
 j1 = UINT64_C(776);
 j0 = j0 + j1;
 v3 = j0;
-l370:;
+l374:;
 j0 = v7;
 j1 = UINT64_C(104);
 j0 = j0 + j1;
@@ -47257,7 +47257,7 @@ j0 = v7;
 i0 = load8(p1 + 104);
 i1 = UINT32_C(1);
 i0 = (i0 == i1);
-if (i0) { goto l355; }
+if (i0) { goto l359; }
 j0 = v7;
 j1 = UINT64_C(0);
 store64(p1 + 320, j1);
@@ -47301,7 +47301,7 @@ j0 = v7;
 i0 = load8(p1 + 2456);
 i1 = UINT32_C(1);
 i0 = (i0 == i1);
-if (i0) { goto l355; }
+if (i0) { goto l359; }
 j0 = v1;
 j1 = UINT64_C(84048);
 j0 = j0 + j1;
@@ -47309,9 +47309,9 @@ p204 = read_at(j0, m, 8u);
 j0 = load64(p204 + 0);
 v4 = j0;
 i0 = (j0 == 0);
-v19 = i0;
-if (i0) { goto l371; }
-i0 = v19;
+v18 = i0;
+if (i0) { goto l375; }
+i0 = v18;
 if (!i0) {
 j0 = v29;
 i1 = UINT32_C(0);
@@ -47324,7 +47324,7 @@ j0 = j0 + j1;
 j1 = UINT64_C(0);
 p205 = write_at(j0, m, 8u);
 store64(p205 + 0, j1);
-goto l371;
+goto l375;
 }
 j0 = v7;
 j1 = UINT64_C(320);
@@ -47339,7 +47339,7 @@ j0 = v7;
 i0 = load8(p1 + 320);
 i1 = UINT32_C(1);
 i0 = (i0 == i1);
-if (i0) { goto l355; }
+if (i0) { goto l359; }
 j0 = v1;
 j1 = UINT64_C(84048);
 j0 = j0 + j1;
@@ -47347,9 +47347,9 @@ p206 = read_at(j0, m, 8u);
 j0 = load64(p206 + 0);
 v4 = j0;
 i0 = (j0 == 0);
-v19 = i0;
+v18 = i0;
 if (!i0) {
-i0 = v19;
+i0 = v18;
 if (!i0) {
 j0 = v29;
 i1 = UINT32_C(0);
@@ -47363,7 +47363,7 @@ j1 = UINT64_C(0);
 p207 = write_at(j0, m, 8u);
 store64(p207 + 0, j1);
 }
-l371:;
+l375:;
 j0 = v3;
 j1 = UINT64_C(784);
 j0 = j0 + j1;
@@ -47373,20 +47373,20 @@ j1 = UINT64_C(18446744073709551615);
 j0 = j0 + j1;
 v14 = j0;
 i0 = (j0 == 0);
-if (i0) { goto l353; }
-goto l370;
+if (i0) { goto l357; }
+goto l374;
 }
 j0 = v6;
 j1 = UINT64_C(1);
 j0 = j0 + j1;
-v9 = j0;
+v20 = j0;
 j0 = v4;
 j1 = UINT64_C(18446744073709551615);
 j0 = j0 + j1;
 v5 = j0;
 j0 = UINT64_C(0);
 v12 = j0;
-l375:;
+l379:;
 j0 = v7;
 j1 = UINT64_C(0);
 store64(p1 + 2448, j1);
@@ -47416,7 +47416,7 @@ j3 = UINT64_C(760);
 j2 = j2 + j3;
 p208 = read_at(j2 + UINT64_C(18446744073709551368), m, 256u);
 j2 = load64(p208 + 248);
-v13 = j2;
+v9 = j2;
 j3 = v17;
 j4 = v17;
 j5 = UINT64_C(512);
@@ -47430,97 +47430,97 @@ j0 = v7;
 i0 = load8(p1 + 88);
 i1 = UINT32_C(1);
 i0 = (i0 == i1);
-if (i0) { goto l355; }
-j0 = v9;
+if (i0) { goto l359; }
+j0 = v20;
 v3 = j0;
 j0 = v5;
 v1 = j0;
-l376:;
+l380:;
 j0 = v3;
 p209 = read_at(j0 + UINT64_C(18446744073709551615), m, 2u);
 i0 = load8(p209 + 1);
-v18 = i0;
+v19 = i0;
+i0 = UINT32_C(0);
+v13 = i0;
 i0 = UINT32_C(0);
 v10 = i0;
-i0 = UINT32_C(0);
-v11 = i0;
 j0 = v3;
 j1 = UINT64_C(18446744073709551615);
 j0 = j0 + j1;
 i0 = load8(p209 + 0);
-v19 = i0;
+v18 = i0;
 i1 = UINT32_C(48);
 i0 = (i0 < i1);
 if (!i0) {
-i0 = v19;
+i0 = v18;
 i1 = UINT32_C(58);
 i0 = (i0 < i1);
 if (!i0) {
 i0 = UINT32_C(0);
-v11 = i0;
-i0 = v19;
+v10 = i0;
+i0 = v18;
 i1 = UINT32_C(65);
 i0 = (i0 < i1);
-if (i0) { goto l377; }
-i0 = v19;
+if (i0) { goto l381; }
+i0 = v18;
 i1 = UINT32_C(71);
 i0 = (i0 < i1);
 if (!i0) {
 i0 = UINT32_C(0);
-v11 = i0;
-i0 = v19;
+v10 = i0;
+i0 = v18;
 i1 = UINT32_C(4294967199);
 i0 = i0 + i1;
 i1 = UINT32_C(255);
 i0 = i0 & i1;
 i1 = UINT32_C(5);
 i0 = (i0 > i1);
-if (i0) { goto l377; }
+if (i0) { goto l381; }
 }
 }
 i0 = UINT32_C(16);
-v11 = i0;
-i0 = v18;
+v10 = i0;
+i0 = v19;
 i1 = UINT32_C(255);
 i0 = i0 & i1;
-v8 = i0;
+v11 = i0;
 i1 = UINT32_C(48);
 i0 = (i0 < i1);
 if (!i0) {
-i0 = v8;
+i0 = v11;
 i1 = UINT32_C(57);
 i0 = (i0 > i1);
 if (!i0) {
-i0 = v18;
+i0 = v19;
 i1 = UINT32_C(4294967248);
 i0 = i0 + i1;
-v11 = i0;
-goto l379;
+v10 = i0;
+goto l383;
 }
 i0 = UINT32_C(16);
-v11 = i0;
-i0 = v18;
+v10 = i0;
+i0 = v19;
 i1 = UINT32_C(255);
 i0 = i0 & i1;
-v8 = i0;
+v11 = i0;
 i1 = UINT32_C(65);
 i0 = (i0 < i1);
 if (!i0) {
-i0 = v8;
+i0 = v11;
 i1 = UINT32_C(70);
 i0 = (i0 > i1);
 if (!i0) {
-i0 = v18;
+i0 = v19;
 i1 = UINT32_C(4294967241);
 i0 = i0 + i1;
-v11 = i0;
-goto l379;
+v10 = i0;
+goto l383;
 }
-i0 = v18;
+i0 = v19;
 i1 = UINT32_C(4294967209);
 i0 = i0 + i1;
 i1 = UINT32_C(16);
-i2 = v18;
+i2 = v19;
 i3 = UINT32_C(4294967199);
 i2 = i2 + i3;
 i3 = UINT32_C(255);
@@ -47528,39 +47528,39 @@ i2 = i2 & i3;
 i3 = UINT32_C(6);
 i2 = (i2 < i3);
 i0 = i2 ? i0 : i1;
-v11 = i0;
+v10 = i0;
 }
 }
-l379:;
-i0 = v11;
+l383:;
+i0 = v10;
 i1 = UINT32_C(255);
 i0 = i0 & i1;
 i1 = UINT32_C(16);
 i0 = (i0 != i1);
-v11 = i0;
+v10 = i0;
 }
-l377:;
-i0 = v19;
+l381:;
+i0 = v18;
 i1 = UINT32_C(32);
 i0 = (i0 == i1);
 if (!i0) {
-i0 = v19;
+i0 = v18;
 i1 = UINT32_C(9);
 i0 = (i0 != i1);
-if (i0) { goto l382; }
+if (i0) { goto l386; }
 }
-i0 = v18;
+i0 = v19;
 i1 = UINT32_C(255);
 i0 = i0 & i1;
-v10 = i0;
+v13 = i0;
 i1 = UINT32_C(9);
 i0 = (i0 == i1);
-i1 = v10;
+i1 = v13;
 i2 = UINT32_C(32);
 i1 = (i1 == i2);
 i0 = i0 | i1;
-v10 = i0;
-l382:;
+v13 = i0;
+l386:;
 j0 = v2;
 i0 = (j0 == 0);
 if (!i0) {
@@ -47570,62 +47570,62 @@ j0 = load8(p210 + 0);
 i0 = (uint32_t)j0;
 switch (i0) {
 case 0:
-goto l385;
-case 1:
 goto l389;
+case 1:
+goto l393;
 case 2:
-goto l386;
+goto l390;
 case 3:
-goto l388;
+goto l392;
 case 4:
-goto l387;
+goto l391;
 case 5:
-goto l385;
+goto l389;
 case 6:
-goto l385;
+goto l389;
 default:
-goto l385;
+goto l389;
 }
-l389:;
-i0 = v19;
+l393:;
+i0 = v18;
 i1 = UINT32_C(4294967248);
 i0 = i0 + i1;
 i1 = UINT32_C(255);
 i0 = i0 & i1;
 i1 = UINT32_C(9);
 i0 = (i0 > i1);
-if (i0) { goto l385; }
-i0 = v18;
+if (i0) { goto l389; }
+i0 = v19;
 i1 = UINT32_C(4294967248);
 i0 = i0 + i1;
 i1 = UINT32_C(255);
 i0 = i0 & i1;
 i1 = UINT32_C(10);
 i0 = (i0 >= i1);
-if (i0) { goto l385; }
-goto l384;
-l388:;
-i0 = v10;
+if (i0) { goto l389; }
+goto l388;
+l392:;
+i0 = v13;
 i0 = (i0 == 0);
-if (i0) { goto l385; }
-goto l384;
-l387:;
-i0 = v11;
-i1 = v10;
+if (i0) { goto l389; }
+goto l388;
+l391:;
+i0 = v10;
+i1 = v13;
 i0 = i0 | i1;
 i0 = (i0 == 0);
-if (i0) { goto l385; }
-goto l384;
-l386:;
-i0 = v11;
-if (i0) { goto l384; }
+if (i0) { goto l389; }
+goto l388;
+l390:;
+i0 = v10;
+if (i0) { goto l388; }
 }
-l385:;
+l389:;
 j0 = v7;
 j1 = UINT64_C(72);
 j0 = j0 + j1;
 j1 = v15;
-j2 = v13;
+j2 = v9;
 j3 = v17;
 j4 = v2;
 j5 = v3;
@@ -47635,8 +47635,8 @@ j0 = v7;
 i0 = load8(p1 + 72);
 i1 = UINT32_C(1);
 i0 = (i0 == i1);
-if (i0) { goto l355; }
-l384:;
+if (i0) { goto l359; }
+l388:;
 j0 = v3;
 j1 = UINT64_C(1);
 j0 = j0 + j1;
@@ -47647,7 +47647,7 @@ j0 = j0 + j1;
 v1 = j0;
 i0 = (j0 == 0);
 i0 = (i0 == 0);
-if (i0) { goto l376; }
+if (i0) { goto l380; }
 j0 = v7;
 j1 = UINT64_C(2424);
 j0 = j0 + j1;
@@ -47660,32 +47660,32 @@ j0 = v7;
 i0 = load8(p1 + 2424);
 i1 = UINT32_C(1);
 i0 = (i0 == i1);
-if (i0) { goto l355; }
+if (i0) { goto l359; }
 j0 = v12;
 j1 = UINT64_C(1);
 j0 = j0 + j1;
 v12 = j0;
 j1 = v14;
 i0 = (j0 == j1);
-if (i0) { goto l353; }
-goto l375;
-l355:;
+if (i0) { goto l357; }
+goto l379;
+l359:;
 i0 = UINT32_C(3);
 v18 = i0;
-l354:;
+l358:;
 i0 = UINT32_C(3);
 v19 = i0;
 goto l2;
-l353:;
+l357:;
 i0 = UINT32_C(2);
 v18 = i0;
 i0 = UINT32_C(5);
 v19 = i0;
 goto l2;
-l10:;
+l14:;
 i0 = UINT32_C(3);
 i1 = UINT32_C(0);
-j2 = v9;
+j2 = v20;
 j3 = v17;
 j4 = UINT64_C(4);
 j3 = j3 >> (j4 & 63);
@@ -47699,7 +47699,7 @@ i0 = i2 ? i0 : i1;
 v18 = i0;
 v19 = i0;
 goto l2;
-l9:;
+l13:;
 j0 = v1;
 j1 = UINT64_C(776);
 j0 = j0 + j1;
@@ -47721,8 +47721,8 @@ j1 = UINT64_C(320);
 j0 = j0 + j1;
 j1 = UINT64_C(8);
 j0 = j0 + j1;
-v13 = j0;
-l390:;
+v9 = j0;
+l394:;
 j0 = v3;
 j1 = UINT64_C(18446744073709551360);
 j0 = j0 + j1;
@@ -47798,7 +47798,7 @@ j0 = v7;
 i0 = load8(p1 + 2456);
 i1 = UINT32_C(1);
 i0 = (i0 == i1);
-if (i0) { goto l394; }
+if (i0) { goto l398; }
 j0 = v1;
 j1 = UINT64_C(84048);
 j0 = j0 + j1;
@@ -47806,9 +47806,9 @@ p214 = read_at(j0, m, 8u);
 j0 = load64(p214 + 0);
 v4 = j0;
 i0 = (j0 == 0);
-v19 = i0;
+v18 = i0;
 if (!i0) {
-i0 = v19;
+i0 = v18;
 if (!i0) {
 j0 = v24;
 i1 = UINT32_C(0);
@@ -47834,7 +47834,7 @@ store64(p1 + 2440, j1);
 j0 = v7;
 j1 = UINT64_C(0);
 store64(p1 + 2448, j1);
-goto l391;
+goto l395;
 }
 j0 = v7;
 j1 = UINT64_C(320);
@@ -47850,7 +47850,7 @@ j0 = load8(p1 + 320);
 v4 = j0;
 j1 = UINT64_C(1);
 i0 = (j0 == j1);
-if (i0) { goto l393; }
+if (i0) { goto l397; }
 j0 = v1;
 j1 = UINT64_C(84048);
 j0 = j0 + j1;
@@ -47858,9 +47858,9 @@ p216 = read_at(j0, m, 8u);
 j0 = load64(p216 + 0);
 v6 = j0;
 i0 = (j0 == 0);
-v19 = i0;
+v18 = i0;
 if (!i0) {
-i0 = v19;
+i0 = v18;
 if (!i0) {
 j0 = v24;
 i1 = UINT32_C(0);
@@ -47886,8 +47886,8 @@ store64(p1 + 2448, j1);
 j0 = v7;
 j1 = v4;
 store64(p1 + 2424, j1);
-goto l391;
-l394:;
+goto l395;
+l398:;
 j0 = v7;
 j1 = v15;
 j1 = load64(p1 + 2480);
@@ -47900,21 +47900,21 @@ j0 = v7;
 j1 = v15;
 j1 = load64(p1 + 2464);
 store64(p1 + 2400, j1);
-goto l392;
-l393:;
+goto l396;
+l397:;
 j0 = v7;
-j1 = v13;
+j1 = v9;
 j1 = load64(p1 + 344);
 store64(p1 + 2416, j1);
 j0 = v7;
-j1 = v13;
+j1 = v9;
 j1 = load64(p1 + 336);
 store64(p1 + 2408, j1);
 j0 = v7;
-j1 = v13;
+j1 = v9;
 j1 = load64(p1 + 328);
 store64(p1 + 2400, j1);
-l392:;
+l396:;
 j0 = v2;
 j1 = v7;
 j1 = load64(p1 + 2400);
@@ -47940,11 +47940,11 @@ i0 = (j0 <= j1);
 if (!i0) {
 i0 = UINT32_C(0);
 v22 = i0;
-goto l8;
+goto l12;
 }
 }
 }
-l391:;
+l395:;
 j0 = v3;
 j1 = UINT64_C(784);
 j0 = j0 + j1;
@@ -47955,8 +47955,8 @@ j0 = j0 + j1;
 v23 = j0;
 i0 = (j0 == 0);
 i0 = (i0 == 0);
-if (i0) { goto l390; }
-l8:;
+if (i0) { goto l394; }
+l12:;
 j0 = v1;
 j1 = UINT64_C(47016);
 j0 = j0 + j1;
@@ -47969,7 +47969,7 @@ j0 = j0 + j1;
 v24 = j0;
 p219 = read_at(j0, m, 8u);
 j0 = load64(p219 + 0);
-v20 = j0;
+v31 = j0;
 j1 = UINT64_C(1024);
 i0 = (j0 != j1);
 if (!i0) {
@@ -47987,12 +47987,12 @@ i3 = (j3 < j4);
 j1 = i3 ? j1 : j2;
 v25 = j1;
 j0 = j0 - j1;
-v20 = j0;
+v31 = j0;
 j0 = v4;
 j1 = UINT64_C(1023);
 i0 = (j0 > j1);
 if (!i0) {
-j0 = v20;
+j0 = v31;
 j1 = UINT64_C(3);
 j0 = j0 & j1;
 v2 = j0;
@@ -48002,11 +48002,11 @@ j0 = v4;
 j1 = UINT64_C(1020);
 i0 = (j0 > j1);
 if (!i0) {
-j0 = v20;
+j0 = v31;
 j1 = UINT64_C(18446744073709551612);
 j0 = j0 & j1;
 v28 = j0;
-j0 = v20;
+j0 = v31;
 j1 = UINT64_C(5);
 j0 = j0 << (j1 & 63);
 j1 = UINT64_C(18446744073709551488);
@@ -48034,12 +48034,12 @@ j0 = v3;
 j1 = UINT64_C(47024);
 j0 = j0 + j1;
 j0 = load64(p221 + 8);
-v13 = j0;
+v9 = j0;
 j0 = v3;
 j1 = UINT64_C(47032);
 j0 = j0 + j1;
 j0 = load64(p221 + 16);
-v9 = j0;
+v20 = j0;
 j0 = v1;
 j1 = v6;
 j0 = j0 + j1;
@@ -48055,12 +48055,12 @@ store64(p222 + 24, j1);
 j0 = v4;
 j1 = UINT64_C(47032);
 j0 = j0 + j1;
-j1 = v9;
+j1 = v20;
 store64(p222 + 16, j1);
 j0 = v4;
 j1 = UINT64_C(47024);
 j0 = j0 + j1;
-j1 = v13;
+j1 = v9;
 store64(p222 + 8, j1);
 j0 = v4;
 j1 = UINT64_C(47016);
@@ -48076,12 +48076,12 @@ j0 = v3;
 j1 = UINT64_C(47064);
 j0 = j0 + j1;
 j0 = load64(p221 + 48);
-v13 = j0;
+v9 = j0;
 j0 = v3;
 j1 = UINT64_C(47072);
 j0 = j0 + j1;
 j0 = load64(p221 + 56);
-v9 = j0;
+v20 = j0;
 j0 = v4;
 j1 = UINT64_C(47048);
 j0 = j0 + j1;
@@ -48093,12 +48093,12 @@ store64(p222 + 32, j1);
 j0 = v4;
 j1 = UINT64_C(47072);
 j0 = j0 + j1;
-j1 = v9;
+j1 = v20;
 store64(p222 + 56, j1);
 j0 = v4;
 j1 = UINT64_C(47064);
 j0 = j0 + j1;
-j1 = v13;
+j1 = v9;
 store64(p222 + 48, j1);
 j0 = v4;
 j1 = UINT64_C(47056);
@@ -48114,12 +48114,12 @@ j0 = v3;
 j1 = UINT64_C(47088);
 j0 = j0 + j1;
 j0 = load64(p221 + 72);
-v13 = j0;
+v9 = j0;
 j0 = v3;
 j1 = UINT64_C(47096);
 j0 = j0 + j1;
 j0 = load64(p221 + 80);
-v9 = j0;
+v20 = j0;
 j0 = v4;
 j1 = UINT64_C(47104);
 j0 = j0 + j1;
@@ -48131,12 +48131,12 @@ store64(p222 + 88, j1);
 j0 = v4;
 j1 = UINT64_C(47096);
 j0 = j0 + j1;
-j1 = v9;
+j1 = v20;
 store64(p222 + 80, j1);
 j0 = v4;
 j1 = UINT64_C(47088);
 j0 = j0 + j1;
-j1 = v13;
+j1 = v9;
 store64(p222 + 72, j1);
 j0 = v4;
 j1 = UINT64_C(47080);
@@ -48152,12 +48152,12 @@ j0 = v3;
 j1 = UINT64_C(47120);
 j0 = j0 + j1;
 j0 = load64(p221 + 104);
-v13 = j0;
+v9 = j0;
 j0 = v3;
 j1 = UINT64_C(47128);
 j0 = j0 + j1;
 j0 = load64(p221 + 112);
-v9 = j0;
+v20 = j0;
 j0 = v4;
 j1 = UINT64_C(47136);
 j0 = j0 + j1;
@@ -48169,12 +48169,12 @@ store64(p222 + 120, j1);
 j0 = v4;
 j1 = UINT64_C(47128);
 j0 = j0 + j1;
-j1 = v9;
+j1 = v20;
 store64(p222 + 112, j1);
 j0 = v4;
 j1 = UINT64_C(47120);
 j0 = j0 + j1;
-j1 = v13;
+j1 = v9;
 store64(p222 + 104, j1);
 j0 = v4;
 j1 = UINT64_C(47112);
@@ -48191,7 +48191,7 @@ if (!i0) break;
 }
 j0 = v2;
 i0 = (j0 == 0);
-if (i0) { goto l403; }
+if (i0) { goto l407; }
 }
 j0 = v28;
 j1 = UINT64_C(5);
@@ -48222,13 +48222,13 @@ j0 = load64(p223 + 8);
 v15 = j0;
 j0 = v4;
 j0 = load64(p223 + 16);
-v13 = j0;
+v9 = j0;
 j0 = v3;
 j1 = v4;
 j1 = load64(p223 + 24);
 store64(p224 + 24, j1);
 j0 = v3;
-j1 = v13;
+j1 = v9;
 store64(p224 + 16, j1);
 j0 = v3;
 j1 = v15;
@@ -48254,7 +48254,7 @@ if (!i0) break;
 p223 += 32;
 p224 += 32;
 }
-l403:;
+l407:;
 j0 = v1;
 j1 = UINT64_C(79784);
 j0 = j0 + j1;
@@ -48262,15 +48262,15 @@ j0 = load64(p219 + 0);
 v3 = j0;
 }
 j0 = v3;
-j1 = v20;
+j1 = v31;
 i0 = (j0 > j1);
 if (!i0) {
 j0 = v3;
-v20 = j0;
-goto l407;
+v31 = j0;
+goto l411;
 }
 j0 = v3;
-j1 = v20;
+j1 = v31;
 j0 = j0 - j1;
 j1 = UINT64_C(5);
 j0 = j0 << (j1 & 63);
@@ -48278,7 +48278,7 @@ v3 = j0;
 i0 = (j0 == 0);
 if (!i0) {
 j0 = v30;
-j1 = v20;
+j1 = v31;
 j2 = UINT64_C(5);
 j1 = j1 << (j2 & 63);
 j0 = j0 + j1;
@@ -48289,10 +48289,10 @@ fill(m, j0, i1, j2);
 j0 = v1;
 j1 = UINT64_C(79784);
 j0 = j0 + j1;
-j1 = v20;
+j1 = v31;
 p225 = write_at(j0, m, 8u);
 store64(p225 + 0, j1);
-l407:;
+l411:;
 j0 = v1;
 j1 = UINT64_C(79792);
 j0 = j0 + j1;
@@ -48300,14 +48300,14 @@ j1 = UINT64_C(0);
 p226 = write_at(j0, m, 8u);
 store64(p226 + 0, j1);
 i0 = UINT32_C(0);
-v18 = i0;
-j0 = v20;
+v19 = i0;
+j0 = v31;
 j1 = UINT64_C(1024);
 i0 = (j0 == j1);
-if (i0) { goto l400; }
+if (i0) { goto l404; }
 }
 j0 = v30;
-j1 = v20;
+j1 = v31;
 j2 = UINT64_C(5);
 j1 = j1 << (j2 & 63);
 j0 = j0 + j1;
@@ -48324,7 +48324,7 @@ i2 = UINT32_C(255);
 i1 = i1 & i2;
 i2 = UINT32_C(1);
 i1 = (i1 == i2);
-v19 = i1;
+v18 = i1;
 store8(p227 + 20, i1);
 j0 = v3;
 i1 = v10;
@@ -48365,18 +48365,18 @@ store8(p227 + 23, i1);
 j0 = v3;
 j1 = v12;
 j2 = UINT64_C(0);
-i3 = v19;
+i3 = v18;
 j1 = i3 ? j1 : j2;
 store64(p227 + 24, j1);
 j0 = v24;
-j1 = v20;
+j1 = v31;
 j2 = UINT64_C(1);
 j1 = j1 + j2;
 p228 = write_at(j0, m, 8u);
 store64(p228 + 0, j1);
 i0 = v22;
-v18 = i0;
-l400:;
+v19 = i0;
+l404:;
 j0 = v1;
 p229 = read_at(j0, m, 1u);
 i0 = load8(p229 + 0);
@@ -48389,7 +48389,7 @@ j0 = v7;
 j1 = UINT64_C(2488);
 j0 = j0 + j1;
 v6 = j0;
-goto l410;
+goto l414;
 }
 j0 = v1;
 j1 = UINT64_C(8);
@@ -48401,7 +48401,7 @@ j0 = j0 + j1;
 p230 = read_at(j0, m, 8u);
 j0 = load64(p230 + 0);
 v3 = j0;
-l410:;
+l414:;
 j0 = v1;
 j1 = UINT64_C(20312);
 j0 = j0 + j1;
@@ -48414,27 +48414,27 @@ j0 = v6;
 j1 = UINT64_C(772);
 j0 = j0 + j1;
 v3 = j0;
-l413:;
+l417:;
 j0 = v4;
 j1 = UINT64_C(18446744073709551615);
 j0 = j0 + j1;
 v4 = j0;
 i0 = (j0 == 0);
 v32 = i0;
-if (i0) { goto l412; }
+if (i0) { goto l416; }
 j0 = v3;
 p231 = read_at(j0, m, 1u);
 i0 = load8(p231 + 0);
-v19 = i0;
+v18 = i0;
 j0 = v3;
 j1 = UINT64_C(784);
 j0 = j0 + j1;
 v3 = j0;
-i0 = v19;
+i0 = v18;
 i1 = UINT32_C(6);
 i0 = (i0 != i1);
-if (i0) { goto l413; }
-l412:;
+if (i0) { goto l417; }
+l416:;
 j0 = v21;
 i0 = (j0 == 0);
 if (!i0) {
@@ -48468,7 +48468,7 @@ j0 = j0 + j1;
 v2 = j0;
 j0 = UINT64_C(0);
 v25 = j0;
-l415:;
+l419:;
 j0 = v25;
 j1 = v1;
 j2 = UINT64_C(22360);
@@ -48505,24 +48505,24 @@ j2 = UINT64_C(1);
 j1 = j1 + j2;
 p236 = write_at(j0, m, 8u);
 store64(p236 + 0, j1);
-i0 = v18;
+i0 = v19;
 v37 = i0;
 }
 j0 = UINT64_C(0);
-v13 = j0;
+v9 = j0;
 i0 = UINT32_C(1);
 v33 = i0;
-l418:;
-i0 = UINT32_C(0);
-v31 = i0;
+l422:;
 i0 = UINT32_C(0);
 v8 = i0;
 i0 = UINT32_C(0);
-v10 = i0;
-i0 = UINT32_C(0);
 v11 = i0;
 i0 = UINT32_C(0);
-v18 = i0;
+v13 = i0;
+i0 = UINT32_C(0);
+v10 = i0;
+i0 = UINT32_C(0);
+v19 = i0;
 j0 = v1;
 j1 = UINT64_C(44936);
 j0 = j0 + j1;
@@ -48537,38 +48537,38 @@ j1 = UINT64_C(42892);
 j0 = j0 + j1;
 p238 = read_at(j0 + UINT64_C(18446744073709551612), m, 5u);
 i0 = load8(p238 + 4);
-v31 = i0;
+v8 = i0;
 j0 = v1;
 j1 = UINT64_C(42891);
 j0 = j0 + j1;
 i0 = load8(p238 + 3);
-v8 = i0;
+v11 = i0;
 j0 = v1;
 j1 = UINT64_C(42890);
 j0 = j0 + j1;
 i0 = load8(p238 + 2);
-v10 = i0;
+v13 = i0;
 j0 = v1;
 j1 = UINT64_C(42889);
 j0 = j0 + j1;
 i0 = load8(p238 + 1);
-v11 = i0;
+v10 = i0;
 j0 = v1;
 j1 = UINT64_C(42888);
 j0 = j0 + j1;
 i0 = load8(p238 + 0);
-v18 = i0;
+v19 = i0;
 }
 i0 = v32;
 if (!i0) {
 i0 = UINT32_C(3);
-v19 = i0;
+v18 = i0;
 j0 = UINT64_C(0);
 v3 = j0;
 j0 = v4;
 i0 = (j0 == 0);
-if (i0) { goto l420; }
-l423:;
+if (i0) { goto l424; }
+l427:;
 j0 = v2;
 j1 = v3;
 j0 = j0 + j1;
@@ -48577,28 +48577,28 @@ p239 = read_at(j0, m, 1u);
 i0 = load8(p239 + 0);
 i1 = UINT32_C(126);
 i0 = (i0 == i1);
-if (i0) { goto l422; }
+if (i0) { goto l426; }
 j0 = v4;
 j1 = v3;
 j2 = UINT64_C(1);
 j1 = j1 + j2;
 v3 = j1;
 i0 = (j0 != j1);
-if (i0) { goto l423; }
+if (i0) { goto l427; }
 j0 = v4;
 j1 = UINT64_C(1985);
 i0 = (j0 >= j1);
 if (!i0) {
 j0 = UINT64_C(0);
 v3 = j0;
-goto l420;
+goto l424;
 }
 j0 = v2;
 i1 = UINT32_C(0);
 j2 = UINT64_C(2056);
 fill(m, j0, i1, j2);
 i0 = UINT32_C(1);
-v19 = i0;
+v18 = i0;
 j0 = v1;
 j1 = UINT64_C(44952);
 j0 = j0 + j1;
@@ -48624,14 +48624,14 @@ store64(p241 + 0, j1);
 }
 j0 = v4;
 v3 = j0;
-goto l420;
-l422:;
+goto l424;
+l426:;
 j0 = v3;
 j1 = UINT64_C(0);
 i0 = (j0 != j1);
 if (!i0) {
 i0 = UINT32_C(3);
-v19 = i0;
+v18 = i0;
 j0 = v4;
 j1 = UINT64_C(18446744073709551615);
 j0 = j0 + j1;
@@ -48642,11 +48642,11 @@ i0 = (i0 == 0);
 if (!i0) {
 j0 = UINT64_C(0);
 v3 = j0;
-goto l420;
+goto l424;
 }
 j0 = UINT64_C(0);
 v3 = j0;
-l430:;
+l434:;
 j0 = v29;
 j1 = v3;
 j0 = j0 + j1;
@@ -48655,26 +48655,26 @@ p242 = read_at(j0, m, 1u);
 i0 = load8(p242 + 0);
 i1 = UINT32_C(126);
 i0 = (i0 == i1);
-if (i0) { goto l429; }
+if (i0) { goto l433; }
 j0 = v6;
 j1 = v3;
 j2 = UINT64_C(1);
 j1 = j1 + j2;
 v3 = j1;
 i0 = (j0 != j1);
-if (i0) { goto l430; }
+if (i0) { goto l434; }
 j0 = UINT64_C(0);
 v3 = j0;
 j0 = v4;
 j1 = UINT64_C(1985);
 i0 = (j0 < j1);
-if (i0) { goto l420; }
+if (i0) { goto l424; }
 j0 = v2;
 i1 = UINT32_C(0);
 j2 = UINT64_C(2056);
 fill(m, j0, i1, j2);
 i0 = UINT32_C(1);
-v19 = i0;
+v18 = i0;
 j0 = v1;
 j1 = UINT64_C(44952);
 j0 = j0 + j1;
@@ -48687,7 +48687,7 @@ i0 = (i0 == 0);
 if (!i0) {
 j0 = v4;
 v3 = j0;
-goto l420;
+goto l424;
 }
 i0 = v36;
 if (!i0) {
@@ -48704,8 +48704,8 @@ p244 = write_at(j0, m, 8u);
 store64(p244 + 0, j1);
 j0 = v4;
 v3 = j0;
-goto l420;
-l429:;
+goto l424;
+l433:;
 j0 = v3;
 j1 = UINT64_C(0);
 i0 = (j0 != j1);
@@ -48746,9 +48746,9 @@ p245 = read_at(j0, m, 8u);
 j0 = load64(p245 + 0);
 v3 = j0;
 i0 = (j0 == 0);
-v19 = i0;
+v18 = i0;
 if (!i0) {
-i0 = v19;
+i0 = v18;
 if (!i0) {
 j0 = v26;
 i1 = UINT32_C(0);
@@ -48765,11 +48765,11 @@ store64(p246 + 0, j1);
 j0 = UINT64_C(1);
 v3 = j0;
 i0 = UINT32_C(2);
-v19 = i0;
-goto l420;
+v18 = i0;
+goto l424;
 }
 i0 = UINT32_C(0);
-v19 = i0;
+v18 = i0;
 j0 = v2;
 j1 = v3;
 j2 = UINT64_C(2);
@@ -48786,7 +48786,7 @@ j1 = j1 + j2;
 p247 = read_at(j1, m, 8u);
 j1 = load64(p247 + 0);
 i0 = fio_form_message_is_message(m, j0, j1);
-v19 = i0;
+v18 = i0;
 }
 j0 = v7;
 j1 = UINT64_C(320);
@@ -48859,10 +48859,10 @@ i1 = UINT32_C(2);
 i2 = UINT32_C(1);
 i3 = v36;
 i1 = i3 ? i1 : i2;
-i2 = v19;
+i2 = v18;
 i0 = i2 ? i0 : i1;
-v19 = i0;
-goto l420;
+v18 = i0;
+goto l424;
 }
 j0 = v7;
 j1 = UINT64_C(320);
@@ -48904,9 +48904,9 @@ p251 = read_at(j0, m, 8u);
 j0 = load64(p251 + 0);
 v4 = j0;
 i0 = (j0 == 0);
-v19 = i0;
+v18 = i0;
 if (!i0) {
-i0 = v19;
+i0 = v18;
 if (!i0) {
 j0 = v26;
 i1 = UINT32_C(0);
@@ -48921,8 +48921,8 @@ p252 = write_at(j0, m, 8u);
 store64(p252 + 0, j1);
 }
 i0 = UINT32_C(1);
-v19 = i0;
-goto l420;
+v18 = i0;
+goto l424;
 }
 j0 = v7;
 j1 = UINT64_C(8);
@@ -48934,37 +48934,37 @@ j0 = load64(p1 + 16);
 v3 = j0;
 j0 = v7;
 i0 = load8(p1 + 8);
-v19 = i0;
-l420:;
-i0 = v19;
+v18 = i0;
+l424:;
+i0 = v18;
 j0 = (uint64_t)i0;
 j1 = UINT64_C(255);
 j0 = j0 & j1;
 i0 = (uint32_t)j0;
 switch (i0) {
 case 0:
-goto l451;
+goto l455;
 case 1:
-goto l450;
+goto l454;
 case 2:
-goto l449;
+goto l453;
 case 3:
-goto l447;
-default:
 goto l451;
+default:
+goto l455;
 }
-l451:;
+l455:;
 i0 = v32;
 if (!i0) {
-i0 = v18;
+i0 = v19;
 i1 = UINT32_C(255);
 i0 = i0 & i1;
 i1 = UINT32_C(126);
 i0 = (i0 == i1);
 if (!i0) {
-i0 = v11;
-v10 = i0;
-goto l453;
+i0 = v10;
+v13 = i0;
+goto l457;
 }
 j0 = v3;
 j1 = UINT64_C(18446744073709551615);
@@ -48983,52 +48983,33 @@ i3 = (j3 < j4);
 j1 = i3 ? j1 : j2;
 i0 = (j0 == j1);
 if (!i0) {
-i0 = v11;
+i0 = v10;
 i1 = UINT32_C(255);
 i0 = i0 & i1;
 i1 = UINT32_C(125);
 i0 = (i0 != i1);
 if (!i0) {
-i0 = v10;
+i0 = v13;
 i1 = UINT32_C(4294967264);
 i0 = i0 + i1;
-i1 = v10;
+i1 = v13;
 i2 = UINT32_C(32);
 i1 = i1 | i2;
-i2 = v10;
+i2 = v13;
 i3 = UINT32_C(32);
 i2 = i2 & i3;
 i0 = i2 ? i0 : i1;
-v18 = i0;
-i0 = v8;
+v19 = i0;
+i0 = v11;
 i1 = UINT32_C(255);
 i0 = i0 & i1;
 i1 = UINT32_C(125);
 i0 = (i0 == i1);
 if (!i0) {
-i0 = v8;
-v10 = i0;
-goto l453;
+i0 = v11;
+v13 = i0;
+goto l457;
 }
-i0 = v31;
-i1 = UINT32_C(4294967264);
-i0 = i0 + i1;
-i1 = v31;
-i2 = UINT32_C(32);
-i1 = i1 | i2;
-i2 = v31;
-i3 = UINT32_C(32);
-i2 = i2 & i3;
-i0 = i2 ? i0 : i1;
-v10 = i0;
-goto l453;
-}
-i0 = v10;
-i1 = UINT32_C(255);
-i0 = i0 & i1;
-i1 = UINT32_C(125);
-i0 = (i0 != i1);
-if (!i0) {
 i0 = v8;
 i1 = UINT32_C(4294967264);
 i0 = i0 + i1;
@@ -49039,12 +49020,31 @@ i2 = v8;
 i3 = UINT32_C(32);
 i2 = i2 & i3;
 i0 = i2 ? i0 : i1;
-v10 = i0;
+v13 = i0;
+goto l457;
 }
-}
+i0 = v13;
+i1 = UINT32_C(255);
+i0 = i0 & i1;
+i1 = UINT32_C(125);
+i0 = (i0 != i1);
+if (!i0) {
 i0 = v11;
-v18 = i0;
-l453:;
+i1 = UINT32_C(4294967264);
+i0 = i0 + i1;
+i1 = v11;
+i2 = UINT32_C(32);
+i1 = i1 | i2;
+i2 = v11;
+i3 = UINT32_C(32);
+i2 = i2 & i3;
+i0 = i2 ? i0 : i1;
+v13 = i0;
+}
+}
+i0 = v10;
+v19 = i0;
+l457:;
 j0 = v1;
 j1 = UINT64_C(79936);
 j0 = j0 + j1;
@@ -49061,20 +49061,20 @@ store8(p255 + 3, i1);
 j0 = v1;
 j1 = UINT64_C(79938);
 j0 = j0 + j1;
-i1 = v10;
+i1 = v13;
 store8(p255 + 2, i1);
 j0 = v1;
 j1 = UINT64_C(79937);
 j0 = j0 + j1;
-i1 = v18;
+i1 = v19;
 store8(p255 + 1, i1);
 j0 = v4;
 i1 = UINT32_C(1);
 store8(p255 + 0, i1);
-goto l452;
+goto l456;
 }
 i0 = UINT32_C(1);
-v19 = i0;
+v18 = i0;
 j0 = v1;
 j1 = UINT64_C(79940);
 j0 = j0 + j1;
@@ -49082,7 +49082,7 @@ v4 = j0;
 p256 = read_at(j0, m, 1u);
 i0 = load8(p256 + 0);
 if (!i0) {
-i0 = v18;
+i0 = v19;
 i1 = UINT32_C(255);
 i0 = i0 & i1;
 j1 = v1;
@@ -49094,7 +49094,7 @@ i2 = UINT32_C(255);
 i1 = i1 & i2;
 i0 = (i0 != i1);
 if (!i0) {
-i0 = v10;
+i0 = v13;
 i1 = UINT32_C(255);
 i0 = i0 & i1;
 j1 = v1;
@@ -49113,18 +49113,18 @@ p259 = read_at(j0, m, 1u);
 i0 = load8(p259 + 0);
 i1 = UINT32_C(2);
 i0 = (i0 != i1);
-v19 = i0;
+v18 = i0;
 }
 }
 }
 j0 = v4;
-i1 = v19;
+i1 = v18;
 p260 = write_at(j0, m, 1u);
 store8(p260 + 0, i1);
 }
-l452:;
+l456:;
 i0 = UINT32_C(0);
-v10 = i0;
+v13 = i0;
 j0 = v1;
 j1 = UINT64_C(47008);
 j0 = j0 + j1;
@@ -49132,55 +49132,55 @@ p261 = read_at(j0, m, 8u);
 j0 = load64(p261 + 0);
 v4 = j0;
 i0 = (j0 == 0);
-v11 = i0;
+v10 = i0;
 if (!i0) {
 j0 = v28;
 p262 = read_at(j0, m, 1u);
 i0 = (uint32_t)extend(load8(p262 + 0), 7);
-v18 = i0;
+v19 = i0;
 i1 = UINT32_C(255);
 i0 = i0 & i1;
-v19 = i0;
-i0 = v18;
+v18 = i0;
+i0 = v19;
 i1 = UINT32_C(4294967295);
 i0 = (SIGNED32(i0) > SIGNED32(i1));
 if (!i0) {
 j0 = UINT64_C(8);
 v6 = j0;
-i0 = v19;
+i0 = v18;
 i1 = UINT32_C(4294967119);
 i0 = i0 + i1;
 switch (i0) {
 case 0:
-goto l464;
+goto l468;
 case 1:
-goto l466;
+goto l470;
 case 2:
-goto l466;
+goto l470;
 case 3:
-goto l466;
+goto l470;
 case 4:
-goto l466;
+goto l470;
 case 5:
-goto l467;
+goto l471;
 case 6:
-goto l466;
+goto l470;
 case 7:
-goto l466;
+goto l470;
 case 8:
-goto l466;
+goto l470;
 case 9:
-goto l465;
+goto l469;
 default:
-goto l466;
+goto l470;
 }
-l467:;
+l471:;
 j0 = UINT64_C(8);
 v6 = j0;
 j0 = v4;
 j1 = UINT64_C(3);
 i0 = (j0 < j1);
-if (i0) { goto l463; }
+if (i0) { goto l467; }
 j0 = v1;
 j1 = UINT64_C(44962);
 j0 = j0 + j1;
@@ -49191,110 +49191,110 @@ j0 = j0 * j1;
 j1 = UINT64_C(8);
 j0 = j0 + j1;
 v6 = j0;
-goto l464;
-l466:;
-i0 = v18;
+goto l468;
+l470:;
+i0 = v19;
 i1 = UINT32_C(4294967217);
 i0 = (i0 < i1);
-if (i0) { goto l460; }
-i0 = v18;
+if (i0) { goto l464; }
+i0 = v19;
 i1 = UINT32_C(4294967220);
 i0 = (i0 < i1);
 if (!i0) {
-i0 = v18;
+i0 = v19;
 i1 = UINT32_C(4294967222);
 i0 = (i0 >= i1);
 if (!i0) {
 j0 = UINT64_C(13);
 v6 = j0;
-goto l464;
+goto l468;
 }
 j0 = v4;
 v6 = j0;
-i0 = v18;
+i0 = v19;
 i1 = UINT32_C(4294967229);
 i0 = (i0 < i1);
-if (i0) { goto l464; }
-goto l460;
+if (i0) { goto l468; }
+goto l464;
 }
-l465:;
+l469:;
 j0 = UINT64_C(2);
 v6 = j0;
-l464:;
+l468:;
 j0 = v4;
 j1 = UINT64_C(773);
 i0 = (j0 > j1);
-if (i0) { goto l460; }
-l463:;
+if (i0) { goto l464; }
+l467:;
 j0 = v6;
 j1 = v4;
 i0 = (j0 != j1);
-if (i0) { goto l460; }
+if (i0) { goto l464; }
 i0 = UINT32_C(1);
-i1 = v19;
+i1 = v18;
 i2 = UINT32_C(4294967119);
 i1 = i1 + i2;
-v19 = i1;
+v18 = i1;
 i0 = i0 << (i1 & 31);
 i1 = UINT32_C(4071);
 i0 = i0 & i1;
-if (i0) { goto l461; }
-i0 = v19;
+if (i0) { goto l465; }
+i0 = v18;
 i1 = UINT32_C(3);
 i0 = (i0 != i1);
 if (!i0) {
 j0 = v4;
 j1 = UINT64_C(8);
 i0 = (j0 > j1);
-if (i0) { goto l461; }
-goto l7;
+if (i0) { goto l465; }
+goto l11;
 }
 j0 = v4;
 j1 = UINT64_C(8);
 i0 = (j0 <= j1);
-if (i0) { goto l7; }
-goto l461;
+if (i0) { goto l11; }
+goto l465;
 }
 j0 = UINT64_C(2);
 v6 = j0;
 i0 = UINT32_C(1);
-v8 = i0;
-i0 = v19;
+v11 = i0;
+i0 = v18;
 i1 = UINT32_C(4294967247);
 i0 = i0 + i1;
 switch (i0) {
 case 0:
-goto l471;
+goto l475;
 case 1:
-goto l478;
+goto l482;
 case 2:
-goto l477;
+goto l481;
 case 3:
-goto l475;
+goto l479;
 case 4:
-goto l475;
+goto l479;
 case 5:
-goto l471;
+goto l475;
 case 6:
-goto l476;
+goto l480;
 case 7:
-goto l475;
+goto l479;
 case 8:
-goto l475;
+goto l479;
 case 9:
-goto l471;
-case 10:
-goto l474;
-case 11:
-goto l473;
-default:
 goto l475;
+case 10:
+goto l478;
+case 11:
+goto l477;
+default:
+goto l479;
 }
-l478:;
+l482:;
 j0 = UINT64_C(5);
 v6 = j0;
-goto l472;
-l477:;
+goto l476;
+l481:;
 j0 = v4;
 j1 = UINT64_C(1);
 i0 = (j0 != j1);
@@ -49303,7 +49303,7 @@ j0 = UINT64_C(0);
 v17 = j0;
 j0 = UINT64_C(2);
 v6 = j0;
-goto l470;
+goto l474;
 }
 j0 = v1;
 j1 = UINT64_C(44961);
@@ -49315,61 +49315,61 @@ j0 = j0 * j1;
 j1 = UINT64_C(2);
 j0 = j0 + j1;
 v6 = j0;
-goto l472;
-l476:;
+goto l476;
+l480:;
 j0 = UINT64_C(17);
 v6 = j0;
-goto l472;
-l475:;
+goto l476;
+l479:;
 i0 = UINT32_C(0);
-v8 = i0;
+v11 = i0;
 j0 = UINT64_C(0);
 v6 = j0;
-i0 = v18;
+i0 = v19;
 i1 = UINT32_C(49);
 i0 = (i0 < i1);
-if (i0) { goto l471; }
-i0 = v18;
+if (i0) { goto l475; }
+i0 = v19;
 i1 = UINT32_C(54);
 i0 = (i0 < i1);
-if (i0) { goto l473; }
-i0 = v18;
+if (i0) { goto l477; }
+i0 = v19;
 i1 = UINT32_C(57);
 i0 = (i0 > i1);
-if (i0) { goto l471; }
-l474:;
+if (i0) { goto l475; }
+l478:;
 j0 = v4;
 v6 = j0;
-goto l472;
-l473:;
+goto l476;
+l477:;
 j0 = UINT64_C(1);
 v6 = j0;
-l472:;
+l476:;
 i0 = UINT32_C(1);
-v8 = i0;
-l471:;
+v11 = i0;
+l475:;
 j0 = v4;
 j1 = UINT64_C(773);
 i0 = (j0 > j1);
-if (i0) { goto l460; }
-i0 = v8;
+if (i0) { goto l464; }
+i0 = v11;
 i0 = (i0 == 0);
-if (i0) { goto l460; }
+if (i0) { goto l464; }
 j0 = v4;
 j1 = UINT64_C(18446744073709551615);
 j0 = j0 + j1;
 v17 = j0;
-l470:;
+l474:;
 j0 = v6;
 j1 = v4;
 i0 = (j0 != j1);
-if (i0) { goto l460; }
-i0 = v19;
+if (i0) { goto l464; }
+i0 = v18;
 i1 = UINT32_C(60);
 i0 = (i0 > i1);
-if (i0) { goto l7; }
+if (i0) { goto l11; }
 j0 = UINT64_C(1);
-i1 = v19;
+i1 = v18;
 j1 = (uint64_t)i1;
 v6 = j1;
 j0 = j0 << (j1 & 63);
@@ -49381,17 +49381,17 @@ if (!i0) {
 j0 = v6;
 j1 = UINT64_C(55);
 i0 = (j0 != j1);
-if (i0) { goto l7; }
+if (i0) { goto l11; }
 j0 = v17;
 j1 = UINT64_C(7);
 i0 = (j0 <= j1);
-if (i0) { goto l7; }
+if (i0) { goto l11; }
 j0 = v17;
 j1 = UINT64_C(15);
 i0 = (j0 <= j1);
-if (i0) { goto l7; }
+if (i0) { goto l11; }
 }
-l461:;
+l465:;
 j0 = v5;
 j1 = UINT64_C(24584);
 j0 = j0 + j1;
@@ -49407,12 +49407,12 @@ j3 = UINT64_C(16384);
 j2 = j2 + j3;
 p266 = read_at(j2, m, 8u);
 j2 = load64(p266 + 0);
-v9 = j2;
+v20 = j2;
 j1 = j1 - j2;
 i0 = (j0 > j1);
 if (!i0) {
 j0 = v5;
-j1 = v9;
+j1 = v20;
 j0 = j0 + j1;
 v16 = j0;
 j1 = v28;
@@ -49485,7 +49485,7 @@ if (!i0) break;
 }
 j0 = v14;
 i0 = (j0 == 0);
-if (i0) { goto l480; }
+if (i0) { goto l484; }
 }
 j0 = v28;
 j1 = v17;
@@ -49493,11 +49493,11 @@ j0 = j0 + j1;
 v6 = j0;
 j0 = v5;
 j1 = v17;
-j2 = v9;
+j2 = v20;
 j1 = j1 + j2;
 j0 = j0 + j1;
 v17 = j0;
-l484:;
+l488:;
 j0 = v17;
 j1 = v6;
 p269 = read_at(j1, m, 1u);
@@ -49518,21 +49518,21 @@ j0 = j0 + j1;
 v14 = j0;
 j1 = UINT64_C(0);
 i0 = (j0 != j1);
-if (i0) { goto l484; }
-goto l480;
+if (i0) { goto l488; }
+goto l484;
 }
-i0 = v11;
+i0 = v10;
 if (!i0) {
 j0 = v16;
 j1 = v28;
 j2 = v4;
 copy(m, j0, j1, j2);
 }
-l480:;
+l484:;
 j0 = v5;
 j1 = UINT64_C(16384);
 j0 = j0 + j1;
-j1 = v9;
+j1 = v20;
 j2 = v4;
 j1 = j1 + j2;
 v6 = j1;
@@ -49563,18 +49563,18 @@ p273 = write_at(j0, m, 8u);
 store64(p273 + 0, j1);
 }
 i0 = v33;
-v10 = i0;
+v13 = i0;
 }
 }
 }
-l460:;
+l464:;
 j0 = v3;
 i0 = (j0 == 0);
 i0 = (i0 == 0);
 if (!i0) {
-i0 = v10;
+i0 = v13;
 v33 = i0;
-goto l448;
+goto l452;
 }
 j0 = v1;
 j1 = UINT64_C(79792);
@@ -49589,9 +49589,9 @@ j1 = load64(p274 + 0);
 v14 = j1;
 i0 = (j0 < j1);
 if (!i0) {
-i0 = v10;
+i0 = v13;
 v33 = i0;
-goto l448;
+goto l452;
 }
 j0 = v1;
 j1 = v4;
@@ -49600,8 +49600,8 @@ j1 = j1 << (j2 & 63);
 j0 = j0 + j1;
 v6 = j0;
 i0 = UINT32_C(1);
-v18 = i0;
-l490:;
+v19 = i0;
+l494:;
 j0 = v1;
 j1 = UINT64_C(79784);
 j0 = j0 + j1;
@@ -49609,16 +49609,16 @@ p275 = read_at(j0, m, 8u);
 j0 = load64(p275 + 0);
 j1 = v4;
 i0 = (j0 <= j1);
-if (i0) { goto l489; }
+if (i0) { goto l493; }
 j0 = v6;
 j1 = UINT64_C(47032);
 j0 = j0 + j1;
 p276 = read_at(j0, m, 2u);
 i0 = load16(p276 + 0);
-v19 = i0;
+v18 = i0;
 j0 = (uint64_t)i0;
 v17 = j0;
-i0 = v19;
+i0 = v18;
 i0 = (i0 == 0);
 if (!i0) {
 j0 = v5;
@@ -49630,18 +49630,18 @@ j0 = load64(p277 + 0);
 v15 = j0;
 j1 = UINT64_C(1024);
 i0 = (j0 == j1);
-if (i0) { goto l492; }
+if (i0) { goto l496; }
 j0 = v6;
 j1 = UINT64_C(47016);
 j0 = j0 + j1;
 p278 = read_at(j0, m, 16u);
 j0 = load64(p278 + 0);
-v9 = j0;
+v20 = j0;
 j0 = v6;
 j1 = UINT64_C(47024);
 j0 = j0 + j1;
 j0 = load32(p278 + 8);
-v20 = j0;
+v31 = j0;
 j0 = v23;
 j1 = v15;
 j2 = UINT64_C(24);
@@ -49655,10 +49655,10 @@ j1 = load32(p278 + 12);
 p279 = write_at(j0, m, 24u);
 store64(p279 + 16, j1);
 j0 = v12;
-j1 = v20;
+j1 = v31;
 store64(p279 + 8, j1);
 j0 = v12;
-j1 = v9;
+j1 = v20;
 store64(p279 + 0, j1);
 j0 = v16;
 j1 = v15;
@@ -49670,26 +49670,26 @@ store64(p280 + 0, j1);
 j0 = v3;
 j1 = v17;
 i0 = (j0 >= j1);
-if (i0) { goto l491; }
+if (i0) { goto l495; }
 j0 = v6;
 j1 = UINT64_C(47032);
 j0 = j0 + j1;
-i1 = v19;
+i1 = v18;
 j2 = v3;
 i2 = (uint32_t)j2;
 i1 = i1 - i2;
 p281 = write_at(j0, m, 2u);
 store16(p281 + 0, i1);
-i0 = v18;
+i0 = v19;
 i1 = UINT32_C(1);
 i0 = i0 & i1;
-if (i0) { goto l488; }
+if (i0) { goto l492; }
 i0 = UINT32_C(0);
 v33 = i0;
-goto l448;
-l492:;
+goto l452;
+l496:;
 i0 = UINT32_C(0);
-v18 = i0;
+v19 = i0;
 j0 = v3;
 j1 = v17;
 i0 = (j0 >= j1);
@@ -49697,7 +49697,7 @@ if (!i0) {
 j0 = v6;
 j1 = UINT64_C(47032);
 j0 = j0 + j1;
-i1 = v19;
+i1 = v18;
 j2 = v3;
 i2 = (uint32_t)j2;
 i1 = i1 - i2;
@@ -49705,9 +49705,9 @@ p282 = write_at(j0, m, 2u);
 store16(p282 + 0, i1);
 i0 = UINT32_C(0);
 v33 = i0;
-goto l448;
+goto l452;
 }
-l491:;
+l495:;
 j0 = v1;
 j1 = UINT64_C(79792);
 j0 = j0 + j1;
@@ -49720,7 +49720,7 @@ store64(p283 + 0, j1);
 j0 = v4;
 j1 = v14;
 i0 = (j0 >= j1);
-if (i0) { goto l489; }
+if (i0) { goto l493; }
 j0 = v6;
 j1 = UINT64_C(32);
 j0 = j0 + j1;
@@ -49731,26 +49731,26 @@ j0 = j0 - j1;
 v3 = j0;
 j1 = UINT64_C(0);
 i0 = (j0 != j1);
-if (i0) { goto l490; }
-l489:;
-i0 = v18;
+if (i0) { goto l494; }
+l493:;
+i0 = v19;
 i1 = UINT32_C(1);
 i0 = i0 & i1;
 if (!i0) {
 i0 = UINT32_C(0);
 v33 = i0;
-goto l448;
+goto l452;
 }
-l488:;
-i0 = v10;
+l492:;
+i0 = v13;
 v33 = i0;
-goto l448;
-l450:;
+goto l452;
+l454:;
 i0 = UINT32_C(0);
 v33 = i0;
 j0 = v3;
 i0 = (j0 == 0);
-if (i0) { goto l448; }
+if (i0) { goto l452; }
 j0 = v1;
 j1 = UINT64_C(79792);
 j0 = j0 + j1;
@@ -49763,7 +49763,7 @@ j1 = j1 + j2;
 j1 = load64(p284 + 0);
 v15 = j1;
 i0 = (j0 >= j1);
-if (i0) { goto l448; }
+if (i0) { goto l452; }
 j0 = v6;
 j1 = UINT64_C(1);
 j0 = j0 + j1;
@@ -49774,18 +49774,18 @@ j2 = UINT64_C(5);
 j1 = j1 << (j2 & 63);
 j0 = j0 + j1;
 v6 = j0;
-l495:;
+l499:;
 j0 = v3;
 j1 = v6;
 p285 = read_at(j1, m, 2u);
 i1 = load16(p285 + 0);
-v19 = i1;
+v18 = i1;
 j1 = (uint64_t)i1;
 j2 = UINT64_C(65535);
 j1 = j1 & j2;
 v17 = j1;
 i0 = (j0 < j1);
-if (i0) { goto l494; }
+if (i0) { goto l498; }
 j0 = v1;
 j1 = UINT64_C(79792);
 j0 = j0 + j1;
@@ -49795,7 +49795,7 @@ store64(p286 + 0, j1);
 j0 = v4;
 j1 = v15;
 i0 = (j0 >= j1);
-if (i0) { goto l448; }
+if (i0) { goto l452; }
 j0 = v6;
 j1 = UINT64_C(32);
 j0 = j0 + j1;
@@ -49810,18 +49810,18 @@ j0 = j0 - j1;
 v3 = j0;
 i0 = (j0 == 0);
 i0 = (i0 == 0);
-if (i0) { goto l495; }
-goto l448;
-l494:;
+if (i0) { goto l499; }
+goto l452;
+l498:;
 j0 = v6;
-i1 = v19;
+i1 = v18;
 j2 = v3;
 i2 = (uint32_t)j2;
 i1 = i1 - i2;
 p287 = write_at(j0, m, 2u);
 store16(p287 + 0, i1);
-goto l448;
-l449:;
+goto l452;
+l453:;
 j0 = v3;
 i0 = (j0 == 0);
 if (!i0) {
@@ -49848,18 +49848,18 @@ j2 = UINT64_C(5);
 j1 = j1 << (j2 & 63);
 j0 = j0 + j1;
 v6 = j0;
-l497:;
+l501:;
 j0 = v3;
 j1 = v6;
 p289 = read_at(j1, m, 2u);
 i1 = load16(p289 + 0);
-v19 = i1;
+v18 = i1;
 j1 = (uint64_t)i1;
 j2 = UINT64_C(65535);
 j1 = j1 & j2;
 v17 = j1;
 i0 = (j0 < j1);
-if (i0) { goto l496; }
+if (i0) { goto l500; }
 j0 = v1;
 j1 = UINT64_C(79792);
 j0 = j0 + j1;
@@ -49869,7 +49869,7 @@ store64(p290 + 0, j1);
 j0 = v4;
 j1 = v15;
 i0 = (j0 >= j1);
-if (i0) { goto l448; }
+if (i0) { goto l452; }
 j0 = v6;
 j1 = UINT64_C(32);
 j0 = j0 + j1;
@@ -49884,11 +49884,11 @@ j0 = j0 - j1;
 v3 = j0;
 i0 = (j0 == 0);
 i0 = (i0 == 0);
-if (i0) { goto l497; }
-goto l448;
-l496:;
+if (i0) { goto l501; }
+goto l452;
+l500:;
 j0 = v6;
-i1 = v19;
+i1 = v18;
 j2 = v3;
 i2 = (uint32_t)j2;
 i1 = i1 - i2;
@@ -49896,19 +49896,19 @@ p291 = write_at(j0, m, 2u);
 store16(p291 + 0, i1);
 }
 }
-l448:;
-j0 = v13;
+l452:;
+j0 = v9;
 j1 = UINT64_C(1);
 j0 = j0 + j1;
-v13 = j0;
+v9 = j0;
 j1 = UINT64_C(2048);
 i0 = (j0 != j1);
-if (i0) { goto l418; }
-l447:;
+if (i0) { goto l422; }
+l451:;
 i0 = v33;
 i1 = v37;
 i0 = i0 & i1;
-v18 = i0;
+v19 = i0;
 }
 j0 = v25;
 j1 = UINT64_C(1);
@@ -49916,7 +49916,7 @@ j0 = j0 + j1;
 v25 = j0;
 j1 = v21;
 i0 = (j0 != j1);
-if (i0) { goto l415; }
+if (i0) { goto l419; }
 }
 i0 = v22;
 if (!i0) {
@@ -49932,9 +49932,9 @@ j0 = j0 + j1;
 j0 = load64(p292 + 24656);
 v3 = j0;
 i0 = (j0 == 0);
-v19 = i0;
+v18 = i0;
 if (!i0) {
-i0 = v19;
+i0 = v18;
 if (!i0) {
 j0 = v1;
 j1 = UINT64_C(42888);
@@ -49956,9 +49956,9 @@ p293 = read_at(j0, m, 8u);
 j0 = load64(p293 + 0);
 v3 = j0;
 i0 = (j0 == 0);
-v19 = i0;
+v18 = i0;
 if (!i0) {
-i0 = v19;
+i0 = v18;
 if (!i0) {
 j0 = v1;
 j1 = UINT64_C(44944);
@@ -49981,9 +49981,9 @@ p295 = read_at(j0, m, 8u);
 j0 = load64(p295 + 0);
 v3 = j0;
 i0 = (j0 == 0);
-v19 = i0;
+v18 = i0;
 if (!i0) {
-i0 = v19;
+i0 = v18;
 if (!i0) {
 j0 = v1;
 j1 = UINT64_C(44960);
@@ -50040,35 +50040,35 @@ j2 = j2 + j3;
 p300 = read_at(j2, m, 8u);
 j2 = load64(p300 + 0);
 i2 = (j2 == 0);
-v10 = i2;
+v18 = i2;
 i0 = i2 ? i0 : i1;
 i1 = UINT32_C(4);
 i2 = UINT32_C(1);
-i3 = v10;
+i3 = v18;
 i1 = i3 ? i1 : i2;
-i2 = v18;
+i2 = v19;
 i3 = UINT32_C(1);
 i2 = i2 & i3;
-v18 = i2;
+v13 = i2;
 i0 = i2 ? i0 : i1;
 v19 = i0;
 i0 = UINT32_C(0);
 i1 = UINT32_C(2);
 i2 = UINT32_C(10);
-i3 = v10;
+i3 = v18;
 i1 = i3 ? i1 : i2;
-i2 = v18;
+i2 = v13;
 i0 = i2 ? i0 : i1;
 v18 = i0;
 goto l2;
 }
-l7:;
+l11:;
 fio2070_trap();
-l6:;
+l10:;
 j0 = v1;
 j1 = UINT64_C(30592);
 j0 = j0 + j1;
-v13 = j0;
+v9 = j0;
 j1 = v3;
 j2 = UINT64_C(24);
 j1 = j1 * j2;
@@ -50098,7 +50098,7 @@ j1 = v1;
 j2 = UINT64_C(24416);
 j1 = j1 + j2;
 j1 = load64(p302 + 0);
-j2 = v13;
+j2 = v9;
 j3 = v1;
 j4 = UINT64_C(79944);
 j3 = j3 + j4;
@@ -50107,89 +50107,96 @@ j4 = v5;
 i0 = fio_log_by_forms_take_message(m, j0, j1, j2, j3, j4);
 i0 = (i0 == 0);
 if (!i0) {
+i0 = UINT32_C(0);
+v18 = i0;
+i0 = UINT32_C(0);
+v32 = i0;
+j0 = v1;
+j1 = v6;
+j2 = v4;
+j3 = v15;
+j4 = v17;
+i0 = fio_log_by_forms_FormReader_has_near_tail(m, j0, j1, j2, j3, j4);
+if (i0) { goto l3; }
 i0 = UINT32_C(1);
 v32 = i0;
 j0 = v1;
 p303 = read_at(j0, m, 1u);
 i0 = load8(p303 + 0);
 i1 = UINT32_C(1);
-i0 = (i0 == i1);
-if (i0) { goto l4; }
-i0 = UINT32_C(0);
-v33 = i0;
-goto l3;
-}
-l5:;
-i0 = UINT32_C(4);
-v19 = i0;
-i0 = UINT32_C(5);
-v18 = i0;
-goto l2;
-l4:;
+i0 = (i0 != i1);
+if (i0) { goto l3; }
+j0 = v15;
+j1 = UINT64_C(784);
+j0 = j0 * j1;
+v29 = j0;
+j0 = v1;
+j1 = UINT64_C(8);
+j0 = j0 + j1;
+v23 = j0;
 j0 = v15;
 j1 = v1;
 j2 = UINT64_C(12552);
 j1 = j1 + j2;
 p304 = read_at(j1, m, 8u);
 j1 = load64(p304 + 0);
-v23 = j1;
-i0 = (j0 < j1);
-if (!i0) {
-i0 = UINT32_C(0);
-v33 = i0;
-goto l3;
-}
-j0 = v15;
-j1 = UINT64_C(784);
-j0 = j0 * j1;
-v24 = j0;
-j0 = v1;
-j1 = UINT64_C(8);
-j0 = j0 + j1;
-v25 = j0;
+v24 = j1;
+i0 = (j0 >= j1);
+v11 = i0;
+if (i0) { goto l6; }
 j0 = v4;
 j1 = v17;
 i0 = (j0 < j1);
-if (!i0) {
+if (i0) { goto l6; }
 j0 = v4;
 j1 = v17;
 i0 = (j0 == j1);
-if (!i0) {
+if (i0) { goto l6; }
 j0 = v4;
 j1 = v17;
 j0 = j0 - j1;
-v13 = j0;
+v9 = j0;
 j0 = v6;
 j1 = v17;
 j0 = j0 + j1;
 v14 = j0;
-j0 = v25;
-j1 = v24;
+j0 = v23;
+j1 = v29;
 j0 = j0 + j1;
-v21 = j0;
+v25 = j0;
 j1 = UINT64_C(656);
 j0 = j0 + j1;
 p305 = read_at(j0, m, 8u);
 j0 = load64(p305 + 0);
-v29 = j0;
+v31 = j0;
 i0 = (j0 == 0);
 i0 = (i0 == 0);
-if (!i0) {
+if (i0) { goto l8; }
 j0 = UINT64_C(0);
 v3 = j0;
-goto l510;
+goto l7;
 }
-j0 = v24;
-j1 = v1;
-j0 = j0 + j1;
-j1 = UINT64_C(537);
+l9:;
+i0 = UINT32_C(4);
+v19 = i0;
+i0 = UINT32_C(5);
+v18 = i0;
+goto l2;
+l8:;
+j0 = v25;
+j1 = UINT64_C(0);
+j2 = v15;
+j3 = v24;
+i2 = (j2 < j3);
+j0 = i2 ? j0 : j1;
+j1 = UINT64_C(529);
 j0 = j0 + j1;
 v2 = j0;
 j0 = UINT64_C(0);
-v12 = j0;
+v15 = j0;
 j0 = UINT64_C(0);
-v9 = j0;
-l512:;
+v12 = j0;
+l511:;
 j0 = v2;
 j1 = UINT64_C(18446744073709551615);
 j0 = j0 + j1;
@@ -50198,32 +50205,32 @@ j0 = load8(p306 + 0);
 i0 = (uint32_t)j0;
 switch (i0) {
 case 0:
-goto l515;
-case 1:
 goto l514;
-case 2:
+case 1:
 goto l513;
+case 2:
+goto l512;
 default:
-goto l515;
+goto l514;
 }
-l515:;
-j0 = UINT64_C(0);
-v9 = j0;
-j0 = v12;
-v3 = j0;
-j0 = v12;
-i0 = (j0 == 0);
-if (i0) { goto l513; }
-goto l510;
 l514:;
 j0 = UINT64_C(0);
+v12 = j0;
+j0 = v15;
 v3 = j0;
-j0 = v12;
-j1 = v13;
+j0 = v15;
+i0 = (j0 == 0);
+if (i0) { goto l512; }
+goto l7;
+l513:;
+j0 = UINT64_C(0);
+v3 = j0;
+j0 = v15;
+j1 = v9;
 i0 = (j0 >= j1);
-if (i0) { goto l510; }
+if (i0) { goto l7; }
 j0 = v14;
-j1 = v12;
+j1 = v15;
 j0 = j0 + j1;
 p307 = read_at(j0, m, 1u);
 i0 = load8(p307 + 0);
@@ -50231,41 +50238,39 @@ j1 = v2;
 p308 = read_at(j1, m, 1u);
 i1 = load8(p308 + 0);
 i0 = (i0 != i1);
-if (i0) { goto l510; }
-j0 = v12;
+if (i0) { goto l7; }
+j0 = v15;
 j1 = UINT64_C(1);
 j0 = j0 + j1;
-v9 = j0;
-l513:;
+v12 = j0;
+l512:;
 j0 = v2;
 j1 = UINT64_C(2);
 j0 = j0 + j1;
 v2 = j0;
-j0 = v9;
-v12 = j0;
-j0 = v9;
+j0 = v12;
+v15 = j0;
+j0 = v12;
 v3 = j0;
-j0 = v29;
+j0 = v31;
 j1 = UINT64_C(18446744073709551615);
 j0 = j0 + j1;
-v29 = j0;
+v31 = j0;
 i0 = (j0 == 0);
 i0 = (i0 == 0);
-if (i0) { goto l512; }
-l510:;
-i0 = UINT32_C(1);
-v32 = i0;
+if (i0) { goto l511; }
+l7:;
 j0 = v3;
-j1 = v13;
+j1 = v9;
 i0 = (j0 >= j1);
-if (!i0) {
-j0 = v21;
+if (i0) { goto l5; }
+j0 = v25;
 j1 = UINT64_C(521);
 j0 = j0 + j1;
 p309 = read_at(j0 + UINT64_C(18446744073709551615), m, 2u);
 i0 = load8(p309 + 1);
 v10 = i0;
-j0 = v21;
+j0 = v25;
 j1 = UINT64_C(520);
 j0 = j0 + j1;
 i0 = load8(p309 + 0);
@@ -50286,8 +50291,8 @@ store8(p310 + 4, i1);
 j0 = UINT64_C(0);
 j1 = v3;
 j0 = j0 - j1;
-v12 = j0;
-l518:;
+v15 = j0;
+l515:;
 i0 = v19;
 j1 = v7;
 j2 = UINT64_C(2456);
@@ -50298,13 +50303,13 @@ j2 = j2 + j3;
 v2 = j2;
 j3 = UINT64_C(1);
 j2 = j2 + j3;
-j3 = v12;
-j4 = v13;
+j3 = v15;
+j4 = v9;
 j3 = j3 + j4;
 j4 = UINT64_C(18446744073709551615);
 j3 = j3 + j4;
 i0 = fio_form_octets_makes_longer(m, i0, j1, j2, j3);
-v18 = i0;
+v13 = i0;
 j0 = v7;
 j1 = UINT64_C(320);
 j0 = j0 + j1;
@@ -50316,12 +50321,11 @@ j3 = j3 + j4;
 j4 = v2;
 p311 = read_at(j4, m, 1u);
 i4 = load8(p311 + 0);
-i5 = v18;
+i5 = v13;
 fio_form_octets_next_in(m, j0, i1, i2, j3, i4, i5);
 j0 = v7;
 i0 = load8(p310 + 0);
-v18 = i0;
-if (i0) { goto l517; }
+if (i0) { goto l5; }
 j0 = v7;
 j1 = v7;
 i1 = load8(p310 + 3);
@@ -50335,18 +50339,16 @@ j1 = UINT64_C(1);
 j0 = j0 + j1;
 v14 = j0;
 j0 = v3;
-j1 = v13;
+j1 = v9;
 j2 = UINT64_C(18446744073709551615);
 j1 = j1 + j2;
-v13 = j1;
+v9 = j1;
 i0 = (j0 != j1);
-if (i0) { goto l518; }
-l517:;
-i0 = v18;
-i1 = UINT32_C(0);
-i0 = (i0 != i1);
+if (i0) { goto l515; }
+i0 = UINT32_C(0);
 v32 = i0;
-}
+goto l3;
+l6:;
 j0 = v7;
 j1 = UINT64_C(0);
 p312 = write_at(j0 + UINT64_C(320), m, 56u);
@@ -50369,9 +50371,8 @@ store64(p312 + 8, j1);
 j0 = v7;
 j1 = UINT64_C(0);
 store64(p312 + 0, j1);
-goto l508;
-}
-}
+goto l4;
+l5:;
 j0 = v7;
 j1 = UINT64_C(0);
 p313 = write_at(j0 + UINT64_C(320), m, 56u);
@@ -50394,13 +50395,13 @@ store64(p313 + 8, j1);
 j0 = v7;
 j1 = UINT64_C(0);
 store64(p313 + 0, j1);
+l4:;
+i0 = v11;
+if (!i0) {
 i0 = UINT32_C(1);
 v32 = i0;
-l508:;
-i0 = UINT32_C(0);
-v33 = i0;
 j0 = v1;
-j1 = v24;
+j1 = v29;
 j0 = j0 + j1;
 j1 = UINT64_C(776);
 j0 = j0 + j1;
@@ -50416,8 +50417,8 @@ if (!i0) {
 j0 = v7;
 j1 = UINT64_C(320);
 j0 = j0 + j1;
-j1 = v25;
-j2 = v23;
+j1 = v23;
+j2 = v24;
 j3 = v6;
 j4 = v20;
 j5 = UINT64_C(0);
@@ -50431,21 +50432,13 @@ fio_log_second_second_in(m, j0, j1, j2, j3, j4, j5, j6, j7);
 j0 = v7;
 p315 = read_at(j0 + UINT64_C(320), m, 1u);
 i0 = load8(p315 + 0);
-i1 = UINT32_C(255);
-i0 = i0 & i1;
 i1 = UINT32_C(1);
-i0 = (i0 == i1);
-v33 = i0;
+i0 = (i0 != i1);
+v32 = i0;
+}
 }
 }
 l3:;
-j0 = v1;
-j1 = v6;
-j2 = v4;
-j3 = v15;
-j4 = v17;
-i0 = fio_log_by_forms_FormReader_has_near_tail(m, j0, j1, j2, j3, j4);
-v36 = i0;
 j0 = UINT64_C(0);
 v40 = j0;
 j0 = v7;
@@ -50470,15 +50463,13 @@ store64(p316 + 8, j1);
 j0 = v7;
 j1 = UINT64_C(0);
 store64(p316 + 0, j1);
-i0 = UINT32_C(0);
-v19 = i0;
 j0 = v4;
 j1 = v17;
 i0 = (j0 > j1);
 if (!i0) {
 j0 = v17;
-v9 = j0;
-goto l522;
+v20 = j0;
+goto l518;
 }
 j0 = v1;
 j1 = UINT64_C(79944);
@@ -50505,10 +50496,10 @@ j1 = UINT64_C(8);
 j0 = j0 + j1;
 v34 = j0;
 i0 = UINT32_C(1);
-v18 = i0;
+v19 = i0;
 j0 = v17;
 v24 = j0;
-l524:;
+l520:;
 j0 = v1;
 p317 = read_at(j0, m, 1u);
 i0 = load8(p317 + 0);
@@ -50521,7 +50512,7 @@ j0 = v7;
 j1 = UINT64_C(2488);
 j0 = j0 + j1;
 v2 = j0;
-goto l525;
+goto l521;
 }
 j0 = v1;
 j1 = UINT64_C(12552);
@@ -50531,7 +50522,7 @@ j0 = load64(p318 + 0);
 v3 = j0;
 j0 = v34;
 v2 = j0;
-l525:;
+l521:;
 j0 = v7;
 j1 = UINT64_C(320);
 j0 = j0 + j1;
@@ -50549,10 +50540,10 @@ i1 = UINT32_C(1);
 i0 = (i0 == i1);
 if (!i0) {
 j0 = v17;
-v9 = j0;
+v20 = j0;
 i0 = UINT32_C(1);
-v19 = i0;
-goto l527;
+v18 = i0;
+goto l523;
 }
 j0 = v7;
 j0 = load64(p316 + 40);
@@ -50561,31 +50552,31 @@ j2 = v7;
 i2 = load8(p316 + 32);
 i3 = UINT32_C(2);
 i2 = (i2 < i3);
-v19 = i2;
+v18 = i2;
 j0 = i2 ? j0 : j1;
 v14 = j0;
 j1 = v7;
 j1 = load64(p316 + 48);
 j2 = UINT64_C(0);
-i3 = v19;
+i3 = v18;
 j1 = i3 ? j1 : j2;
-v20 = j1;
+v31 = j1;
 i0 = (j0 >= j1);
-if (i0) { goto l521; }
+if (i0) { goto l517; }
 j0 = v1;
 j1 = UINT64_C(84048);
 j0 = j0 + j1;
 p319 = read_at(j0, m, 8u);
 j0 = load64(p319 + 0);
-j1 = v20;
+j1 = v31;
 i0 = (j0 < j1);
-if (i0) { goto l521; }
+if (i0) { goto l517; }
 j0 = v7;
 j0 = load64(p316 + 24);
-v9 = j0;
+v20 = j0;
 j1 = v17;
 i0 = (j0 <= j1);
-if (i0) { goto l521; }
+if (i0) { goto l517; }
 j0 = v7;
 j0 = load64(p316 + 16);
 v27 = j0;
@@ -50593,14 +50584,14 @@ j0 = v7;
 j0 = load64(p316 + 8);
 v25 = j0;
 i0 = UINT32_C(0);
-v11 = i0;
-i0 = UINT32_C(0);
 v10 = i0;
+i0 = UINT32_C(0);
+v13 = i0;
 j0 = v23;
 j1 = v14;
 j0 = j0 + j1;
 v29 = j0;
-j1 = v20;
+j1 = v31;
 j2 = v14;
 j1 = j1 - j2;
 v12 = j1;
@@ -50608,7 +50599,7 @@ i0 = fio_log_own_texts_spells(m, j0, j1);
 i0 = (i0 == 0);
 if (!i0) {
 i0 = UINT32_C(0);
-v10 = i0;
+v13 = i0;
 j0 = v5;
 j1 = UINT64_C(24584);
 j0 = j0 + j1;
@@ -50618,7 +50609,7 @@ j1 = UINT64_C(2047);
 i0 = (j0 > j1);
 if (!i0) {
 i0 = UINT32_C(0);
-v10 = i0;
+v13 = i0;
 j0 = v12;
 j1 = UINT64_C(16384);
 j2 = v5;
@@ -50642,11 +50633,11 @@ if (!i0) {
 j0 = v12;
 j1 = UINT64_C(3);
 j0 = j0 & j1;
-v13 = j0;
+v9 = j0;
 j0 = UINT64_C(0);
 v2 = j0;
 j0 = v14;
-j1 = v20;
+j1 = v31;
 j0 = j0 - j1;
 j1 = UINT64_C(18446744073709551612);
 i0 = (j0 > j1);
@@ -50708,9 +50699,9 @@ v2 = j1;
 i0 = (j0 != j1);
 if (!i0) break;
 }
-j0 = v13;
+j0 = v9;
 i0 = (j0 == 0);
-if (i0) { goto l530; }
+if (i0) { goto l526; }
 }
 j0 = v5;
 j1 = v2;
@@ -50724,7 +50715,7 @@ j2 = v2;
 j1 = j1 + j2;
 j0 = j0 + j1;
 v2 = j0;
-l534:;
+l530:;
 j0 = v3;
 j1 = v2;
 p324 = read_at(j1, m, 1u);
@@ -50739,14 +50730,14 @@ j0 = v2;
 j1 = UINT64_C(1);
 j0 = j0 + j1;
 v2 = j0;
-j0 = v13;
+j0 = v9;
 j1 = UINT64_C(18446744073709551615);
 j0 = j0 + j1;
-v13 = j0;
+v9 = j0;
 j1 = UINT64_C(0);
 i0 = (j0 != j1);
-if (i0) { goto l534; }
-goto l530;
+if (i0) { goto l530; }
+goto l526;
 }
 j0 = v12;
 i0 = (j0 == 0);
@@ -50756,7 +50747,7 @@ j1 = v29;
 j2 = v12;
 copy(m, j0, j1, j2);
 }
-l530:;
+l526:;
 j0 = v5;
 j1 = UINT64_C(16384);
 j0 = j0 + j1;
@@ -50791,7 +50782,7 @@ p328 = write_at(j0, m, 8u);
 store64(p328 + 0, j1);
 }
 i0 = UINT32_C(0);
-v10 = i0;
+v13 = i0;
 j0 = v5;
 j1 = UINT64_C(49168);
 j0 = j0 + j1;
@@ -50808,7 +50799,7 @@ j2 = UINT64_C(24);
 j1 = j1 * j2;
 j0 = j0 + j1;
 v15 = j0;
-j1 = v9;
+j1 = v20;
 p330 = write_at(j0, m, 24u);
 store64(p330 + 16, j1);
 j0 = v15;
@@ -50824,7 +50815,7 @@ j1 = j1 + j2;
 p331 = write_at(j0, m, 8u);
 store64(p331 + 0, j1);
 i0 = UINT32_C(1);
-v10 = i0;
+v13 = i0;
 }
 }
 }
@@ -50845,77 +50836,77 @@ j0 = v3;
 i0 = (uint32_t)j0;
 switch (i0) {
 case 0:
-goto l541;
+goto l537;
 case 1:
-goto l540;
+goto l536;
 case 2:
-goto l539;
+goto l535;
 default:
-goto l541;
+goto l537;
 }
-l541:;
+l537:;
 j0 = v2;
 i0 = (j0 == 0);
-if (i0) { goto l537; }
+if (i0) { goto l533; }
 j0 = v23;
 p332 = read_at(j0, m, 1u);
 i0 = load8(p332 + 0);
-v19 = i0;
+v18 = i0;
 i0 = UINT32_C(1);
-v8 = i0;
-goto l536;
-l540:;
+v11 = i0;
+goto l532;
+l536:;
 i0 = UINT32_C(0);
-v19 = i0;
+v18 = i0;
 i0 = UINT32_C(0);
-v8 = i0;
+v11 = i0;
 j0 = v2;
 j1 = UINT64_C(2);
 i0 = (j0 < j1);
-if (i0) { goto l536; }
+if (i0) { goto l532; }
 j0 = v1;
 j1 = UINT64_C(82001);
 j0 = j0 + j1;
 p333 = read_at(j0 + UINT64_C(18446744073709551615), m, 2u);
 i0 = load8(p333 + 1);
-v11 = i0;
+v10 = i0;
 j0 = v1;
 j1 = UINT64_C(82000);
 j0 = j0 + j1;
 i0 = load8(p333 + 0);
-v19 = i0;
-goto l538;
-l539:;
+v18 = i0;
+goto l534;
+l535:;
 i0 = UINT32_C(0);
-v19 = i0;
+v18 = i0;
 i0 = UINT32_C(0);
-v8 = i0;
+v11 = i0;
 j0 = v2;
 j1 = UINT64_C(3);
 i0 = (j0 < j1);
-if (i0) { goto l536; }
+if (i0) { goto l532; }
 j0 = v1;
 j1 = UINT64_C(82002);
 j0 = j0 + j1;
 p334 = read_at(j0 + UINT64_C(18446744073709551615), m, 2u);
 i0 = load8(p334 + 1);
-v11 = i0;
+v10 = i0;
 j0 = v1;
 j1 = UINT64_C(82001);
 j0 = j0 + j1;
 i0 = load8(p334 + 0);
-v19 = i0;
-l538:;
+v18 = i0;
+l534:;
 i0 = UINT32_C(2);
-v8 = i0;
-goto l536;
+v11 = i0;
+goto l532;
 }
-l537:;
+l533:;
 i0 = UINT32_C(0);
-v19 = i0;
+v18 = i0;
 i0 = UINT32_C(0);
-v8 = i0;
-l536:;
+v11 = i0;
+l532:;
 j0 = v1;
 j1 = UINT64_C(79936);
 j0 = j0 + j1;
@@ -50926,26 +50917,26 @@ if (!i0) {
 j0 = v1;
 j1 = UINT64_C(79939);
 j0 = j0 + j1;
-i1 = v8;
+i1 = v11;
 p336 = write_at(j0 + UINT64_C(18446744073709551613), m, 4u);
 store8(p336 + 3, i1);
 j0 = v1;
 j1 = UINT64_C(79938);
 j0 = j0 + j1;
-i1 = v11;
+i1 = v10;
 store8(p336 + 2, i1);
 j0 = v1;
 j1 = UINT64_C(79937);
 j0 = j0 + j1;
-i1 = v19;
+i1 = v18;
 store8(p336 + 1, i1);
 j0 = v3;
 i1 = UINT32_C(1);
 store8(p336 + 0, i1);
-goto l542;
+goto l538;
 }
 i0 = UINT32_C(1);
-v31 = i0;
+v8 = i0;
 j0 = v1;
 j1 = UINT64_C(79940);
 j0 = j0 + j1;
@@ -50953,7 +50944,7 @@ v3 = j0;
 p337 = read_at(j0, m, 1u);
 i0 = load8(p337 + 0);
 if (!i0) {
-i0 = v19;
+i0 = v18;
 i1 = UINT32_C(255);
 i0 = i0 & i1;
 j1 = v1;
@@ -50965,7 +50956,7 @@ i2 = UINT32_C(255);
 i1 = i1 & i2;
 i0 = (i0 != i1);
 if (!i0) {
-i0 = v11;
+i0 = v10;
 i1 = UINT32_C(255);
 i0 = i0 & i1;
 j1 = v1;
@@ -50977,75 +50968,75 @@ i2 = UINT32_C(255);
 i1 = i1 & i2;
 i0 = (i0 != i1);
 if (!i0) {
-i0 = v8;
+i0 = v11;
 j1 = v1;
 j2 = UINT64_C(79939);
 j1 = j1 + j2;
 p340 = read_at(j1, m, 1u);
 i1 = load8(p340 + 0);
 i0 = (i0 != i1);
-v31 = i0;
+v8 = i0;
 }
 }
 }
 j0 = v3;
-i1 = v31;
+i1 = v8;
 p341 = write_at(j0, m, 1u);
 store8(p341 + 0, i1);
-l542:;
+l538:;
 i0 = UINT32_C(1);
-v19 = i0;
+v18 = i0;
 j0 = v1;
 j1 = UINT64_C(81992);
 j0 = j0 + j1;
 p342 = read_at(j0, m, 8u);
 j0 = load64(p342 + 0);
 v3 = j0;
-i0 = v18;
+i0 = v19;
 i1 = UINT32_C(1);
 i0 = i0 & i1;
 i0 = (i0 == 0);
 if (!i0) {
 j0 = v3;
 i0 = (j0 == 0);
-if (i0) { goto l545; }
+if (i0) { goto l541; }
 i0 = UINT32_C(0);
-v19 = i0;
+v18 = i0;
 j0 = v29;
 p343 = read_at(j0, m, 1u);
 i0 = (uint32_t)extend(load8(p343 + 0), 7);
-v18 = i0;
+v19 = i0;
 j0 = v28;
 p344 = read_at(j0, m, 1u);
 i0 = (uint32_t)extend(load8(p344 + 0), 7);
-v11 = i0;
+v10 = i0;
 i1 = UINT32_C(0);
 i0 = (SIGNED32(i0) < SIGNED32(i1));
 if (!i0) {
 i0 = UINT32_C(1);
-v19 = i0;
-i0 = v18;
+v18 = i0;
+i0 = v19;
 i1 = UINT32_C(4294967295);
 i0 = (SIGNED32(i0) > SIGNED32(i1));
-if (i0) { goto l546; }
+if (i0) { goto l542; }
 j0 = v3;
 j1 = UINT64_C(1);
 i0 = (j0 == j1);
 if (!i0) {
-i0 = v11;
+i0 = v10;
 i1 = UINT32_C(54);
 i0 = (i0 != i1);
 if (!i0) {
 i0 = UINT32_C(0);
-v19 = i0;
+v18 = i0;
 j0 = v12;
 j1 = UINT64_C(1);
 i0 = (j0 == j1);
-if (i0) { goto l546; }
-i0 = v18;
+if (i0) { goto l542; }
+i0 = v19;
 i1 = UINT32_C(4294967222);
 i0 = (i0 != i1);
-if (i0) { goto l549; }
+if (i0) { goto l545; }
 j0 = v1;
 j1 = UINT64_C(79945);
 j0 = j0 + j1;
@@ -51057,38 +51048,38 @@ j1 = j1 + j2;
 p346 = read_at(j1, m, 1u);
 i1 = load8(p346 + 0);
 i0 = (i0 == i1);
-v19 = i0;
-goto l546;
+v18 = i0;
+goto l542;
 }
 }
 i0 = UINT32_C(0);
-v19 = i0;
+v18 = i0;
 j0 = v12;
 j1 = UINT64_C(1);
 i0 = (j0 == j1);
-if (i0) { goto l546; }
-l549:;
-i0 = v11;
+if (i0) { goto l542; }
+l545:;
+i0 = v10;
 i1 = UINT32_C(54);
 i0 = (i0 != i1);
-i1 = v18;
-i2 = v11;
+i1 = v19;
+i2 = v10;
 i1 = i1 ^ i2;
 i2 = UINT32_C(4294967168);
 i1 = (i1 == i2);
 i0 = i0 & i1;
-v19 = i0;
-goto l546;
+v18 = i0;
+goto l542;
 }
-i0 = v18;
+i0 = v19;
 i1 = UINT32_C(0);
 i0 = (SIGNED32(i0) < SIGNED32(i1));
-if (i0) { goto l546; }
+if (i0) { goto l542; }
 j0 = v12;
 j1 = UINT64_C(1);
 i0 = (j0 == j1);
 if (!i0) {
-i0 = v18;
+i0 = v19;
 i1 = UINT32_C(54);
 i0 = (i0 != i1);
 if (!i0) {
@@ -51097,13 +51088,13 @@ j1 = UINT64_C(1);
 i0 = (j0 != j1);
 if (!i0) {
 i0 = UINT32_C(0);
-v19 = i0;
-goto l551;
+v18 = i0;
+goto l547;
 }
-i0 = v11;
+i0 = v10;
 i1 = UINT32_C(4294967222);
 i0 = (i0 != i1);
-if (i0) { goto l552; }
+if (i0) { goto l548; }
 j0 = v29;
 j1 = UINT64_C(1);
 j0 = j0 + j1;
@@ -51115,8 +51106,8 @@ j1 = j1 + j2;
 p348 = read_at(j1, m, 1u);
 i1 = load8(p348 + 0);
 i0 = (i0 == i1);
-v19 = i0;
-goto l551;
+v18 = i0;
+goto l547;
 }
 }
 j0 = v3;
@@ -51124,33 +51115,33 @@ j1 = UINT64_C(1);
 i0 = (j0 != j1);
 if (!i0) {
 i0 = UINT32_C(0);
-v19 = i0;
-goto l551;
+v18 = i0;
+goto l547;
 }
-l552:;
-i0 = v18;
+l548:;
+i0 = v19;
 i1 = UINT32_C(54);
 i0 = (i0 != i1);
-i1 = v18;
-i2 = v11;
+i1 = v19;
+i2 = v10;
 i1 = i1 ^ i2;
 i2 = UINT32_C(4294967168);
 i1 = (i1 == i2);
 i0 = i0 & i1;
-v19 = i0;
-l551:;
-i0 = v19;
+v18 = i0;
+l547:;
+i0 = v18;
 i1 = UINT32_C(1);
 i0 = i0 ^ i1;
-v19 = i0;
-goto l546;
+v18 = i0;
+goto l542;
 }
 i0 = UINT32_C(0);
-v19 = i0;
+v18 = i0;
 j0 = v3;
 i0 = (j0 == 0);
-if (i0) { goto l545; }
-l546:;
+if (i0) { goto l541; }
+l542:;
 j0 = v3;
 i0 = (j0 == 0);
 if (!i0) {
@@ -51165,7 +51156,7 @@ j0 = j0 + j1;
 j1 = UINT64_C(0);
 p349 = write_at(j0, m, 8u);
 store64(p349 + 0, j1);
-l545:;
+l541:;
 j0 = v12;
 j1 = UINT64_C(2048);
 i0 = (j0 > j1);
@@ -51179,11 +51170,11 @@ if (!i0) {
 j0 = v12;
 j1 = UINT64_C(3);
 j0 = j0 & j1;
-v13 = j0;
+v9 = j0;
 j0 = UINT64_C(0);
 v3 = j0;
 j0 = v14;
-j1 = v20;
+j1 = v31;
 j0 = j0 - j1;
 j1 = UINT64_C(18446744073709551612);
 i0 = (j0 > j1);
@@ -51191,7 +51182,7 @@ if (!i0) {
 j0 = v1;
 j1 = v14;
 j0 = j0 + j1;
-v20 = j0;
+v31 = j0;
 j0 = v12;
 j1 = UINT64_C(4092);
 j0 = j0 & j1;
@@ -51205,7 +51196,7 @@ j0 = j0 + j1;
 v2 = j0;
 j1 = UINT64_C(79944);
 j0 = j0 + j1;
-j1 = v20;
+j1 = v31;
 j2 = v3;
 j1 = j1 + j2;
 v15 = j1;
@@ -51247,15 +51238,15 @@ v3 = j1;
 i0 = (j0 != j1);
 if (!i0) break;
 }
-j0 = v13;
+j0 = v9;
 i0 = (j0 == 0);
-if (i0) { goto l557; }
+if (i0) { goto l553; }
 }
 j0 = v39;
 j1 = v3;
 j0 = j0 + j1;
 v3 = j0;
-l561:;
+l557:;
 j0 = v3;
 j1 = v3;
 j2 = v14;
@@ -51270,14 +51261,14 @@ j0 = v3;
 j1 = UINT64_C(1);
 j0 = j0 + j1;
 v3 = j0;
-j0 = v13;
+j0 = v9;
 j1 = UINT64_C(18446744073709551615);
 j0 = j0 + j1;
-v13 = j0;
+v9 = j0;
 j1 = UINT64_C(0);
 i0 = (j0 != j1);
-if (i0) { goto l561; }
-goto l557;
+if (i0) { goto l557; }
+goto l553;
 }
 j0 = v12;
 i0 = (j0 == 0);
@@ -51287,7 +51278,7 @@ j1 = v29;
 j2 = v12;
 copy(m, j0, j1, j2);
 }
-l557:;
+l553:;
 j0 = v1;
 j1 = UINT64_C(81992);
 j0 = j0 + j1;
@@ -51296,9 +51287,9 @@ p354 = write_at(j0, m, 8u);
 store64(p354 + 0, j1);
 }
 i0 = UINT32_C(0);
-v18 = i0;
-i0 = v10;
-i1 = v19;
+v19 = i0;
+i0 = v13;
+i1 = v18;
 i0 = i0 & i1;
 i1 = UINT32_C(1);
 i0 = (i0 != i1);
@@ -51315,7 +51306,7 @@ j0 = v7;
 j1 = UINT64_C(2488);
 j0 = j0 + j1;
 v2 = j0;
-goto l563;
+goto l559;
 }
 j0 = v1;
 j1 = UINT64_C(12552);
@@ -51325,9 +51316,9 @@ j0 = load64(p356 + 0);
 v3 = j0;
 j0 = v34;
 v2 = j0;
-l563:;
+l559:;
 i0 = UINT32_C(1);
-v18 = i0;
+v19 = i0;
 j0 = v25;
 j1 = v17;
 i0 = (j0 <= j1);
@@ -51349,14 +51340,14 @@ i0 = fio_log_quiet_held_by_text(m, j0, j1, j2, j3, j4);
 i1 = UINT32_C(255);
 i0 = i0 & i1;
 i0 = (i0 == 0);
-v18 = i0;
+v19 = i0;
 }
 }
 }
 j0 = v4;
-j1 = v9;
+j1 = v20;
 i0 = (j0 > j1);
-v19 = i0;
+v18 = i0;
 j0 = v24;
 j1 = UINT64_C(1);
 j0 = j0 + j1;
@@ -51364,20 +51355,20 @@ v24 = j0;
 j1 = v4;
 i0 = (j0 >= j1);
 if (!i0) {
-j0 = v9;
+j0 = v20;
 v17 = j0;
 j0 = v4;
-j1 = v9;
+j1 = v20;
 i0 = (j0 > j1);
-if (i0) { goto l524; }
+if (i0) { goto l520; }
 }
-l527:;
-i0 = v18;
+l523:;
+i0 = v19;
 i1 = UINT32_C(1);
 i0 = i0 & i1;
 i0 = (i0 == 0);
-if (i0) { goto l521; }
-l522:;
+if (i0) { goto l517; }
+l518:;
 j0 = v7;
 j1 = UINT64_C(2488);
 j0 = j0 + j1;
@@ -51399,61 +51390,37 @@ p358 = read_at(j0, m, 8u);
 j0 = load64(p358 + 0);
 v40 = j0;
 }
-i0 = v19;
-if (i0) { goto l520; }
-i0 = UINT32_C(1);
-v19 = i0;
-i0 = v33;
-i1 = v32;
-i2 = UINT32_C(1);
-i1 = i1 ^ i2;
-i0 = i0 | i1;
-i0 = (i0 == 0);
-if (i0) { goto l519; }
-i0 = UINT32_C(4);
-v18 = i0;
-goto l2;
-l521:;
-i0 = UINT32_C(1);
-v19 = i0;
-i0 = UINT32_C(4);
-v18 = i0;
-goto l2;
-l520:;
-i0 = UINT32_C(1);
-v19 = i0;
-i0 = v33;
-i1 = v32;
-i2 = UINT32_C(1);
-i1 = i1 ^ i2;
-j2 = v3;
-j3 = v40;
-j4 = v6;
-j5 = v9;
-j4 = j4 + j5;
-j5 = v4;
-j6 = v9;
-j5 = j5 - j6;
-j6 = v1;
-j7 = UINT64_C(82000);
-j6 = j6 + j7;
-i2 = fio_log_quiet_held_by_text(m, j2, j3, j4, j5, j6);
-i3 = UINT32_C(255);
-i2 = i2 & i3;
-i3 = UINT32_C(0);
-i2 = (i2 != i3);
-i1 = i1 | i2;
-i0 = i0 | i1;
+i0 = v18;
 i0 = (i0 == 0);
 if (!i0) {
 i0 = UINT32_C(4);
 v18 = i0;
-goto l2;
+j0 = v3;
+j1 = v40;
+j2 = v6;
+j3 = v20;
+j2 = j2 + j3;
+j3 = v4;
+j4 = v20;
+j3 = j3 - j4;
+j4 = v1;
+j5 = UINT64_C(82000);
+j4 = j4 + j5;
+i0 = fio_log_quiet_held_by_text(m, j0, j1, j2, j3, j4);
+i1 = UINT32_C(255);
+i0 = i0 & i1;
+if (i0) { goto l516; }
 }
-l519:;
+i0 = UINT32_C(0);
+v18 = i0;
+goto l516;
+l517:;
 i0 = UINT32_C(4);
-i1 = UINT32_C(0);
-i2 = v36;
+v18 = i0;
+l516:;
+i0 = v18;
+i1 = UINT32_C(4);
+i2 = v32;
 i0 = i2 ? i0 : i1;
 v18 = i0;
 i0 = UINT32_C(1);
@@ -136499,6 +136466,7 @@ uint32_t v43 = 0;
 uint32_t v44 = 0;
 uint32_t v45 = 0;
 uint32_t v46 = 0;
+uint32_t v47 = 0;
 uint32_t i0;
 uint32_t i1;
 uint32_t i2;
@@ -136751,7 +136719,7 @@ v3 = j0;
 j0 = v1;
 j1 = UINT64_C(737);
 j0 = j0 + j1;
-p5 = read_at(j0, m, 2u);
+p5 = read_at(j0, m, 11u);
 i0 = load8(p5 + 0);
 v46 = i0;
 j0 = v1;
@@ -136759,6 +136727,11 @@ j1 = UINT64_C(738);
 j0 = j0 + j1;
 i0 = load8(p5 + 1);
 v27 = i0;
+j0 = v1;
+j1 = UINT64_C(747);
+j0 = j0 + j1;
+i0 = load8(p5 + 10);
+v47 = i0;
 j0 = v2;
 j1 = UINT64_C(8);
 j0 = j0 + j1;
@@ -136901,7 +136874,12 @@ i1 = UINT32_C(0);
 store32(p6 + 732, i1);
 j0 = v0;
 i1 = UINT32_C(0);
-store16(p6 + 758, i1);
+store8(p6 + 759, i1);
+j0 = v0;
+i1 = v47;
+i2 = UINT32_C(0);
+i1 = (i1 != i2);
+store8(p6 + 758, i1);
 j0 = v0;
 i1 = UINT32_C(1);
 i2 = UINT32_C(2);
@@ -138057,6 +138035,7 @@ uint32_t v20 = 0;
 uint32_t v21 = 0;
 uint32_t v22 = 0;
 uint32_t v23 = 0;
+uint32_t v24 = 0;
 uint32_t i0;
 uint32_t i1;
 uint32_t i2;
@@ -138092,6 +138071,9 @@ uint8_t *p21;
 uint8_t *p22;
 uint8_t *p23;
 uint8_t *p24;
+uint8_t *p25;
+uint8_t *p26;
+uint8_t *p27;
 j0 = m->g0;
 j1 = UINT64_C(80);
 j0 = j0 - j1;
@@ -138264,37 +138246,68 @@ j0 = v1;
 j1 = UINT64_C(13);
 j0 = j0 + j1;
 i0 = load8(p5 + 13);
+v4 = i0;
+j0 = v1;
+j1 = UINT64_C(758);
+j0 = j0 + j1;
+p6 = read_at(j0, m, 1u);
+i0 = load8(p6 + 0);
+i1 = UINT32_C(1);
+i0 = (i0 != i1);
+if (!i0) {
+i0 = v4;
+i1 = UINT32_C(255);
+i0 = i0 & i1;
+i1 = UINT32_C(1);
+i0 = (i0 == i1);
+if (i0) { goto l14; }
+j0 = v1;
+j1 = UINT64_C(0);
+p7 = write_at(j0 + UINT64_C(1), m, 13u);
+store64(p7 + 3, j1);
+j0 = v1;
+i1 = UINT32_C(0);
+store8(p7 + 0, i1);
+j0 = v1;
+i1 = UINT32_C(512);
+store16(p7 + 11, i1);
+goto l14;
+}
+i0 = v4;
+i1 = UINT32_C(255);
+i0 = i0 & i1;
 i1 = UINT32_C(1);
 i0 = (i0 == i1);
 if (!i0) {
 j0 = v1;
 j1 = UINT64_C(0);
-p6 = write_at(j0 + UINT64_C(1), m, 13u);
-store64(p6 + 3, j1);
+p8 = write_at(j0 + UINT64_C(1), m, 13u);
+store64(p8 + 3, j1);
 j0 = v1;
 i1 = UINT32_C(0);
-store8(p6 + 0, i1);
+store8(p8 + 0, i1);
 j0 = v1;
 i1 = UINT32_C(512);
-store16(p6 + 11, i1);
+store16(p8 + 11, i1);
 }
 j0 = v1;
 j1 = UINT64_C(688);
 j0 = j0 + j1;
 v13 = j0;
-p7 = read_at(j0, m, 1u);
-i0 = load8(p7 + 0);
+p9 = read_at(j0, m, 1u);
+i0 = load8(p9 + 0);
 if (!i0) {
 j0 = v13;
 i1 = UINT32_C(1);
-p8 = write_at(j0, m, 1u);
-store8(p8 + 0, i1);
+p10 = write_at(j0, m, 1u);
+store8(p10 + 0, i1);
 }
+l14:;
 j0 = v1;
 j1 = UINT64_C(736);
 j0 = j0 + j1;
-p9 = read_at(j0, m, 1u);
-i0 = load8(p9 + 0);
+p11 = read_at(j0, m, 1u);
+i0 = load8(p11 + 0);
 i1 = UINT32_C(1);
 i0 = (i0 != i1);
 if (!i0) {
@@ -138302,8 +138315,8 @@ j0 = v1;
 j1 = UINT64_C(737);
 j0 = j0 + j1;
 i1 = UINT32_C(0);
-p10 = write_at(j0, m, 1u);
-store8(p10 + 0, i1);
+p12 = write_at(j0, m, 1u);
+store8(p12 + 0, i1);
 }
 }
 l11:;
@@ -138312,19 +138325,19 @@ v4 = i0;
 i0 = v12;
 switch (i0) {
 case 0:
-goto l16;
+goto l17;
 case 1:
 goto l9;
 case 2:
-goto l16;
+goto l17;
 case 3:
 goto l10;
 case 4:
-goto l16;
+goto l17;
 default:
-goto l16;
+goto l17;
 }
-l16:;
+l17:;
 i0 = v14;
 v4 = i0;
 goto l9;
@@ -138337,29 +138350,49 @@ j0 = v1;
 j1 = UINT64_C(756);
 j0 = j0 + j1;
 i1 = UINT32_C(1);
-p11 = write_at(j0 + UINT64_C(18446744073709551604), m, 14u);
-store8(p11 + 12, i1);
+p13 = write_at(j0 + UINT64_C(18446744073709551604), m, 15u);
+store8(p13 + 12, i1);
 j0 = v1;
 j1 = UINT64_C(757);
 j0 = j0 + j1;
 i1 = v4;
-store8(p11 + 13, i1);
+store8(p13 + 13, i1);
+i0 = UINT32_C(2);
+v4 = i0;
+j0 = v1;
+j1 = UINT64_C(758);
+j0 = j0 + j1;
+v13 = j0;
+j1 = v13;
+i1 = load8(p13 + 14);
+i2 = v12;
+i3 = UINT32_C(255);
+i2 = i2 & i3;
+i3 = UINT32_C(2);
+i2 = (i2 != i3);
+i3 = v11;
+i4 = UINT32_C(255);
+i3 = i3 & i4;
+i4 = UINT32_C(178);
+i3 = (i3 != i4);
+i2 = i2 | i3;
+i1 = i1 & i2;
+v15 = i1;
+store8(p13 + 14, i1);
 j0 = v1;
 j1 = UINT64_C(744);
 j0 = j0 + j1;
-i0 = load8(p11 + 0);
+i0 = load8(p13 + 0);
 i1 = UINT32_C(1);
 i0 = (i0 != i1);
 if (!i0) {
 j0 = v1;
 j1 = UINT64_C(745);
 j0 = j0 + j1;
-i0 = load8(p11 + 1);
-v14 = i0;
-goto l17;
+i0 = load8(p13 + 1);
+v4 = i0;
+goto l18;
 }
-i0 = UINT32_C(2);
-v14 = i0;
 i0 = v3;
 i1 = UINT32_C(1);
 i0 = i0 & i1;
@@ -138370,27 +138403,27 @@ i1 = UINT32_C(0);
 j2 = v1;
 j3 = UINT64_C(752);
 j2 = j2 + j3;
-j2 = load32(p11 + 8);
+j2 = load32(p13 + 8);
 j3 = UINT64_C(2);
 j2 = j2 << (j3 & 63);
 j3 = v1;
 j4 = UINT64_C(748);
 j3 = j3 + j4;
-j3 = load32(p11 + 4);
+j3 = load32(p13 + 4);
 i2 = (j2 > j3);
 i0 = i2 ? i0 : i1;
-v14 = i0;
+v4 = i0;
 }
-l17:;
+l18:;
 j0 = v1;
 j1 = UINT64_C(736);
 j0 = j0 + j1;
-p12 = read_at(j0, m, 1u);
-i0 = load8(p12 + 0);
+p14 = read_at(j0, m, 1u);
+i0 = load8(p14 + 0);
 if (!i0) {
 j0 = v7;
 j1 = v1;
-i2 = v14;
+i2 = v4;
 i3 = v2;
 j4 = v5;
 j5 = v6;
@@ -138402,9 +138435,9 @@ i1 = load8(p1 + 4);
 i2 = UINT32_C(16);
 i1 = i1 << (i2 & 31);
 i0 = i0 | i1;
-v2 = i0;
-i0 = UINT32_C(0);
 v12 = i0;
+i0 = UINT32_C(0);
+v2 = i0;
 j0 = v7;
 i0 = load8(p1 + 6);
 v11 = i0;
@@ -138422,65 +138455,65 @@ goto l2;
 j0 = v1;
 j1 = UINT64_C(743);
 j0 = j0 + j1;
-p13 = read_at(j0 + UINT64_C(18446744073709551610), m, 7u);
-i0 = load8(p13 + 6);
-v15 = i0;
+p15 = read_at(j0 + UINT64_C(18446744073709551610), m, 7u);
+i0 = load8(p15 + 6);
+v16 = i0;
 j0 = v1;
 j1 = UINT64_C(742);
 j0 = j0 + j1;
-i0 = load8(p13 + 5);
-v16 = i0;
+i0 = load8(p15 + 5);
+v17 = i0;
 j0 = v1;
 j1 = UINT64_C(741);
 j0 = j0 + j1;
-i0 = load8(p13 + 4);
-v17 = i0;
+i0 = load8(p15 + 4);
+v18 = i0;
 j0 = v1;
 j1 = UINT64_C(740);
 j0 = j0 + j1;
-i0 = load8(p13 + 3);
-v18 = i0;
+i0 = load8(p15 + 3);
+v19 = i0;
 j0 = v1;
 j1 = UINT64_C(739);
 j0 = j0 + j1;
-i0 = load8(p13 + 2);
-v19 = i0;
+i0 = load8(p15 + 2);
+v20 = i0;
 j0 = v1;
 j1 = UINT64_C(738);
 j0 = j0 + j1;
-i0 = load8(p13 + 1);
+i0 = load8(p15 + 1);
 v3 = i0;
 j0 = v1;
 j1 = UINT64_C(737);
 j0 = j0 + j1;
-i0 = load8(p13 + 0);
-v20 = i0;
-v4 = i0;
+i0 = load8(p15 + 0);
+v21 = i0;
+v14 = i0;
 i0 = v12;
 switch (i0) {
 case 0:
-goto l21;
-case 1:
 goto l22;
+case 1:
+goto l23;
 case 2:
-goto l28;
-case 3:
-goto l30;
-case 4:
 goto l29;
+case 3:
+goto l31;
+case 4:
+goto l30;
 default:
-goto l21;
+goto l22;
 }
-l30:;
+l31:;
 i0 = UINT32_C(0);
-v4 = i0;
-i0 = v18;
+v14 = i0;
+i0 = v19;
 i1 = UINT32_C(255);
 i0 = i0 & i1;
 i1 = UINT32_C(1);
 i0 = (i0 != i1);
 if (i0) { goto l4; }
-i0 = v17;
+i0 = v18;
 i1 = UINT32_C(255);
 i0 = i0 & i1;
 i1 = v11;
@@ -138491,10 +138524,10 @@ i1 = i1 & i2;
 i0 = (i0 != i1);
 if (!i0) {
 i0 = UINT32_C(1);
-v18 = i0;
+v19 = i0;
 i0 = UINT32_C(1);
-i1 = v15;
-i2 = v17;
+i1 = v16;
+i2 = v18;
 i3 = UINT32_C(255);
 i2 = i2 & i3;
 i3 = v11;
@@ -138502,73 +138535,73 @@ i4 = UINT32_C(255);
 i3 = i3 & i4;
 i2 = (i2 == i3);
 i0 = i2 ? i0 : i1;
-v15 = i0;
+v16 = i0;
 goto l4;
 }
-i0 = v17;
+i0 = v18;
 i1 = UINT32_C(255);
 i0 = i0 & i1;
 i1 = v11;
 i2 = UINT32_C(255);
 i1 = i1 & i2;
 i0 = (i0 == i1);
-if (i0) { goto l27; }
-i0 = v15;
-v18 = i0;
-goto l26;
-l29:;
+if (i0) { goto l28; }
+i0 = v16;
+v19 = i0;
+goto l27;
+l30:;
 i0 = UINT32_C(0);
-v4 = i0;
+v14 = i0;
 i0 = v3;
 i1 = UINT32_C(255);
 i0 = i0 & i1;
 i1 = UINT32_C(1);
 i0 = (i0 != i1);
 if (i0) { goto l4; }
-i0 = v19;
+i0 = v20;
 i1 = UINT32_C(255);
 i0 = i0 & i1;
 v3 = i0;
 i1 = v11;
 i2 = UINT32_C(255);
 i1 = i1 & i2;
-v21 = i1;
+v22 = i1;
 i0 = (i0 != i1);
-v22 = i0;
+v23 = i0;
 i0 = UINT32_C(0);
-v4 = i0;
+v14 = i0;
 i0 = v3;
-i1 = v21;
+i1 = v22;
 i0 = (i0 == i1);
-if (i0) { goto l25; }
+if (i0) { goto l26; }
 i0 = UINT32_C(1);
 v3 = i0;
-goto l23;
-l28:;
+goto l24;
+l29:;
 i0 = v3;
 i1 = UINT32_C(255);
 i0 = i0 & i1;
-v4 = i0;
+v14 = i0;
 i0 = UINT32_C(1);
 v3 = i0;
-i0 = v20;
-i1 = v4;
+i0 = v21;
+i1 = v14;
 i2 = UINT32_C(1);
 i1 = (i1 != i2);
 i0 = i0 & i1;
-v4 = i0;
+v14 = i0;
 i0 = v11;
-v19 = i0;
-goto l21;
-l27:;
+v20 = i0;
+goto l22;
+l28:;
 i0 = UINT32_C(2);
-i1 = v15;
+i1 = v16;
 i0 = i0 - i1;
-v22 = i0;
+v23 = i0;
 i0 = UINT32_C(1);
-v18 = i0;
+v19 = i0;
 i0 = UINT32_C(0);
-v4 = i0;
+v14 = i0;
 i0 = v3;
 i1 = UINT32_C(255);
 i0 = i0 & i1;
@@ -138576,66 +138609,66 @@ i1 = UINT32_C(1);
 i0 = (i0 == i1);
 if (!i0) {
 i0 = UINT32_C(1);
-v15 = i0;
-goto l23;
+v16 = i0;
+goto l24;
 }
 i0 = UINT32_C(1);
-v15 = i0;
-i0 = v19;
+v16 = i0;
+i0 = v20;
 i1 = UINT32_C(255);
 i0 = i0 & i1;
 i1 = UINT32_C(182);
 i0 = (i0 != i1);
-if (i0) { goto l23; }
-l26:;
-i0 = v18;
-v15 = i0;
-i0 = v16;
-i1 = v20;
+if (i0) { goto l24; }
+l27:;
+i0 = v19;
+v16 = i0;
+i0 = v17;
+i1 = v21;
 i0 = i0 | i1;
-v4 = i0;
+v14 = i0;
 i0 = UINT32_C(1);
-v18 = i0;
+v19 = i0;
 i0 = UINT32_C(0);
-v22 = i0;
+v23 = i0;
 i0 = UINT32_C(0);
 v3 = i0;
-goto l24;
+goto l25;
+l26:;
+i0 = UINT32_C(0);
+v3 = i0;
+i0 = v21;
+v14 = i0;
 l25:;
 i0 = UINT32_C(0);
-v3 = i0;
-i0 = v20;
-v4 = i0;
+v20 = i0;
 l24:;
-i0 = UINT32_C(0);
-v19 = i0;
-l23:;
-i0 = v22;
+i0 = v23;
 j0 = (uint64_t)i0;
 j1 = UINT64_C(255);
 j0 = j0 & j1;
 i0 = (uint32_t)j0;
 switch (i0) {
 case 0:
-goto l21;
+goto l22;
 case 1:
 goto l4;
 case 2:
-goto l20;
-default:
 goto l21;
+default:
+goto l22;
 }
-l22:;
-i0 = v18;
+l23:;
+i0 = v19;
 i1 = UINT32_C(255);
 i0 = i0 & i1;
-v4 = i0;
+v14 = i0;
 i0 = UINT32_C(1);
-v18 = i0;
-i0 = v4;
+v19 = i0;
+i0 = v14;
 i1 = UINT32_C(1);
 i0 = (i0 != i1);
-i1 = v17;
+i1 = v18;
 i2 = UINT32_C(255);
 i1 = i1 & i2;
 i2 = v11;
@@ -138643,24 +138676,24 @@ i3 = UINT32_C(255);
 i2 = i2 & i3;
 i1 = (i1 != i2);
 i0 = i0 | i1;
-v16 = i0;
-i0 = v20;
+v17 = i0;
+i0 = v21;
 i1 = v3;
 i2 = UINT32_C(255);
 i1 = i1 & i2;
 i2 = UINT32_C(1);
 i1 = (i1 != i2);
 i0 = i0 & i1;
-v4 = i0;
+v14 = i0;
 i0 = UINT32_C(182);
-v19 = i0;
+v20 = i0;
 i0 = UINT32_C(0);
-v15 = i0;
+v16 = i0;
 i0 = v11;
-v17 = i0;
+v18 = i0;
 i0 = UINT32_C(1);
 v3 = i0;
-l21:;
+l22:;
 j0 = v7;
 j1 = UINT64_C(0);
 store64(p1 + 32, j1);
@@ -138669,31 +138702,31 @@ if (!i0) {
 i0 = v12;
 i1 = UINT32_C(3);
 i0 = (i0 != i1);
-if (i0) { goto l34; }
+if (i0) { goto l35; }
 }
 j0 = v7;
 j1 = UINT64_C(32);
 j0 = j0 + j1;
 j1 = v1;
-i2 = v14;
+i2 = v4;
 i3 = v2;
 j4 = v5;
 j5 = v6;
 fio_check_link_judge_LinkJudge_frame(m, j0, j1, i2, i3, j4, j5);
 j0 = v7;
 i0 = load8(p1 + 38);
-v20 = i0;
+v21 = i0;
 j0 = v7;
 i0 = load8(p1 + 37);
-v22 = i0;
+v23 = i0;
 j0 = v7;
 i0 = load8(p1 + 33);
-v14 = i0;
+v15 = i0;
 j0 = v7;
 i0 = load8(p1 + 32);
 v10 = i0;
-goto l33;
-l34:;
+goto l34;
+l35:;
 j0 = v7;
 j1 = UINT64_C(0);
 store64(p1 + 72, j1);
@@ -138728,9 +138761,9 @@ if (!i0) {
 j0 = v1;
 j1 = UINT64_C(13);
 j0 = j0 + j1;
-p14 = read_at(j0, m, 1u);
-i0 = load8(p14 + 0);
-v2 = i0;
+p16 = read_at(j0, m, 1u);
+i0 = load8(p16 + 0);
+v12 = i0;
 i0 = (i0 == 0);
 if (!i0) {
 j0 = v7;
@@ -138739,13 +138772,13 @@ store8(p1 + 38, i1);
 j0 = v7;
 i1 = UINT32_C(0);
 store32(p1 + 34, i1);
-i0 = v2;
+i0 = v12;
 i1 = UINT32_C(1);
 i0 = (i0 != i1);
-v14 = i0;
+v15 = i0;
 i0 = UINT32_C(5);
 v10 = i0;
-goto l36;
+goto l37;
 }
 }
 j0 = v7;
@@ -138766,60 +138799,60 @@ i3 = load8(p1 + 48);
 v10 = i3;
 i4 = UINT32_C(1);
 i3 = (i3 == i4);
-v2 = i3;
+v12 = i3;
 i1 = i3 ? i1 : i2;
 store16(p1 + 35, i1);
 j0 = v7;
 j1 = v7;
 i1 = load8(p1 + 50);
 i2 = UINT32_C(0);
-i3 = v2;
+i3 = v12;
 i1 = i3 ? i1 : i2;
 store8(p1 + 34, i1);
 j0 = v7;
 i0 = load8(p1 + 49);
 i1 = UINT32_C(0);
-i2 = v2;
+i2 = v12;
 i0 = i2 ? i0 : i1;
-v14 = i0;
-l36:;
+v15 = i0;
+l37:;
 i0 = UINT32_C(0);
-v20 = i0;
+v21 = i0;
 i0 = UINT32_C(0);
-v22 = i0;
-l33:;
+v23 = i0;
+l34:;
 j0 = v7;
 i0 = load8(p1 + 36);
-v21 = i0;
+v22 = i0;
 j0 = v7;
 i0 = load16(p1 + 34);
-v23 = i0;
-i0 = v4;
+v24 = i0;
+i0 = v14;
 i1 = UINT32_C(1);
 i0 = i0 & i1;
 i0 = (i0 == 0);
 if (!i0) {
 i0 = UINT32_C(1);
-v2 = i0;
-i0 = UINT32_C(0);
 v12 = i0;
+i0 = UINT32_C(0);
+v2 = i0;
 i0 = v10;
 i1 = UINT32_C(255);
 i0 = i0 & i1;
 i1 = UINT32_C(1);
 i0 = (i0 != i1);
-if (i0) { goto l42; }
+if (i0) { goto l43; }
 i0 = UINT32_C(1);
-i1 = v14;
+i1 = v15;
 i2 = UINT32_C(255);
 i1 = i1 & i2;
 i0 = i0 << (i1 & 31);
 i1 = UINT32_C(239);
 i0 = i0 & i1;
-if (i0) { goto l41; }
+if (i0) { goto l42; }
 }
 i0 = UINT32_C(0);
-v2 = i0;
+v12 = i0;
 j0 = v1;
 j1 = UINT64_C(16);
 j0 = j0 + j1;
@@ -138836,92 +138869,92 @@ j0 = v1;
 j1 = UINT64_C(680);
 j0 = j0 + j1;
 j1 = UINT64_C(0);
-p15 = write_at(j0 + UINT64_C(18446744073709551592), m, 72u);
-store64(p15 + 24, j1);
+p17 = write_at(j0 + UINT64_C(18446744073709551592), m, 72u);
+store64(p17 + 24, j1);
 j0 = v1;
 j1 = UINT64_C(672);
 j0 = j0 + j1;
 j1 = UINT64_C(0);
-store64(p15 + 16, j1);
+store64(p17 + 16, j1);
 j0 = v1;
 j1 = UINT64_C(664);
 j0 = j0 + j1;
 j1 = UINT64_C(0);
-store64(p15 + 8, j1);
+store64(p17 + 8, j1);
 j0 = v1;
 j1 = UINT64_C(656);
 j0 = j0 + j1;
 j1 = UINT64_C(0);
-store64(p15 + 0, j1);
+store64(p17 + 0, j1);
 j0 = v1;
 j1 = UINT64_C(689);
 j0 = j0 + j1;
 j1 = UINT64_C(0);
-store64(p15 + 33, j1);
+store64(p17 + 33, j1);
 j0 = v1;
 j1 = UINT64_C(697);
 j0 = j0 + j1;
 j1 = UINT64_C(0);
-store64(p15 + 41, j1);
+store64(p17 + 41, j1);
 j0 = v1;
 j1 = UINT64_C(705);
 j0 = j0 + j1;
 j1 = UINT64_C(0);
-store64(p15 + 49, j1);
+store64(p17 + 49, j1);
 j0 = v1;
 j1 = UINT64_C(713);
 j0 = j0 + j1;
 j1 = UINT64_C(0);
-store64(p15 + 57, j1);
+store64(p17 + 57, j1);
 j0 = v1;
 j1 = UINT64_C(720);
 j0 = j0 + j1;
 j1 = UINT64_C(0);
-store64(p15 + 64, j1);
+store64(p17 + 64, j1);
 i0 = UINT32_C(1);
-v12 = i0;
-l42:;
+v2 = i0;
+l43:;
 j0 = v1;
 j1 = UINT64_C(743);
 j0 = j0 + j1;
-i1 = v15;
-p16 = write_at(j0 + UINT64_C(18446744073709551609), m, 8u);
-store8(p16 + 7, i1);
+i1 = v16;
+p18 = write_at(j0 + UINT64_C(18446744073709551609), m, 8u);
+store8(p18 + 7, i1);
 j0 = v1;
 j1 = UINT64_C(742);
 j0 = j0 + j1;
-i1 = v16;
-store8(p16 + 6, i1);
+i1 = v17;
+store8(p18 + 6, i1);
 j0 = v1;
 j1 = UINT64_C(741);
 j0 = j0 + j1;
-i1 = v17;
-store8(p16 + 5, i1);
+i1 = v18;
+store8(p18 + 5, i1);
 j0 = v1;
 j1 = UINT64_C(740);
 j0 = j0 + j1;
-i1 = v18;
-store8(p16 + 4, i1);
+i1 = v19;
+store8(p18 + 4, i1);
 j0 = v1;
 j1 = UINT64_C(739);
 j0 = j0 + j1;
-i1 = v19;
-store8(p16 + 3, i1);
+i1 = v20;
+store8(p18 + 3, i1);
 j0 = v1;
 j1 = UINT64_C(738);
 j0 = j0 + j1;
 i1 = v3;
-store8(p16 + 2, i1);
+store8(p18 + 2, i1);
 j0 = v1;
 j1 = UINT64_C(737);
 j0 = j0 + j1;
-i1 = v2;
-store8(p16 + 1, i1);
+i1 = v12;
+store8(p18 + 1, i1);
 j0 = v1;
 j1 = UINT64_C(736);
 j0 = j0 + j1;
 i1 = UINT32_C(1);
-store8(p16 + 0, i1);
+store8(p18 + 0, i1);
 i0 = v10;
 j0 = (uint64_t)i0;
 j1 = UINT64_C(255);
@@ -138929,142 +138962,168 @@ j0 = j0 & j1;
 i0 = (uint32_t)j0;
 switch (i0) {
 case 0:
-goto l38;
+goto l39;
 case 1:
-goto l40;
+goto l41;
 case 2:
-goto l39;
+goto l40;
 case 3:
-goto l44;
+goto l45;
 case 4:
-goto l39;
+goto l40;
 case 5:
-goto l38;
+goto l39;
 default:
-goto l38;
+goto l39;
 }
-l44:;
-i0 = v14;
+l45:;
+i0 = v15;
 i1 = UINT32_C(255);
 i0 = i0 & i1;
 i0 = (i0 == 0);
-i1 = v12;
+i1 = v2;
 i0 = i0 & i1;
 i0 = (i0 == 0);
-if (i0) { goto l38; }
+if (i0) { goto l39; }
 goto l5;
-l41:;
+l42:;
 j0 = v1;
 j1 = UINT64_C(743);
 j0 = j0 + j1;
-i1 = v15;
-p17 = write_at(j0 + UINT64_C(18446744073709551609), m, 8u);
-store8(p17 + 7, i1);
+i1 = v16;
+p19 = write_at(j0 + UINT64_C(18446744073709551609), m, 8u);
+store8(p19 + 7, i1);
 j0 = v1;
 j1 = UINT64_C(742);
 j0 = j0 + j1;
-i1 = v16;
-store8(p17 + 6, i1);
+i1 = v17;
+store8(p19 + 6, i1);
 j0 = v1;
 j1 = UINT64_C(741);
 j0 = j0 + j1;
-i1 = v17;
-store8(p17 + 5, i1);
+i1 = v18;
+store8(p19 + 5, i1);
 j0 = v1;
 j1 = UINT64_C(740);
 j0 = j0 + j1;
-i1 = v18;
-store8(p17 + 4, i1);
+i1 = v19;
+store8(p19 + 4, i1);
 j0 = v1;
 j1 = UINT64_C(739);
 j0 = j0 + j1;
-i1 = v19;
-store8(p17 + 3, i1);
+i1 = v20;
+store8(p19 + 3, i1);
 j0 = v1;
 j1 = UINT64_C(738);
 j0 = j0 + j1;
 i1 = v3;
-store8(p17 + 2, i1);
+store8(p19 + 2, i1);
 j0 = v1;
 j1 = UINT64_C(736);
 j0 = j0 + j1;
 i1 = UINT32_C(257);
-store16(p17 + 0, i1);
-l40:;
+store16(p19 + 0, i1);
+l41:;
 i0 = UINT32_C(0);
 v8 = i0;
 i0 = UINT32_C(2);
-v12 = i0;
+v2 = i0;
 i0 = UINT32_C(0);
 v4 = i0;
 i0 = UINT32_C(0);
-v2 = i0;
+v12 = i0;
 i0 = UINT32_C(0);
 v3 = i0;
 i0 = UINT32_C(0);
 v11 = i0;
 i0 = UINT32_C(1);
-i1 = v14;
+i1 = v15;
 i2 = UINT32_C(255);
 i1 = i1 & i2;
 i0 = i0 << (i1 & 31);
 i1 = UINT32_C(239);
 i0 = i0 & i1;
-if (i0) { goto l38; }
+if (i0) { goto l39; }
 goto l2;
-l39:;
-i0 = v12;
+l40:;
+i0 = v2;
 if (i0) { goto l5; }
-l38:;
-i0 = v23;
-i1 = v21;
+l39:;
+i0 = v24;
+i1 = v22;
 i2 = UINT32_C(16);
 i1 = i1 << (i2 & 31);
 i0 = i0 | i1;
-v2 = i0;
-i0 = UINT32_C(0);
 v12 = i0;
+i0 = UINT32_C(0);
+v2 = i0;
 i0 = v10;
 v8 = i0;
-i0 = v14;
+i0 = v15;
 v4 = i0;
-i0 = v22;
+i0 = v23;
 v3 = i0;
-i0 = v20;
+i0 = v21;
 v11 = i0;
 goto l2;
-l20:;
+l21:;
 j0 = v1;
 j1 = UINT64_C(13);
 j0 = j0 + j1;
-p18 = read_at(j0, m, 1u);
-i0 = load8(p18 + 0);
+p20 = read_at(j0, m, 1u);
+i0 = load8(p20 + 0);
+v12 = i0;
+i0 = v15;
+i0 = (i0 == 0);
+if (!i0) {
+i0 = v12;
+i1 = UINT32_C(255);
+i0 = i0 & i1;
+i1 = UINT32_C(1);
+i0 = (i0 == i1);
+if (i0) { goto l46; }
+j0 = v1;
+j1 = UINT64_C(0);
+p21 = write_at(j0 + UINT64_C(1), m, 13u);
+store64(p21 + 3, j1);
+j0 = v1;
+i1 = UINT32_C(0);
+store8(p21 + 0, i1);
+j0 = v1;
+i1 = UINT32_C(512);
+store16(p21 + 11, i1);
+goto l46;
+}
+i0 = v12;
+i1 = UINT32_C(255);
+i0 = i0 & i1;
 i1 = UINT32_C(1);
 i0 = (i0 == i1);
 if (!i0) {
 j0 = v1;
 j1 = UINT64_C(0);
-p19 = write_at(j0 + UINT64_C(1), m, 13u);
-store64(p19 + 3, j1);
+p22 = write_at(j0 + UINT64_C(1), m, 13u);
+store64(p22 + 3, j1);
 j0 = v1;
 i1 = UINT32_C(0);
-store8(p19 + 0, i1);
+store8(p22 + 0, i1);
 j0 = v1;
 i1 = UINT32_C(512);
-store16(p19 + 11, i1);
+store16(p22 + 11, i1);
 }
 j0 = v1;
 j1 = UINT64_C(688);
 j0 = j0 + j1;
 v6 = j0;
-p20 = read_at(j0, m, 1u);
-i0 = load8(p20 + 0);
+p23 = read_at(j0, m, 1u);
+i0 = load8(p23 + 0);
 if (!i0) {
 j0 = v6;
 i1 = UINT32_C(1);
-p21 = write_at(j0, m, 1u);
-store8(p21 + 0, i1);
+p24 = write_at(j0, m, 1u);
+store8(p24 + 0, i1);
 }
+l46:;
 i0 = UINT32_C(0);
 v8 = i0;
 j0 = v1;
@@ -139074,7 +139133,7 @@ i1 = UINT32_C(0);
 j2 = UINT64_C(384);
 fill(m, j0, i1, j2);
 i0 = UINT32_C(1);
-v12 = i0;
+v2 = i0;
 j0 = v1;
 j1 = UINT64_C(400);
 j0 = j0 + j1;
@@ -139085,88 +139144,88 @@ j0 = v1;
 j1 = UINT64_C(680);
 j0 = j0 + j1;
 j1 = UINT64_C(0);
-p22 = write_at(j0 + UINT64_C(18446744073709551592), m, 88u);
-store64(p22 + 24, j1);
+p25 = write_at(j0 + UINT64_C(18446744073709551592), m, 88u);
+store64(p25 + 24, j1);
 j0 = v1;
 j1 = UINT64_C(672);
 j0 = j0 + j1;
 j1 = UINT64_C(0);
-store64(p22 + 16, j1);
+store64(p25 + 16, j1);
 j0 = v1;
 j1 = UINT64_C(664);
 j0 = j0 + j1;
 j1 = UINT64_C(0);
-store64(p22 + 8, j1);
+store64(p25 + 8, j1);
 j0 = v1;
 j1 = UINT64_C(656);
 j0 = j0 + j1;
 j1 = UINT64_C(0);
-store64(p22 + 0, j1);
+store64(p25 + 0, j1);
 j0 = v1;
 j1 = UINT64_C(689);
 j0 = j0 + j1;
 j1 = UINT64_C(0);
-store64(p22 + 33, j1);
+store64(p25 + 33, j1);
 j0 = v1;
 j1 = UINT64_C(697);
 j0 = j0 + j1;
 j1 = UINT64_C(0);
-store64(p22 + 41, j1);
+store64(p25 + 41, j1);
 j0 = v1;
 j1 = UINT64_C(705);
 j0 = j0 + j1;
 j1 = UINT64_C(0);
-store64(p22 + 49, j1);
+store64(p25 + 49, j1);
 j0 = v1;
 j1 = UINT64_C(713);
 j0 = j0 + j1;
 j1 = UINT64_C(0);
-store64(p22 + 57, j1);
+store64(p25 + 57, j1);
 j0 = v1;
 j1 = UINT64_C(720);
 j0 = j0 + j1;
 j1 = UINT64_C(0);
-store64(p22 + 64, j1);
+store64(p25 + 64, j1);
 j0 = v1;
 j1 = UINT64_C(743);
 j0 = j0 + j1;
-i1 = v15;
-store8(p22 + 87, i1);
+i1 = v16;
+store8(p25 + 87, i1);
 j0 = v1;
 j1 = UINT64_C(742);
 j0 = j0 + j1;
-i1 = v16;
-store8(p22 + 86, i1);
+i1 = v17;
+store8(p25 + 86, i1);
 j0 = v1;
 j1 = UINT64_C(741);
 j0 = j0 + j1;
-i1 = v17;
-store8(p22 + 85, i1);
+i1 = v18;
+store8(p25 + 85, i1);
 j0 = v1;
 j1 = UINT64_C(740);
 j0 = j0 + j1;
-i1 = v18;
-store8(p22 + 84, i1);
+i1 = v19;
+store8(p25 + 84, i1);
 j0 = v1;
 j1 = UINT64_C(739);
 j0 = j0 + j1;
-i1 = v19;
-store8(p22 + 83, i1);
+i1 = v20;
+store8(p25 + 83, i1);
 j0 = v1;
 j1 = UINT64_C(738);
 j0 = j0 + j1;
 i1 = v3;
-store8(p22 + 82, i1);
+store8(p25 + 82, i1);
 j0 = v1;
 j1 = UINT64_C(737);
 j0 = j0 + j1;
-i1 = v4;
-store8(p22 + 81, i1);
+i1 = v14;
+store8(p25 + 81, i1);
 j0 = v1;
 j1 = UINT64_C(736);
 j0 = j0 + j1;
 i1 = UINT32_C(1);
-store8(p22 + 80, i1);
+store8(p25 + 80, i1);
 goto l3;
 }
 fio2070_trap();
@@ -139174,7 +139233,7 @@ l5:;
 i0 = UINT32_C(0);
 v8 = i0;
 i0 = UINT32_C(2);
-v12 = i0;
+v2 = i0;
 goto l3;
 l4:;
 i0 = UINT32_C(0);
@@ -139186,7 +139245,7 @@ i1 = UINT32_C(0);
 j2 = UINT64_C(384);
 fill(m, j0, i1, j2);
 i0 = UINT32_C(1);
-v12 = i0;
+v2 = i0;
 j0 = v1;
 j1 = UINT64_C(400);
 j0 = j0 + j1;
@@ -139197,134 +139256,134 @@ j0 = v1;
 j1 = UINT64_C(680);
 j0 = j0 + j1;
 j1 = UINT64_C(0);
-p23 = write_at(j0 + UINT64_C(18446744073709551592), m, 88u);
-store64(p23 + 24, j1);
+p26 = write_at(j0 + UINT64_C(18446744073709551592), m, 88u);
+store64(p26 + 24, j1);
 j0 = v1;
 j1 = UINT64_C(672);
 j0 = j0 + j1;
 j1 = UINT64_C(0);
-store64(p23 + 16, j1);
+store64(p26 + 16, j1);
 j0 = v1;
 j1 = UINT64_C(664);
 j0 = j0 + j1;
 j1 = UINT64_C(0);
-store64(p23 + 8, j1);
+store64(p26 + 8, j1);
 j0 = v1;
 j1 = UINT64_C(656);
 j0 = j0 + j1;
 j1 = UINT64_C(0);
-store64(p23 + 0, j1);
+store64(p26 + 0, j1);
 j0 = v1;
 j1 = UINT64_C(689);
 j0 = j0 + j1;
 j1 = UINT64_C(0);
-store64(p23 + 33, j1);
+store64(p26 + 33, j1);
 j0 = v1;
 j1 = UINT64_C(697);
 j0 = j0 + j1;
 j1 = UINT64_C(0);
-store64(p23 + 41, j1);
+store64(p26 + 41, j1);
 j0 = v1;
 j1 = UINT64_C(705);
 j0 = j0 + j1;
 j1 = UINT64_C(0);
-store64(p23 + 49, j1);
+store64(p26 + 49, j1);
 j0 = v1;
 j1 = UINT64_C(713);
 j0 = j0 + j1;
 j1 = UINT64_C(0);
-store64(p23 + 57, j1);
+store64(p26 + 57, j1);
 j0 = v1;
 j1 = UINT64_C(720);
 j0 = j0 + j1;
 j1 = UINT64_C(0);
-store64(p23 + 64, j1);
+store64(p26 + 64, j1);
 j0 = v1;
 j1 = UINT64_C(743);
 j0 = j0 + j1;
-i1 = v15;
-store8(p23 + 87, i1);
+i1 = v16;
+store8(p26 + 87, i1);
 j0 = v1;
 j1 = UINT64_C(742);
 j0 = j0 + j1;
-i1 = v16;
-store8(p23 + 86, i1);
+i1 = v17;
+store8(p26 + 86, i1);
 j0 = v1;
 j1 = UINT64_C(741);
 j0 = j0 + j1;
-i1 = v17;
-store8(p23 + 85, i1);
+i1 = v18;
+store8(p26 + 85, i1);
 j0 = v1;
 j1 = UINT64_C(740);
 j0 = j0 + j1;
-i1 = v18;
-store8(p23 + 84, i1);
+i1 = v19;
+store8(p26 + 84, i1);
 j0 = v1;
 j1 = UINT64_C(739);
 j0 = j0 + j1;
-i1 = v19;
-store8(p23 + 83, i1);
+i1 = v20;
+store8(p26 + 83, i1);
 j0 = v1;
 j1 = UINT64_C(738);
 j0 = j0 + j1;
 i1 = v3;
-store8(p23 + 82, i1);
+store8(p26 + 82, i1);
 j0 = v1;
 j1 = UINT64_C(737);
 j0 = j0 + j1;
-i1 = v4;
-store8(p23 + 81, i1);
+i1 = v14;
+store8(p26 + 81, i1);
 j0 = v1;
 j1 = UINT64_C(736);
 j0 = j0 + j1;
 i1 = UINT32_C(1);
-store8(p23 + 80, i1);
+store8(p26 + 80, i1);
 l3:;
 i0 = UINT32_C(0);
 v4 = i0;
 i0 = UINT32_C(0);
-v2 = i0;
+v12 = i0;
 i0 = UINT32_C(0);
 v3 = i0;
 i0 = UINT32_C(0);
 v11 = i0;
 l2:;
 j0 = v0;
-i1 = v12;
-p24 = write_at(j0, m, 9u);
-store16(p24 + 0, i1);
+i1 = v2;
+p27 = write_at(j0, m, 9u);
+store16(p27 + 0, i1);
 j0 = v0;
 j1 = UINT64_C(6);
 j0 = j0 + j1;
-i1 = v2;
+i1 = v12;
 i2 = UINT32_C(16);
 i1 = i1 >> (i2 & 31);
-store8(p24 + 6, i1);
+store8(p27 + 6, i1);
 j0 = v0;
 j1 = UINT64_C(4);
 j0 = j0 + j1;
-i1 = v2;
-store16(p24 + 4, i1);
+i1 = v12;
+store16(p27 + 4, i1);
 j0 = v0;
 j1 = UINT64_C(8);
 j0 = j0 + j1;
 i1 = v11;
-store8(p24 + 8, i1);
+store8(p27 + 8, i1);
 j0 = v0;
 j1 = UINT64_C(7);
 j0 = j0 + j1;
 i1 = v3;
-store8(p24 + 7, i1);
+store8(p27 + 7, i1);
 j0 = v0;
 j1 = UINT64_C(3);
 j0 = j0 + j1;
 i1 = v4;
-store8(p24 + 3, i1);
+store8(p27 + 3, i1);
 j0 = v0;
 j1 = UINT64_C(2);
 j0 = j0 + j1;
 i1 = v8;
-store8(p24 + 2, i1);
+store8(p27 + 2, i1);
 j0 = v7;
 j1 = UINT64_C(80);
 j0 = j0 + j1;
@@ -145902,10 +145961,10 @@ uint32_t v9 = 0;
 uint32_t v10 = 0;
 uint32_t v11 = 0;
 uint32_t v12 = 0;
-uint64_t v13 = 0;
+uint32_t v13 = 0;
 uint32_t v14 = 0;
 uint32_t v15 = 0;
-uint32_t v16 = 0;
+uint64_t v16 = 0;
 uint32_t v17 = 0;
 uint32_t v18 = 0;
 uint32_t v19 = 0;
@@ -145926,6 +145985,7 @@ uint32_t v33 = 0;
 uint32_t v34 = 0;
 uint32_t v35 = 0;
 uint32_t v36 = 0;
+uint32_t v37 = 0;
 uint32_t i0;
 uint32_t i1;
 uint32_t i2;
@@ -145950,53 +146010,102 @@ v1 = j0;
 j1 = UINT64_C(16);
 i0 = (SIGNED64(j0) < SIGNED64(j1));
 if (!i0) {
-i0 = UINT32_C(0);
-v2 = i0;
 j0 = v1;
+j1 = UINT64_C(8);
+j0 = j0 + j1;
 i1 = UINT32_C(0);
 j2 = UINT64_C(760);
 fill(m, j0, i1, j2);
 j0 = v1;
+j1 = UINT64_C(8);
+j0 = j0 + j1;
 j1 = v0;
 fio_c_log_judge_log_judge_from(m, j0, j1);
 j0 = v1;
-i0 = load8(p1 + 736);
+i0 = load8(p1 + 744);
+v2 = i0;
+j0 = v1;
+i0 = load8(p1 + 696);
 v3 = i0;
 j0 = v1;
-i0 = load8(p1 + 13);
+i0 = load8(p1 + 21);
 v4 = i0;
-i1 = UINT32_C(1);
-i0 = (i0 != i1);
-if (!i0) {
+j0 = v1;
+i0 = load8(p1 + 20);
+v5 = i0;
+j0 = v1;
+i0 = load8(p1 + 19);
+v6 = i0;
+j0 = v1;
+i0 = load8(p1 + 18);
+v7 = i0;
+j0 = v1;
+i0 = load8(p1 + 17);
+v8 = i0;
+j0 = v1;
+i0 = load8(p1 + 16);
+v9 = i0;
+j0 = v1;
+i0 = load8(p1 + 15);
+v10 = i0;
+j0 = v1;
+i0 = load8(p1 + 14);
+v11 = i0;
+j0 = v1;
+i0 = load8(p1 + 13);
+v12 = i0;
 j0 = v1;
 i0 = load8(p1 + 12);
-v5 = i0;
+v13 = i0;
 j0 = v1;
-i0 = load8(p1 + 11);
-v6 = i0;
-j0 = v1;
-i0 = load8(p1 + 10);
-v7 = i0;
-j0 = v1;
-i0 = load8(p1 + 9);
-v8 = i0;
-j0 = v1;
-i0 = load8(p1 + 8);
-v9 = i0;
-j0 = v1;
-i0 = load8(p1 + 7);
-v10 = i0;
-j0 = v1;
-i0 = load8(p1 + 6);
-v11 = i0;
-j0 = v1;
-i0 = load8(p1 + 5);
+i0 = load8(p1 + 766);
+v14 = i0;
+i1 = UINT32_C(1);
+i0 = i0 & i1;
+i0 = (i0 == 0);
+if (!i0) {
+i0 = UINT32_C(2);
+v15 = i0;
+i0 = v4;
+i1 = UINT32_C(255);
+i0 = i0 & i1;
+i1 = UINT32_C(1);
+i0 = (i0 == i1);
+if (i0) { goto l5; }
+i0 = UINT32_C(1);
+v15 = i0;
+i0 = UINT32_C(0);
+v13 = i0;
+i0 = UINT32_C(0);
 v12 = i0;
-j0 = v1;
-i0 = load8(p1 + 4);
-v2 = i0;
+i0 = UINT32_C(0);
+v11 = i0;
+i0 = UINT32_C(0);
+v10 = i0;
+i0 = UINT32_C(0);
+v9 = i0;
+i0 = UINT32_C(0);
+v8 = i0;
+i0 = UINT32_C(0);
+v7 = i0;
+i0 = UINT32_C(0);
+v6 = i0;
+i0 = UINT32_C(0);
+v5 = i0;
 goto l5;
 }
+i0 = UINT32_C(2);
+v15 = i0;
+i0 = v4;
+i1 = UINT32_C(255);
+i0 = i0 & i1;
+i1 = UINT32_C(1);
+i0 = (i0 == i1);
+if (!i0) {
+i0 = UINT32_C(0);
+v13 = i0;
+i0 = UINT32_C(1);
+v15 = i0;
 i0 = UINT32_C(0);
 v12 = i0;
 i0 = UINT32_C(0);
@@ -146013,68 +146122,76 @@ i0 = UINT32_C(0);
 v6 = i0;
 i0 = UINT32_C(0);
 v5 = i0;
-l5:;
-j0 = v1;
-j1 = UINT64_C(689);
-j0 = j0 + j1;
-v13 = j0;
-j0 = v1;
-i0 = load8(p1 + 757);
-v14 = i0;
-j0 = v1;
-i0 = load8(p1 + 756);
-v15 = i0;
-j0 = v1;
-i0 = load32(p1 + 752);
-v16 = i0;
-j0 = v1;
-i0 = load32(p1 + 748);
-v17 = i0;
-j0 = v1;
-i0 = load8(p1 + 745);
-v18 = i0;
-j0 = v1;
-i0 = load8(p1 + 744);
-v19 = i0;
-j0 = v1;
-i0 = load8(p1 + 728);
-v20 = i0;
-j0 = v1;
-i0 = load32(p1 + 724);
-v21 = i0;
-j0 = v1;
-i0 = load8(p1 + 720);
-v22 = i0;
-j0 = v1;
-i0 = load32(p1 + 716);
-v23 = i0;
-j0 = v1;
-i0 = load8(p1 + 712);
-v24 = i0;
-j0 = v1;
-i0 = load8(p1 + 688);
-v25 = i0;
-j0 = v1;
-i0 = load16(p1 + 2);
-v26 = i0;
-j0 = v1;
-i0 = load8(p1 + 0);
-v27 = i0;
+}
 i0 = v3;
 i1 = UINT32_C(255);
 i0 = i0 & i1;
+v3 = i0;
+i1 = UINT32_C(1);
+i2 = v3;
+i3 = UINT32_C(1);
+i2 = (i2 > i3);
+i0 = i2 ? i0 : i1;
+v3 = i0;
+l5:;
+j0 = v1;
+j1 = UINT64_C(697);
+j0 = j0 + j1;
+v16 = j0;
+j0 = v1;
+i0 = load8(p1 + 765);
+v4 = i0;
+j0 = v1;
+i0 = load8(p1 + 764);
+v17 = i0;
+j0 = v1;
+i0 = load32(p1 + 760);
+v18 = i0;
+j0 = v1;
+i0 = load32(p1 + 756);
+v19 = i0;
+j0 = v1;
+i0 = load8(p1 + 753);
+v20 = i0;
+j0 = v1;
+i0 = load8(p1 + 752);
+v21 = i0;
+j0 = v1;
+i0 = load8(p1 + 736);
+v22 = i0;
+j0 = v1;
+i0 = load32(p1 + 732);
+v23 = i0;
+j0 = v1;
+i0 = load8(p1 + 728);
+v24 = i0;
+j0 = v1;
+i0 = load32(p1 + 724);
+v25 = i0;
+j0 = v1;
+i0 = load8(p1 + 720);
+v26 = i0;
+j0 = v1;
+i0 = load16(p1 + 10);
+v27 = i0;
+j0 = v1;
+i0 = load8(p1 + 8);
 v28 = i0;
+i0 = v2;
+i1 = UINT32_C(255);
+i0 = i0 & i1;
+v29 = i0;
 if (i0) { goto l3; }
 j0 = v1;
 j1 = UINT64_C(800);
 j0 = j0 + j1;
 j1 = v1;
-j2 = UINT64_C(16);
+j2 = UINT64_C(24);
 j1 = j1 + j2;
 j2 = UINT64_C(672);
 copy(m, j0, j1, j2);
 i0 = UINT32_C(0);
-v3 = i0;
+v2 = i0;
 j0 = v1;
 i1 = UINT32_C(0);
 store32(p1 + 768, i1);
@@ -146082,25 +146199,17 @@ j0 = v1;
 i1 = UINT32_C(0);
 store8(p1 + 772, i1);
 j0 = v1;
-i1 = UINT32_C(0);
-store32(p1 + 760, i1);
-j0 = v1;
-i1 = UINT32_C(0);
-store8(p1 + 764, i1);
-j0 = v1;
-j1 = v13;
-j1 = load64(p1 + 704);
+j1 = v16;
+j1 = load64(p1 + 712);
 store64(p1 + 791, j1);
 j0 = v1;
-j1 = v13;
-j1 = load64(p1 + 697);
+j1 = v16;
+j1 = load64(p1 + 705);
 store64(p1 + 784, j1);
 j0 = v1;
-j1 = v13;
-j1 = load64(p1 + 689);
+j1 = v16;
+j1 = load64(p1 + 697);
 store64(p1 + 776, j1);
-i0 = UINT32_C(0);
-v28 = i0;
 i0 = UINT32_C(0);
 v29 = i0;
 i0 = UINT32_C(0);
@@ -146113,104 +146222,100 @@ i0 = UINT32_C(0);
 v33 = i0;
 i0 = UINT32_C(0);
 v34 = i0;
+i0 = UINT32_C(0);
+v35 = i0;
 goto l2;
 }
 fio2070_trap();
 l3:;
 j0 = v1;
-p2 = write_at(j0 + UINT64_C(737), m, 62u);
+p2 = write_at(j0 + UINT64_C(745), m, 54u);
 i0 = load8(p2 + 6);
-v33 = i0;
-j0 = v1;
-i0 = load8(p2 + 5);
-v35 = i0;
-j0 = v1;
-i0 = load8(p2 + 4);
-v29 = i0;
-j0 = v1;
-i0 = load8(p2 + 3);
-v30 = i0;
-j0 = v1;
-i0 = load8(p2 + 2);
 v34 = i0;
 j0 = v1;
-i0 = load8(p2 + 1);
+i0 = load8(p2 + 5);
 v36 = i0;
 j0 = v1;
-i0 = load8(p2 + 0);
+i0 = load8(p2 + 4);
+v30 = i0;
+j0 = v1;
+i0 = load8(p2 + 3);
 v31 = i0;
 j0 = v1;
-i1 = UINT32_C(0);
-store8(p2 + 27, i1);
+i0 = load8(p2 + 2);
+v35 = i0;
 j0 = v1;
-i1 = UINT32_C(0);
-store32(p2 + 23, i1);
+i0 = load8(p2 + 1);
+v37 = i0;
+j0 = v1;
+i0 = load8(p2 + 0);
+v32 = i0;
 j0 = v1;
 j1 = UINT64_C(800);
 j0 = j0 + j1;
 j1 = v1;
-j2 = UINT64_C(16);
+j2 = UINT64_C(24);
 j1 = j1 + j2;
 j2 = UINT64_C(672);
 copy(m, j0, j1, j2);
 j0 = v1;
 i1 = UINT32_C(0);
-store32(p2 + 31, i1);
+store32(p2 + 23, i1);
 j0 = v1;
 i1 = UINT32_C(0);
-store8(p2 + 35, i1);
+store8(p2 + 27, i1);
 j0 = v1;
-j1 = v13;
+j1 = v16;
 p3 = read_at(j1, m, 23u);
 j1 = load64(p3 + 15);
-store64(p2 + 54, j1);
+store64(p2 + 46, j1);
 j0 = v1;
-j1 = v13;
+j1 = v16;
 j1 = load64(p3 + 8);
-store64(p2 + 47, j1);
-j0 = v1;
-j1 = v13;
-j1 = load64(p3 + 0);
 store64(p2 + 39, j1);
+j0 = v1;
+j1 = v16;
+j1 = load64(p3 + 0);
+store64(p2 + 31, j1);
 i0 = UINT32_C(1);
-v3 = i0;
+v2 = i0;
 i0 = UINT32_C(0);
-i1 = v31;
+i1 = v32;
 i2 = UINT32_C(1);
 i1 = i1 & i2;
-i2 = v28;
+i2 = v29;
 i3 = UINT32_C(1);
 i2 = (i2 == i3);
 i0 = i2 ? i0 : i1;
-v28 = i0;
-i0 = v29;
+v29 = i0;
+i0 = v30;
 i1 = UINT32_C(0);
-i2 = v30;
+i2 = v31;
 i3 = UINT32_C(255);
 i2 = i2 & i3;
 i3 = UINT32_C(1);
 i2 = (i2 == i3);
-v31 = i2;
+v32 = i2;
 i0 = i2 ? i0 : i1;
-v32 = i0;
+v33 = i0;
+i0 = v35;
+i1 = UINT32_C(0);
+i2 = v37;
+i3 = UINT32_C(255);
+i2 = i2 & i3;
+i3 = UINT32_C(1);
+i2 = (i2 == i3);
+v30 = i2;
+i0 = i2 ? i0 : i1;
+v31 = i0;
 i0 = v34;
-i1 = UINT32_C(0);
-i2 = v36;
-i3 = UINT32_C(255);
-i2 = i2 & i3;
-i3 = UINT32_C(1);
-i2 = (i2 == i3);
-v29 = i2;
-i0 = i2 ? i0 : i1;
-v30 = i0;
-i0 = v33;
+i1 = UINT32_C(1);
+i0 = i0 & i1;
+v35 = i0;
+i0 = v36;
 i1 = UINT32_C(1);
 i0 = i0 & i1;
 v34 = i0;
-i0 = v35;
-i1 = UINT32_C(1);
-i0 = i0 & i1;
-v33 = i0;
 l2:;
 j0 = v0;
 j1 = v1;
@@ -146219,18 +146324,24 @@ j1 = j1 + j2;
 j2 = UINT64_C(672);
 copy(m, j0, j1, j2);
 j0 = v0;
-i1 = v20;
+i1 = v3;
 p4 = write_at(j0 + UINT64_C(672), m, 80u);
+store8(p4 + 0, i1);
+j0 = v0;
+i1 = v22;
 store8(p4 + 50, i1);
 j0 = v0;
 i1 = UINT32_C(0);
 store32(p4 + 36, i1);
 j0 = v0;
-i1 = v26;
+i1 = v27;
 store16(p4 + 34, i1);
 j0 = v0;
-i1 = v27;
+i1 = v28;
 store8(p4 + 33, i1);
+j0 = v0;
+i1 = v15;
+store8(p4 + 32, i1);
 j0 = v0;
 i1 = v7;
 store8(p4 + 30, i1);
@@ -146242,78 +146353,59 @@ i1 = v11;
 store8(p4 + 26, i1);
 j0 = v0;
 j1 = v1;
-p5 = read_at(j1 + UINT64_C(760), m, 39u);
-j1 = load64(p5 + 16);
+p5 = read_at(j1 + UINT64_C(768), m, 31u);
+j1 = load64(p5 + 8);
 store64(p4 + 1, j1);
 j0 = v0;
 j1 = v1;
-j1 = load64(p5 + 24);
+j1 = load64(p5 + 16);
 store64(p4 + 9, j1);
 j0 = v0;
 j1 = v1;
-j1 = load64(p5 + 31);
+j1 = load64(p5 + 23);
 store64(p4 + 16, j1);
-j0 = v0;
-i1 = v22;
-i2 = UINT32_C(255);
-i1 = i1 & i2;
-i2 = UINT32_C(1);
-i1 = (i1 == i2);
-v7 = i1;
-store8(p4 + 49, i1);
 j0 = v0;
 i1 = v24;
 i2 = UINT32_C(255);
 i1 = i1 & i2;
 i2 = UINT32_C(1);
 i1 = (i1 == i2);
-v8 = i1;
-store8(p4 + 48, i1);
+v3 = i1;
+store8(p4 + 49, i1);
 j0 = v0;
-i1 = UINT32_C(2);
+i1 = v26;
+i2 = UINT32_C(255);
+i1 = i1 & i2;
 i2 = UINT32_C(1);
-i3 = v4;
-i4 = UINT32_C(1);
-i3 = (i3 == i4);
-i1 = i3 ? i1 : i2;
-store8(p4 + 32, i1);
+i1 = (i1 == i2);
+v7 = i1;
+store8(p4 + 48, i1);
 j0 = v0;
 i1 = v10;
 i2 = UINT32_C(255);
 i1 = i1 & i2;
 i2 = UINT32_C(1);
 i1 = (i1 == i2);
-v4 = i1;
+v8 = i1;
 store8(p4 + 27, i1);
 j0 = v0;
-i1 = v2;
+i1 = v13;
 i2 = UINT32_C(255);
 i1 = i1 & i2;
 i2 = UINT32_C(1);
 i1 = (i1 == i2);
-v2 = i1;
-store8(p4 + 24, i1);
-j0 = v0;
-i1 = v25;
-i2 = UINT32_C(255);
-i1 = i1 & i2;
 v10 = i1;
-i2 = UINT32_C(1);
-i3 = v10;
-i4 = UINT32_C(1);
-i3 = (i3 > i4);
-i1 = i3 ? i1 : i2;
-store8(p4 + 0, i1);
-j0 = v0;
-i1 = v21;
-i2 = UINT32_C(0);
-i3 = v7;
-i1 = i3 ? i1 : i2;
-store32(p4 + 44, i1);
+store8(p4 + 24, i1);
 j0 = v0;
 i1 = v23;
 i2 = UINT32_C(0);
-i3 = v8;
+i3 = v3;
+i1 = i3 ? i1 : i2;
+store32(p4 + 44, i1);
+j0 = v0;
+i1 = v25;
+i2 = UINT32_C(0);
+i3 = v7;
 i1 = i3 ? i1 : i2;
 store32(p4 + 40, i1);
 j0 = v0;
@@ -146331,77 +146423,75 @@ store8(p4 + 31, i1);
 j0 = v0;
 i1 = v9;
 i2 = UINT32_C(0);
-i3 = v4;
+i3 = v8;
 i1 = i3 ? i1 : i2;
 store8(p4 + 28, i1);
 j0 = v0;
 i1 = v12;
 i2 = UINT32_C(0);
-i3 = v2;
+i3 = v10;
 i1 = i3 ? i1 : i2;
 store8(p4 + 25, i1);
 j0 = v0;
-i1 = v17;
+i1 = v19;
 store32(p4 + 56, i1);
 j0 = v0;
-i1 = v16;
+i1 = v18;
 store32(p4 + 60, i1);
 j0 = v0;
-i1 = v34;
-store8(p4 + 74, i1);
-j0 = v0;
-i1 = v33;
-store8(p4 + 73, i1);
-j0 = v0;
-i1 = v32;
-store8(p4 + 72, i1);
-j0 = v0;
-i1 = v31;
-store8(p4 + 71, i1);
-j0 = v0;
-i1 = v30;
-store8(p4 + 70, i1);
-j0 = v0;
-i1 = v29;
-store8(p4 + 69, i1);
-j0 = v0;
-i1 = v28;
-store8(p4 + 68, i1);
-j0 = v0;
-i1 = v3;
-store8(p4 + 67, i1);
+i1 = UINT32_C(0);
+store32(p4 + 76, i1);
 j0 = v0;
 i1 = v14;
+store8(p4 + 75, i1);
+j0 = v0;
+i1 = v35;
+store8(p4 + 74, i1);
+j0 = v0;
+i1 = v34;
+store8(p4 + 73, i1);
+j0 = v0;
+i1 = v33;
+store8(p4 + 72, i1);
+j0 = v0;
+i1 = v32;
+store8(p4 + 71, i1);
+j0 = v0;
+i1 = v31;
+store8(p4 + 70, i1);
+j0 = v0;
+i1 = v30;
+store8(p4 + 69, i1);
+j0 = v0;
+i1 = v29;
+store8(p4 + 68, i1);
+j0 = v0;
+i1 = v2;
+store8(p4 + 67, i1);
+j0 = v0;
+i1 = v4;
 store8(p4 + 66, i1);
 j0 = v0;
-i1 = v15;
+i1 = v17;
 store8(p4 + 65, i1);
 j0 = v0;
-i1 = v18;
+i1 = v20;
 i2 = UINT32_C(1);
 i1 = i1 + i2;
 i2 = UINT32_C(0);
-i3 = v19;
+i3 = v21;
 i4 = UINT32_C(255);
 i3 = i3 & i4;
 i1 = i3 ? i1 : i2;
 store8(p4 + 64, i1);
 j0 = v0;
 j1 = v1;
-i1 = load8(p5 + 12);
+i1 = load8(p5 + 4);
 store8(p4 + 55, i1);
 j0 = v0;
 j1 = v1;
-i1 = load32(p5 + 8);
-store32(p4 + 51, i1);
-j0 = v0;
-j1 = v1;
 i1 = load32(p5 + 0);
-store32(p4 + 75, i1);
-j0 = v0;
-j1 = v1;
-i1 = load8(p5 + 4);
-store8(p4 + 79, i1);
+store32(p4 + 51, i1);
 j0 = v1;
 j1 = UINT64_C(1472);
 j0 = j0 + j1;
@@ -146453,6 +146543,7 @@ uint32_t v28 = 0;
 uint32_t v29 = 0;
 uint32_t v30 = 0;
 uint32_t v31 = 0;
+uint32_t v32 = 0;
 uint32_t i0;
 uint32_t i1;
 uint32_t i2;
@@ -146479,86 +146570,93 @@ if (!i0) {
 i0 = UINT32_C(0);
 v2 = i0;
 j0 = v1;
+j1 = UINT64_C(8);
+j0 = j0 + j1;
 i1 = UINT32_C(0);
 j2 = UINT64_C(760);
 fill(m, j0, i1, j2);
 j0 = v1;
+j1 = UINT64_C(8);
+j0 = j0 + j1;
 j1 = v0;
 fio_c_log_judge_log_judge_from(m, j0, j1);
 j0 = v1;
-i0 = load8(p1 + 756);
+i0 = load8(p1 + 766);
 v3 = i0;
 j0 = v1;
-i0 = load32(p1 + 752);
+i0 = load8(p1 + 764);
 v4 = i0;
 j0 = v1;
-i0 = load32(p1 + 748);
+i0 = load32(p1 + 760);
 v5 = i0;
 j0 = v1;
-i0 = load8(p1 + 745);
+i0 = load32(p1 + 756);
 v6 = i0;
 j0 = v1;
-i0 = load8(p1 + 744);
+i0 = load8(p1 + 753);
 v7 = i0;
 j0 = v1;
-i0 = load8(p1 + 728);
+i0 = load8(p1 + 752);
 v8 = i0;
 j0 = v1;
-i0 = load32(p1 + 724);
+i0 = load8(p1 + 736);
 v9 = i0;
 j0 = v1;
-i0 = load8(p1 + 720);
+i0 = load32(p1 + 732);
 v10 = i0;
 j0 = v1;
-i0 = load32(p1 + 716);
+i0 = load8(p1 + 728);
 v11 = i0;
 j0 = v1;
-i0 = load8(p1 + 712);
+i0 = load32(p1 + 724);
 v12 = i0;
 j0 = v1;
-i0 = load8(p1 + 13);
+i0 = load8(p1 + 720);
 v13 = i0;
 j0 = v1;
-i0 = load8(p1 + 12);
+i0 = load8(p1 + 21);
 v14 = i0;
 j0 = v1;
-i0 = load8(p1 + 11);
+i0 = load8(p1 + 20);
 v15 = i0;
 j0 = v1;
-i0 = load8(p1 + 10);
+i0 = load8(p1 + 19);
 v16 = i0;
 j0 = v1;
-i0 = load8(p1 + 9);
+i0 = load8(p1 + 18);
 v17 = i0;
 j0 = v1;
-i0 = load8(p1 + 8);
+i0 = load8(p1 + 17);
 v18 = i0;
 j0 = v1;
-i0 = load8(p1 + 7);
+i0 = load8(p1 + 16);
 v19 = i0;
 j0 = v1;
-i0 = load8(p1 + 6);
+i0 = load8(p1 + 15);
 v20 = i0;
 j0 = v1;
-i0 = load8(p1 + 5);
+i0 = load8(p1 + 14);
 v21 = i0;
 j0 = v1;
-i0 = load8(p1 + 4);
+i0 = load8(p1 + 13);
 v22 = i0;
 j0 = v1;
-i0 = load16(p1 + 2);
+i0 = load8(p1 + 12);
 v23 = i0;
 j0 = v1;
-i0 = load8(p1 + 0);
+i0 = load16(p1 + 10);
 v24 = i0;
 j0 = v1;
-i0 = load8(p1 + 736);
+i0 = load8(p1 + 8);
+v25 = i0;
+j0 = v1;
+i0 = load8(p1 + 744);
 if (i0) { goto l3; }
 j0 = v1;
 j1 = UINT64_C(776);
 j0 = j0 + j1;
 j1 = v1;
-j2 = UINT64_C(16);
+j2 = UINT64_C(24);
 j1 = j1 + j2;
 j2 = UINT64_C(696);
 copy(m, j0, j1, j2);
@@ -146568,14 +146666,6 @@ store8(p1 + 772, i1);
 j0 = v1;
 i1 = UINT32_C(0);
 store32(p1 + 768, i1);
-j0 = v1;
-i1 = UINT32_C(0);
-store32(p1 + 760, i1);
-j0 = v1;
-i1 = UINT32_C(0);
-store8(p1 + 764, i1);
-i0 = UINT32_C(0);
-v25 = i0;
 i0 = UINT32_C(0);
 v26 = i0;
 i0 = UINT32_C(0);
@@ -146588,80 +146678,76 @@ i0 = UINT32_C(0);
 v30 = i0;
 i0 = UINT32_C(0);
 v31 = i0;
+i0 = UINT32_C(0);
+v32 = i0;
 goto l2;
 }
 fio2070_trap();
 l3:;
 j0 = v1;
-i1 = UINT32_C(0);
-p2 = write_at(j0 + UINT64_C(737), m, 36u);
-store32(p2 + 23, i1);
-j0 = v1;
-i1 = UINT32_C(0);
-store8(p2 + 27, i1);
-j0 = v1;
+p2 = write_at(j0 + UINT64_C(745), m, 28u);
 i0 = load8(p2 + 0);
 v2 = i0;
 j0 = v1;
 i0 = load8(p2 + 5);
-v25 = i0;
-j0 = v1;
-i0 = load8(p2 + 6);
-v30 = i0;
-j0 = v1;
-i0 = load8(p2 + 2);
-v27 = i0;
-j0 = v1;
-i0 = load8(p2 + 1);
 v26 = i0;
 j0 = v1;
+i0 = load8(p2 + 6);
+v31 = i0;
+j0 = v1;
+i0 = load8(p2 + 2);
+v28 = i0;
+j0 = v1;
+i0 = load8(p2 + 1);
+v27 = i0;
+j0 = v1;
 i0 = load8(p2 + 4);
-v29 = i0;
+v30 = i0;
 j0 = v1;
 i0 = load8(p2 + 3);
-v28 = i0;
+v29 = i0;
 j0 = v1;
 j1 = UINT64_C(776);
 j0 = j0 + j1;
 j1 = v1;
-j2 = UINT64_C(16);
+j2 = UINT64_C(24);
 j1 = j1 + j2;
 j2 = UINT64_C(696);
 copy(m, j0, j1, j2);
 j0 = v1;
 i1 = UINT32_C(0);
-store8(p2 + 35, i1);
+store8(p2 + 27, i1);
 j0 = v1;
 i1 = UINT32_C(0);
-store32(p2 + 31, i1);
-i0 = v29;
-i1 = UINT32_C(0);
-i2 = v28;
-i3 = UINT32_C(1);
-i2 = (i2 == i3);
-v28 = i2;
-i0 = i2 ? i0 : i1;
-v29 = i0;
-i0 = v27;
-i1 = UINT32_C(0);
-i2 = v26;
-i3 = UINT32_C(1);
-i2 = (i2 == i3);
-v26 = i2;
-i0 = i2 ? i0 : i1;
-v27 = i0;
+store32(p2 + 23, i1);
 i0 = v30;
+i1 = UINT32_C(0);
+i2 = v29;
+i3 = UINT32_C(1);
+i2 = (i2 == i3);
+v29 = i2;
+i0 = i2 ? i0 : i1;
+v30 = i0;
+i0 = v28;
+i1 = UINT32_C(0);
+i2 = v27;
+i3 = UINT32_C(1);
+i2 = (i2 == i3);
+v27 = i2;
+i0 = i2 ? i0 : i1;
+v28 = i0;
+i0 = v31;
+i1 = UINT32_C(1);
+i0 = i0 & i1;
+v32 = i0;
+i0 = v26;
 i1 = UINT32_C(1);
 i0 = i0 & i1;
 v31 = i0;
-i0 = v25;
-i1 = UINT32_C(1);
-i0 = i0 & i1;
-v30 = i0;
 i0 = v2;
 i1 = UINT32_C(1);
 i0 = i0 & i1;
-v25 = i0;
+v26 = i0;
 i0 = UINT32_C(1);
 v2 = i0;
 l2:;
@@ -146672,83 +146758,83 @@ j1 = j1 + j2;
 j2 = UINT64_C(696);
 copy(m, j0, j1, j2);
 j0 = v0;
-i1 = v8;
+i1 = v9;
 p3 = write_at(j0 + UINT64_C(696), m, 56u);
 store8(p3 + 26, i1);
 j0 = v0;
 i1 = UINT32_C(0);
 store32(p3 + 12, i1);
 j0 = v0;
-i1 = v23;
+i1 = v24;
 store16(p3 + 10, i1);
 j0 = v0;
-i1 = v24;
+i1 = v25;
 store8(p3 + 9, i1);
 j0 = v0;
-i1 = v16;
+i1 = v17;
 store8(p3 + 6, i1);
 j0 = v0;
-i1 = v17;
+i1 = v18;
 store8(p3 + 5, i1);
 j0 = v0;
-i1 = v20;
+i1 = v21;
 store8(p3 + 2, i1);
 j0 = v0;
-i1 = v10;
+i1 = v11;
 i2 = UINT32_C(255);
 i1 = i1 & i2;
 i2 = UINT32_C(1);
 i1 = (i1 == i2);
-v8 = i1;
+v9 = i1;
 store8(p3 + 25, i1);
 j0 = v0;
-i1 = v12;
+i1 = v13;
 i2 = UINT32_C(255);
 i1 = i1 & i2;
 i2 = UINT32_C(1);
 i1 = (i1 == i2);
-v10 = i1;
+v11 = i1;
 store8(p3 + 24, i1);
 j0 = v0;
-i1 = v19;
+i1 = v20;
 i2 = UINT32_C(255);
 i1 = i1 & i2;
 i2 = UINT32_C(1);
 i1 = (i1 == i2);
-v12 = i1;
+v13 = i1;
 store8(p3 + 3, i1);
 j0 = v0;
-i1 = v22;
+i1 = v23;
 i2 = UINT32_C(255);
 i1 = i1 & i2;
 i2 = UINT32_C(1);
 i1 = (i1 == i2);
-v16 = i1;
+v17 = i1;
 store8(p3 + 0, i1);
 j0 = v0;
 j1 = v1;
-p4 = read_at(j1 + UINT64_C(760), m, 13u);
-i1 = load32(p4 + 8);
+p4 = read_at(j1 + UINT64_C(768), m, 5u);
+i1 = load32(p4 + 0);
 store32(p3 + 27, i1);
 j0 = v0;
 j1 = v1;
-i1 = load8(p4 + 12);
+i1 = load8(p4 + 4);
 store8(p3 + 31, i1);
 j0 = v0;
-i1 = v9;
+i1 = v10;
 i2 = UINT32_C(0);
-i3 = v8;
+i3 = v9;
 i1 = i3 ? i1 : i2;
 store32(p3 + 20, i1);
 j0 = v0;
-i1 = v11;
+i1 = v12;
 i2 = UINT32_C(0);
-i3 = v10;
+i3 = v11;
 i1 = i3 ? i1 : i2;
 store32(p3 + 16, i1);
 j0 = v0;
 i1 = UINT32_C(66048);
-i2 = v13;
+i2 = v14;
 i3 = UINT32_C(255);
 i2 = i2 & i3;
 i3 = UINT32_C(3);
@@ -146756,49 +146842,55 @@ i2 = i2 << (i3 & 31);
 i1 = i1 >> (i2 & 31);
 store8(p3 + 8, i1);
 j0 = v0;
-i1 = v14;
+i1 = v15;
 i2 = UINT32_C(1);
 i1 = i1 & i2;
 i2 = UINT32_C(1);
 i1 = i1 + i2;
 i2 = UINT32_C(0);
-i3 = v15;
+i3 = v16;
 i4 = UINT32_C(255);
 i3 = i3 & i4;
 i1 = i3 ? i1 : i2;
 store8(p3 + 7, i1);
 j0 = v0;
-i1 = v18;
+i1 = v19;
 i2 = UINT32_C(0);
-i3 = v12;
+i3 = v13;
 i1 = i3 ? i1 : i2;
 store8(p3 + 4, i1);
 j0 = v0;
-i1 = v21;
+i1 = v22;
 i2 = UINT32_C(0);
-i3 = v16;
+i3 = v17;
 i1 = i3 ? i1 : i2;
 store8(p3 + 1, i1);
 j0 = v0;
-i1 = v31;
+i1 = UINT32_C(0);
+store32(p3 + 52, i1);
+j0 = v0;
+i1 = v3;
+store8(p3 + 51, i1);
+j0 = v0;
+i1 = v32;
 store8(p3 + 50, i1);
 j0 = v0;
-i1 = v30;
+i1 = v31;
 store8(p3 + 49, i1);
 j0 = v0;
-i1 = v29;
+i1 = v30;
 store8(p3 + 48, i1);
 j0 = v0;
-i1 = v28;
+i1 = v29;
 store8(p3 + 47, i1);
 j0 = v0;
-i1 = v27;
+i1 = v28;
 store8(p3 + 46, i1);
 j0 = v0;
-i1 = v26;
+i1 = v27;
 store8(p3 + 45, i1);
 j0 = v0;
-i1 = v25;
+i1 = v26;
 store8(p3 + 44, i1);
 j0 = v0;
 i1 = v2;
@@ -146807,32 +146899,24 @@ j0 = v0;
 i1 = UINT32_C(1);
 store8(p3 + 42, i1);
 j0 = v0;
-i1 = v3;
+i1 = v4;
 store8(p3 + 41, i1);
 j0 = v0;
-i1 = v6;
+i1 = v7;
 i2 = UINT32_C(1);
 i1 = i1 + i2;
 i2 = UINT32_C(0);
-i3 = v7;
+i3 = v8;
 i4 = UINT32_C(255);
 i3 = i3 & i4;
 i1 = i3 ? i1 : i2;
 store8(p3 + 40, i1);
 j0 = v0;
-i1 = v4;
+i1 = v5;
 store32(p3 + 36, i1);
 j0 = v0;
-i1 = v5;
+i1 = v6;
 store32(p3 + 32, i1);
-j0 = v0;
-j1 = v1;
-i1 = load32(p4 + 0);
-store32(p3 + 51, i1);
-j0 = v0;
-j1 = v1;
-i1 = load8(p4 + 4);
-store8(p3 + 55, i1);
 j0 = v1;
 j1 = UINT64_C(1472);
 j0 = j0 + j1;
@@ -146869,8 +146953,8 @@ uint32_t v13 = 0;
 uint32_t v14 = 0;
 uint32_t v15 = 0;
 uint32_t v16 = 0;
-uint64_t v17 = 0;
-uint32_t v18 = 0;
+uint32_t v17 = 0;
+uint64_t v18 = 0;
 uint32_t v19 = 0;
 uint32_t v20 = 0;
 uint32_t v21 = 0;
@@ -146889,6 +146973,7 @@ uint32_t v33 = 0;
 uint32_t v34 = 0;
 uint32_t v35 = 0;
 uint32_t v36 = 0;
+uint32_t v37 = 0;
 uint32_t i0;
 uint32_t i1;
 uint32_t i2;
@@ -146902,6 +146987,7 @@ uint8_t *p2;
 uint8_t *p3;
 uint8_t *p4;
 uint8_t *p5;
+uint8_t *p6;
 j0 = m->g0;
 j1 = UINT64_C(1472);
 j0 = j0 - j1;
@@ -146914,55 +147000,60 @@ j1 = UINT64_C(16);
 i0 = (SIGNED64(j0) < SIGNED64(j1));
 if (!i0) {
 j0 = v1;
+j1 = UINT64_C(8);
+j0 = j0 + j1;
 i1 = UINT32_C(0);
 j2 = UINT64_C(760);
 fill(m, j0, i1, j2);
 j0 = v1;
+j1 = UINT64_C(8);
+j0 = j0 + j1;
 j1 = v0;
 fio_c_log_judge_log_judge_from(m, j0, j1);
-i0 = UINT32_C(1);
+j0 = v1;
+i0 = load8(p1 + 766);
 v2 = i0;
 j0 = v1;
-i0 = load8(p1 + 737);
+i0 = load8(p1 + 745);
 v3 = i0;
 j0 = v1;
-i0 = load8(p1 + 736);
+i0 = load8(p1 + 744);
 v4 = i0;
 j0 = v1;
-i0 = load8(p1 + 688);
+i0 = load8(p1 + 696);
 v5 = i0;
 j0 = v1;
-i0 = load8(p1 + 13);
+i0 = load8(p1 + 21);
 v6 = i0;
 j0 = v1;
-i0 = load8(p1 + 12);
+i0 = load8(p1 + 20);
 v7 = i0;
 j0 = v1;
-i0 = load8(p1 + 11);
+i0 = load8(p1 + 19);
 v8 = i0;
 j0 = v1;
-i0 = load8(p1 + 10);
+i0 = load8(p1 + 18);
 v9 = i0;
 j0 = v1;
-i0 = load8(p1 + 9);
+i0 = load8(p1 + 17);
 v10 = i0;
 j0 = v1;
-i0 = load8(p1 + 8);
+i0 = load8(p1 + 16);
 v11 = i0;
 j0 = v1;
-i0 = load8(p1 + 7);
+i0 = load8(p1 + 15);
 v12 = i0;
 j0 = v1;
-i0 = load8(p1 + 6);
+i0 = load8(p1 + 14);
 v13 = i0;
 j0 = v1;
-i0 = load8(p1 + 5);
+i0 = load8(p1 + 13);
 v14 = i0;
 j0 = v1;
-i0 = load8(p1 + 4);
+i0 = load8(p1 + 12);
 v15 = i0;
 j0 = v1;
-i0 = load8(p1 + 756);
+i0 = load8(p1 + 764);
 v16 = i0;
 i1 = UINT32_C(1);
 i0 = i0 & i1;
@@ -146970,21 +147061,30 @@ if (!i0) {
 i0 = v6;
 i1 = UINT32_C(255);
 i0 = i0 & i1;
-i0 = (i0 == 0);
-if (i0) { goto l7; }
-i0 = v6;
-v2 = i0;
-goto l5;
+if (i0) { goto l2; }
+i0 = v2;
+i1 = UINT32_C(1);
+i0 = i0 & i1;
+if (i0) { goto l4; }
+goto l8;
 }
+i0 = v2;
+i1 = UINT32_C(1);
+i0 = i0 & i1;
+if (i0) { goto l5; }
 i0 = v6;
 i1 = UINT32_C(255);
 i0 = i0 & i1;
+v17 = i0;
+i0 = UINT32_C(1);
+v6 = i0;
+i0 = v17;
 i1 = UINT32_C(1);
 i0 = (i0 == i1);
-if (i0) { goto l6; }
-l7:;
+if (i0) { goto l7; }
+l8:;
 i0 = UINT32_C(2);
-v2 = i0;
+v6 = i0;
 i0 = UINT32_C(0);
 v15 = i0;
 i0 = UINT32_C(0);
@@ -147003,7 +147103,7 @@ i0 = UINT32_C(0);
 v8 = i0;
 i0 = UINT32_C(0);
 v7 = i0;
-l6:;
+l7:;
 i0 = v5;
 i1 = UINT32_C(255);
 i0 = i0 & i1;
@@ -147014,6 +147114,42 @@ i3 = UINT32_C(1);
 i2 = (i2 > i3);
 i0 = i2 ? i0 : i1;
 v5 = i0;
+goto l3;
+}
+fio2070_trap();
+l5:;
+i0 = v6;
+i1 = UINT32_C(255);
+i0 = i0 & i1;
+v17 = i0;
+i0 = UINT32_C(1);
+v6 = i0;
+i0 = v17;
+i1 = UINT32_C(1);
+i0 = (i0 == i1);
+if (i0) { goto l3; }
+l4:;
+i0 = UINT32_C(2);
+v6 = i0;
+i0 = UINT32_C(0);
+v15 = i0;
+i0 = UINT32_C(0);
+v14 = i0;
+i0 = UINT32_C(0);
+v13 = i0;
+i0 = UINT32_C(0);
+v12 = i0;
+i0 = UINT32_C(0);
+v11 = i0;
+i0 = UINT32_C(0);
+v10 = i0;
+i0 = UINT32_C(0);
+v9 = i0;
+i0 = UINT32_C(0);
+v8 = i0;
+i0 = UINT32_C(0);
+v7 = i0;
+l3:;
 i0 = UINT32_C(0);
 i1 = v3;
 i2 = v4;
@@ -147023,56 +147159,57 @@ i3 = UINT32_C(1);
 i2 = (i2 == i3);
 i0 = i2 ? i0 : i1;
 v3 = i0;
-l5:;
+l2:;
 j0 = v1;
-j1 = UINT64_C(689);
+j1 = UINT64_C(697);
 j0 = j0 + j1;
-v17 = j0;
+v18 = j0;
 j0 = v1;
-i0 = load8(p1 + 757);
-v6 = i0;
+p2 = read_at(j0 + UINT64_C(8), m, 758u);
+i0 = load8(p2 + 757);
+v17 = i0;
 j0 = v1;
-i0 = load32(p1 + 752);
-v18 = i0;
-j0 = v1;
-i0 = load32(p1 + 748);
+i0 = load32(p2 + 752);
 v19 = i0;
 j0 = v1;
-i0 = load8(p1 + 745);
+i0 = load32(p2 + 748);
 v20 = i0;
 j0 = v1;
-i0 = load8(p1 + 744);
+i0 = load8(p2 + 745);
 v21 = i0;
 j0 = v1;
-i0 = load8(p1 + 728);
+i0 = load8(p2 + 744);
 v22 = i0;
 j0 = v1;
-i0 = load32(p1 + 724);
+i0 = load8(p2 + 728);
 v23 = i0;
 j0 = v1;
-i0 = load8(p1 + 720);
+i0 = load32(p2 + 724);
 v24 = i0;
 j0 = v1;
-i0 = load32(p1 + 716);
+i0 = load8(p2 + 720);
 v25 = i0;
 j0 = v1;
-i0 = load8(p1 + 712);
+i0 = load32(p2 + 716);
 v26 = i0;
 j0 = v1;
-i0 = load16(p1 + 2);
+i0 = load8(p2 + 712);
 v27 = i0;
 j0 = v1;
-i0 = load8(p1 + 0);
+i0 = load16(p2 + 2);
 v28 = i0;
+j0 = v1;
+i0 = load8(p2 + 0);
+v29 = i0;
 i0 = v4;
 i1 = UINT32_C(255);
 i0 = i0 & i1;
-if (i0) { goto l3; }
+if (!i0) {
 j0 = v1;
 j1 = UINT64_C(800);
 j0 = j0 + j1;
 j1 = v1;
-j2 = UINT64_C(16);
+j2 = UINT64_C(24);
 j1 = j1 + j2;
 j2 = UINT64_C(672);
 copy(m, j0, j1, j2);
@@ -147080,32 +147217,25 @@ i0 = UINT32_C(0);
 v4 = i0;
 j0 = v1;
 i1 = UINT32_C(0);
-store32(p1 + 768, i1);
+p3 = write_at(j0 + UINT64_C(768), m, 31u);
+store32(p3 + 0, i1);
 j0 = v1;
 i1 = UINT32_C(0);
-store8(p1 + 772, i1);
+store8(p3 + 4, i1);
 j0 = v1;
-i1 = UINT32_C(0);
-store32(p1 + 760, i1);
+j1 = v18;
+j1 = load64(p2 + 704);
+store64(p3 + 23, j1);
 j0 = v1;
-i1 = UINT32_C(0);
-store8(p1 + 764, i1);
+j1 = v18;
+j1 = load64(p2 + 697);
+store64(p3 + 16, j1);
 j0 = v1;
-j1 = v17;
-j1 = load64(p1 + 704);
-store64(p1 + 791, j1);
-j0 = v1;
-j1 = v17;
-j1 = load64(p1 + 697);
-store64(p1 + 784, j1);
-j0 = v1;
-j1 = v17;
-j1 = load64(p1 + 689);
-store64(p1 + 776, j1);
+j1 = v18;
+j1 = load64(p2 + 689);
+store64(p3 + 8, j1);
 i0 = UINT32_C(0);
 v3 = i0;
-i0 = UINT32_C(0);
-v29 = i0;
 i0 = UINT32_C(0);
 v30 = i0;
 i0 = UINT32_C(0);
@@ -147116,97 +147246,90 @@ i0 = UINT32_C(0);
 v33 = i0;
 i0 = UINT32_C(0);
 v34 = i0;
-goto l2;
-}
-fio2070_trap();
-l3:;
-j0 = v1;
-p2 = write_at(j0 + UINT64_C(738), m, 61u);
-i0 = load8(p2 + 5);
-v33 = i0;
-j0 = v1;
-i0 = load8(p2 + 4);
+i0 = UINT32_C(0);
 v35 = i0;
+goto l10;
+}
 j0 = v1;
-i0 = load8(p2 + 3);
-v29 = i0;
-j0 = v1;
-i0 = load8(p2 + 2);
-v30 = i0;
-j0 = v1;
-i0 = load8(p2 + 1);
+i0 = load8(p2 + 743);
 v34 = i0;
 j0 = v1;
-i0 = load8(p2 + 0);
+i0 = load8(p2 + 742);
 v36 = i0;
 j0 = v1;
-i1 = UINT32_C(0);
-store8(p2 + 26, i1);
+i0 = load8(p2 + 741);
+v30 = i0;
 j0 = v1;
-i1 = UINT32_C(0);
-store32(p2 + 22, i1);
+i0 = load8(p2 + 740);
+v31 = i0;
+j0 = v1;
+i0 = load8(p2 + 739);
+v35 = i0;
+j0 = v1;
+i0 = load8(p2 + 738);
+v37 = i0;
 j0 = v1;
 j1 = UINT64_C(800);
 j0 = j0 + j1;
 j1 = v1;
-j2 = UINT64_C(16);
+j2 = UINT64_C(24);
 j1 = j1 + j2;
 j2 = UINT64_C(672);
 copy(m, j0, j1, j2);
 j0 = v1;
 i1 = UINT32_C(0);
-store32(p2 + 30, i1);
+p4 = write_at(j0 + UINT64_C(768), m, 31u);
+store32(p4 + 0, i1);
 j0 = v1;
 i1 = UINT32_C(0);
-store8(p2 + 34, i1);
+store8(p4 + 4, i1);
 j0 = v1;
-j1 = v17;
-p3 = read_at(j1, m, 23u);
-j1 = load64(p3 + 15);
-store64(p2 + 53, j1);
+j1 = v18;
+j1 = load64(p2 + 704);
+store64(p4 + 23, j1);
 j0 = v1;
-j1 = v17;
-j1 = load64(p3 + 8);
-store64(p2 + 46, j1);
+j1 = v18;
+j1 = load64(p2 + 697);
+store64(p4 + 16, j1);
 j0 = v1;
-j1 = v17;
-j1 = load64(p3 + 0);
-store64(p2 + 38, j1);
+j1 = v18;
+j1 = load64(p2 + 689);
+store64(p4 + 8, j1);
 i0 = UINT32_C(1);
 v4 = i0;
-i0 = v29;
+i0 = v30;
 i1 = UINT32_C(0);
-i2 = v30;
+i2 = v31;
 i3 = UINT32_C(255);
 i2 = i2 & i3;
 i3 = UINT32_C(1);
 i2 = (i2 == i3);
-v31 = i2;
+v32 = i2;
 i0 = i2 ? i0 : i1;
-v32 = i0;
+v33 = i0;
+i0 = v35;
+i1 = UINT32_C(0);
+i2 = v37;
+i3 = UINT32_C(255);
+i2 = i2 & i3;
+i3 = UINT32_C(1);
+i2 = (i2 == i3);
+v30 = i2;
+i0 = i2 ? i0 : i1;
+v31 = i0;
 i0 = v34;
-i1 = UINT32_C(0);
-i2 = v36;
-i3 = UINT32_C(255);
-i2 = i2 & i3;
-i3 = UINT32_C(1);
-i2 = (i2 == i3);
-v29 = i2;
-i0 = i2 ? i0 : i1;
-v30 = i0;
-i0 = v33;
+i1 = UINT32_C(1);
+i0 = i0 & i1;
+v35 = i0;
+i0 = v36;
 i1 = UINT32_C(1);
 i0 = i0 & i1;
 v34 = i0;
-i0 = v35;
-i1 = UINT32_C(1);
-i0 = i0 & i1;
-v33 = i0;
 i0 = v3;
 i1 = UINT32_C(1);
 i0 = i0 & i1;
 v3 = i0;
-l2:;
+l10:;
 j0 = v0;
 j1 = v1;
 j2 = UINT64_C(800);
@@ -147215,58 +147338,58 @@ j2 = UINT64_C(672);
 copy(m, j0, j1, j2);
 j0 = v0;
 i1 = v5;
-p4 = write_at(j0 + UINT64_C(672), m, 80u);
-store8(p4 + 0, i1);
+p5 = write_at(j0 + UINT64_C(672), m, 80u);
+store8(p5 + 0, i1);
 j0 = v0;
-i1 = v22;
-store8(p4 + 50, i1);
+i1 = v23;
+store8(p5 + 50, i1);
 j0 = v0;
 i1 = UINT32_C(0);
-store32(p4 + 36, i1);
-j0 = v0;
-i1 = v27;
-store16(p4 + 34, i1);
+store32(p5 + 36, i1);
 j0 = v0;
 i1 = v28;
-store8(p4 + 33, i1);
+store16(p5 + 34, i1);
+j0 = v0;
+i1 = v29;
+store8(p5 + 33, i1);
 j0 = v0;
 i1 = v9;
-store8(p4 + 30, i1);
+store8(p5 + 30, i1);
 j0 = v0;
 i1 = v10;
-store8(p4 + 29, i1);
+store8(p5 + 29, i1);
 j0 = v0;
 i1 = v13;
-store8(p4 + 26, i1);
+store8(p5 + 26, i1);
 j0 = v0;
 j1 = v1;
-p5 = read_at(j1 + UINT64_C(760), m, 39u);
-j1 = load64(p5 + 16);
-store64(p4 + 1, j1);
+p6 = read_at(j1 + UINT64_C(768), m, 31u);
+j1 = load64(p6 + 8);
+store64(p5 + 1, j1);
 j0 = v0;
 j1 = v1;
-j1 = load64(p5 + 24);
-store64(p4 + 9, j1);
+j1 = load64(p6 + 16);
+store64(p5 + 9, j1);
 j0 = v0;
 j1 = v1;
-j1 = load64(p5 + 31);
-store64(p4 + 16, j1);
+j1 = load64(p6 + 23);
+store64(p5 + 16, j1);
 j0 = v0;
-i1 = v24;
+i1 = v25;
 i2 = UINT32_C(255);
 i1 = i1 & i2;
 i2 = UINT32_C(1);
 i1 = (i1 == i2);
 v5 = i1;
-store8(p4 + 49, i1);
+store8(p5 + 49, i1);
 j0 = v0;
-i1 = v26;
+i1 = v27;
 i2 = UINT32_C(255);
 i1 = i1 & i2;
 i2 = UINT32_C(1);
 i1 = (i1 == i2);
 v9 = i1;
-store8(p4 + 48, i1);
+store8(p5 + 48, i1);
 j0 = v0;
 i1 = v12;
 i2 = UINT32_C(255);
@@ -147274,7 +147397,7 @@ i1 = i1 & i2;
 i2 = UINT32_C(1);
 i1 = (i1 == i2);
 v10 = i1;
-store8(p4 + 27, i1);
+store8(p5 + 27, i1);
 j0 = v0;
 i1 = v15;
 i2 = UINT32_C(255);
@@ -147282,29 +147405,29 @@ i1 = i1 & i2;
 i2 = UINT32_C(1);
 i1 = (i1 == i2);
 v12 = i1;
-store8(p4 + 24, i1);
+store8(p5 + 24, i1);
 j0 = v0;
-i1 = v23;
+i1 = v24;
 i2 = UINT32_C(0);
 i3 = v5;
 i1 = i3 ? i1 : i2;
-store32(p4 + 44, i1);
+store32(p5 + 44, i1);
 j0 = v0;
-i1 = v25;
+i1 = v26;
 i2 = UINT32_C(0);
 i3 = v9;
 i1 = i3 ? i1 : i2;
-store32(p4 + 40, i1);
+store32(p5 + 40, i1);
 j0 = v0;
 i1 = UINT32_C(2);
 i2 = UINT32_C(1);
-i3 = v2;
+i3 = v6;
 i4 = UINT32_C(255);
 i3 = i3 & i4;
 i4 = UINT32_C(1);
 i3 = (i3 == i4);
 i1 = i3 ? i1 : i2;
-store8(p4 + 32, i1);
+store8(p5 + 32, i1);
 j0 = v0;
 i1 = v7;
 i2 = UINT32_C(1);
@@ -147316,81 +147439,79 @@ i3 = v8;
 i4 = UINT32_C(255);
 i3 = i3 & i4;
 i1 = i3 ? i1 : i2;
-store8(p4 + 31, i1);
+store8(p5 + 31, i1);
 j0 = v0;
 i1 = v11;
 i2 = UINT32_C(0);
 i3 = v10;
 i1 = i3 ? i1 : i2;
-store8(p4 + 28, i1);
+store8(p5 + 28, i1);
 j0 = v0;
 i1 = v14;
 i2 = UINT32_C(0);
 i3 = v12;
 i1 = i3 ? i1 : i2;
-store8(p4 + 25, i1);
-j0 = v0;
-i1 = v19;
-store32(p4 + 56, i1);
-j0 = v0;
-i1 = v18;
-store32(p4 + 60, i1);
-j0 = v0;
-i1 = v34;
-store8(p4 + 74, i1);
-j0 = v0;
-i1 = v33;
-store8(p4 + 73, i1);
-j0 = v0;
-i1 = v32;
-store8(p4 + 72, i1);
-j0 = v0;
-i1 = v31;
-store8(p4 + 71, i1);
-j0 = v0;
-i1 = v30;
-store8(p4 + 70, i1);
-j0 = v0;
-i1 = v29;
-store8(p4 + 69, i1);
-j0 = v0;
-i1 = v3;
-store8(p4 + 68, i1);
-j0 = v0;
-i1 = v4;
-store8(p4 + 67, i1);
-j0 = v0;
-i1 = v6;
-store8(p4 + 66, i1);
-j0 = v0;
-i1 = v16;
-store8(p4 + 65, i1);
+store8(p5 + 25, i1);
 j0 = v0;
 i1 = v20;
+store32(p5 + 56, i1);
+j0 = v0;
+i1 = v19;
+store32(p5 + 60, i1);
+j0 = v0;
+i1 = UINT32_C(0);
+store32(p5 + 76, i1);
+j0 = v0;
+i1 = v2;
+store8(p5 + 75, i1);
+j0 = v0;
+i1 = v35;
+store8(p5 + 74, i1);
+j0 = v0;
+i1 = v34;
+store8(p5 + 73, i1);
+j0 = v0;
+i1 = v33;
+store8(p5 + 72, i1);
+j0 = v0;
+i1 = v32;
+store8(p5 + 71, i1);
+j0 = v0;
+i1 = v31;
+store8(p5 + 70, i1);
+j0 = v0;
+i1 = v30;
+store8(p5 + 69, i1);
+j0 = v0;
+i1 = v3;
+store8(p5 + 68, i1);
+j0 = v0;
+i1 = v4;
+store8(p5 + 67, i1);
+j0 = v0;
+i1 = v17;
+store8(p5 + 66, i1);
+j0 = v0;
+i1 = v16;
+store8(p5 + 65, i1);
+j0 = v0;
+i1 = v21;
 i2 = UINT32_C(1);
 i1 = i1 + i2;
 i2 = UINT32_C(0);
-i3 = v21;
+i3 = v22;
 i4 = UINT32_C(255);
 i3 = i3 & i4;
 i1 = i3 ? i1 : i2;
-store8(p4 + 64, i1);
+store8(p5 + 64, i1);
 j0 = v0;
 j1 = v1;
-i1 = load8(p5 + 12);
-store8(p4 + 55, i1);
+i1 = load8(p6 + 4);
+store8(p5 + 55, i1);
 j0 = v0;
 j1 = v1;
-i1 = load32(p5 + 8);
-store32(p4 + 51, i1);
-j0 = v0;
-j1 = v1;
-i1 = load32(p5 + 0);
-store32(p4 + 75, i1);
-j0 = v0;
-j1 = v1;
-i1 = load8(p5 + 4);
-store8(p4 + 79, i1);
+i1 = load32(p6 + 0);
+store32(p5 + 51, i1);
 j0 = v1;
 j1 = UINT64_C(1472);
 j0 = j0 + j1;
@@ -147429,15 +147550,15 @@ static uint32_t proved_log_judge_start(struct machine *m, uint64_t v0, uint32_t 
 uint64_t v4 = 0;
 uint32_t v5 = 0;
 uint32_t v6 = 0;
-uint32_t v7 = 0;
+uint64_t v7 = 0;
 uint32_t v8 = 0;
 uint32_t v9 = 0;
-uint64_t v10 = 0;
+uint32_t v10 = 0;
+uint32_t v11 = 0;
 uint32_t i0;
 uint32_t i1;
 uint32_t i2;
 uint32_t i3;
-uint32_t i4;
 uint64_t j0;
 uint64_t j1;
 uint64_t j2;
@@ -147445,9 +147566,9 @@ uint32_t r = 0;
 uint8_t *p1;
 uint8_t *p2;
 j0 = m->g0;
-j1 = UINT64_C(2080);
+j1 = UINT64_C(1360);
 j0 = j0 - j1;
-p1 = write_at(j0, m, 2080u);
+p1 = write_at(j0, m, 1360u);
 v4 = j0;
 m->g0 = j0;
 j0 = v4;
@@ -147473,169 +147594,199 @@ i1 = UINT32_C(255);
 i0 = i0 & i1;
 i0 = (i0 == 0);
 if (!i0) {
+j0 = UINT64_C(0);
+v7 = j0;
+j0 = v4;
+j1 = UINT64_C(0);
+store64(p1 + 648, j1);
+j0 = v4;
+j1 = UINT64_C(0);
+store64(p1 + 656, j1);
+j0 = v4;
+j1 = UINT64_C(0);
+store64(p1 + 664, j1);
+j0 = v4;
+j1 = UINT64_C(0);
+store64(p1 + 672, j1);
+j0 = v4;
+j1 = UINT64_C(0);
+store64(p1 + 600, j1);
+j0 = v4;
+j1 = UINT64_C(0);
+store64(p1 + 608, j1);
+j0 = v4;
+j1 = UINT64_C(0);
+store64(p1 + 616, j1);
+j0 = v4;
+j1 = UINT64_C(0);
+store64(p1 + 624, j1);
+j0 = v4;
+j1 = UINT64_C(0);
+store64(p1 + 632, j1);
+j0 = v4;
+j1 = UINT64_C(0);
+store64(p1 + 640, j1);
 i0 = v2;
 i1 = UINT32_C(255);
 i0 = i0 & i1;
-v7 = i0;
-i1 = UINT32_C(3);
-i0 = (i0 < i1);
-v8 = i0;
-i0 = UINT32_C(2);
-v9 = i0;
-i0 = UINT32_C(0);
-v5 = i0;
-i0 = UINT32_C(1);
 v2 = i0;
-i0 = UINT32_C(1);
-i1 = UINT32_C(2);
-i2 = UINT32_C(0);
-i3 = v3;
-i4 = UINT32_C(255);
-i3 = i3 & i4;
-v3 = i3;
-i4 = UINT32_C(2);
-i3 = (i3 == i4);
-i1 = i3 ? i1 : i2;
-i2 = v3;
-i3 = UINT32_C(1);
-i2 = (i2 == i3);
+i1 = UINT32_C(3);
+i2 = v2;
+i3 = UINT32_C(3);
+i2 = (i2 < i3);
 i0 = i2 ? i0 : i1;
+v8 = i0;
+i0 = v3;
+i1 = UINT32_C(255);
+i0 = i0 & i1;
+i1 = UINT32_C(4294967295);
+i0 = i0 + i1;
 switch (i0) {
 case 0:
-goto l8;
-case 1:
-goto l7;
-case 2:
 goto l6;
+case 1:
+goto l5;
+case 2:
+goto l7;
+case 3:
+goto l7;
+case 4:
+goto l6;
+case 5:
+goto l5;
 default:
-goto l8;
+goto l7;
 }
-l8:;
-j0 = UINT64_C(0);
-v10 = j0;
+l7:;
 j0 = v4;
 j1 = UINT64_C(0);
-store64(p1 + 2024, j1);
+store64(p1 + 1352, j1);
 j0 = v4;
 j1 = UINT64_C(0);
-store64(p1 + 2016, j1);
+store64(p1 + 1344, j1);
 j0 = v4;
 j1 = UINT64_C(0);
-store64(p1 + 2008, j1);
+store64(p1 + 1336, j1);
 j0 = v4;
 j1 = UINT64_C(0);
-store64(p1 + 2000, j1);
+store64(p1 + 1328, j1);
 j0 = v4;
 j1 = UINT64_C(0);
-store64(p1 + 1456, j1);
+store64(p1 + 1280, j1);
 j0 = v4;
 j1 = UINT64_C(0);
-store64(p1 + 1464, j1);
+store64(p1 + 1288, j1);
 j0 = v4;
 j1 = UINT64_C(0);
-store64(p1 + 1472, j1);
+store64(p1 + 1296, j1);
 j0 = v4;
 j1 = UINT64_C(0);
-store64(p1 + 1480, j1);
+store64(p1 + 1304, j1);
 j0 = v4;
 j1 = UINT64_C(0);
-store64(p1 + 1488, j1);
+store64(p1 + 1312, j1);
 j0 = v4;
 j1 = UINT64_C(0);
-store64(p1 + 1496, j1);
+store64(p1 + 1320, j1);
 i0 = UINT32_C(0);
 v2 = i0;
 j0 = v4;
-j1 = UINT64_C(1712);
+j1 = UINT64_C(992);
 j0 = j0 + j1;
 i1 = UINT32_C(0);
 j2 = UINT64_C(288);
 fill(m, j0, i1, j2);
-i0 = UINT32_C(1);
-v5 = i0;
 j0 = v4;
-j1 = UINT64_C(1016);
+j1 = UINT64_C(736);
 j0 = j0 + j1;
 i1 = UINT32_C(1);
 j2 = UINT64_C(256);
 fill(m, j0, i1, j2);
 j0 = v4;
 i1 = UINT32_C(0);
-store32(p1 + 792, i1);
+store32(p1 + 728, i1);
 j0 = v4;
 j1 = UINT64_C(0);
-store64(p1 + 784, j1);
+store64(p1 + 720, j1);
 j0 = v4;
 j1 = UINT64_C(0);
-store64(p1 + 776, j1);
+store64(p1 + 712, j1);
 j0 = v4;
 j1 = UINT64_C(0);
-store64(p1 + 768, j1);
+store64(p1 + 704, j1);
 j0 = v4;
 j1 = UINT64_C(0);
-store64(p1 + 760, j1);
+store64(p1 + 696, j1);
 j0 = v4;
 i1 = UINT32_C(0);
-store32(p1 + 1304, i1);
+store32(p1 + 688, i1);
 j0 = v4;
 i1 = UINT32_C(0);
-store8(p1 + 1308, i1);
+store8(p1 + 692, i1);
 j0 = v4;
 i1 = UINT32_C(0);
-store32(p1 + 1416, i1);
+store32(p1 + 680, i1);
 j0 = v4;
 i1 = UINT32_C(0);
-store8(p1 + 1420, i1);
-goto l5;
-l7:;
+store8(p1 + 684, i1);
+i0 = UINT32_C(2);
+v9 = i0;
+i0 = UINT32_C(0);
+v10 = i0;
+i0 = UINT32_C(0);
+v11 = i0;
+goto l4;
+l6:;
 j0 = UINT64_C(18446744073709551615);
-v10 = j0;
+v7 = j0;
 j0 = v4;
 j1 = UINT64_C(18446744073709551615);
-store64(p1 + 2024, j1);
+store64(p1 + 1352, j1);
 j0 = v4;
 j1 = UINT64_C(18446744073709551615);
-store64(p1 + 2016, j1);
+store64(p1 + 1344, j1);
 j0 = v4;
 j1 = UINT64_C(18446744073709551615);
-store64(p1 + 2008, j1);
+store64(p1 + 1336, j1);
 j0 = v4;
 j1 = UINT64_C(18446744073709551615);
-store64(p1 + 2000, j1);
+store64(p1 + 1328, j1);
 j0 = v4;
 j1 = UINT64_C(0);
-store64(p1 + 1456, j1);
+store64(p1 + 1280, j1);
 j0 = v4;
 j1 = UINT64_C(0);
-store64(p1 + 1464, j1);
+store64(p1 + 1288, j1);
 j0 = v4;
 j1 = UINT64_C(0);
-store64(p1 + 1472, j1);
+store64(p1 + 1296, j1);
 j0 = v4;
 j1 = UINT64_C(0);
-store64(p1 + 1480, j1);
+store64(p1 + 1304, j1);
 j0 = v4;
 j1 = UINT64_C(0);
-store64(p1 + 1488, j1);
+store64(p1 + 1312, j1);
 j0 = v4;
 j1 = UINT64_C(0);
-store64(p1 + 1496, j1);
+store64(p1 + 1320, j1);
 i0 = UINT32_C(0);
 v9 = i0;
 j0 = v4;
-j1 = UINT64_C(1712);
+j1 = UINT64_C(992);
 j0 = j0 + j1;
 i1 = UINT32_C(0);
 j2 = UINT64_C(288);
 fill(m, j0, i1, j2);
 j0 = v4;
-j1 = UINT64_C(1016);
+j1 = UINT64_C(736);
 j0 = j0 + j1;
 i1 = UINT32_C(5);
 j2 = UINT64_C(128);
 fill(m, j0, i1, j2);
+i0 = UINT32_C(1);
+v2 = i0;
 j0 = v4;
-j1 = UINT64_C(1016);
+j1 = UINT64_C(736);
 j0 = j0 + j1;
 j1 = UINT64_C(128);
 j0 = j0 + j1;
@@ -147644,536 +147795,284 @@ j2 = UINT64_C(128);
 fill(m, j0, i1, j2);
 j0 = v4;
 i1 = UINT32_C(0);
-store32(p1 + 792, i1);
+store32(p1 + 728, i1);
 j0 = v4;
 j1 = UINT64_C(0);
-store64(p1 + 784, j1);
+store64(p1 + 720, j1);
 j0 = v4;
 j1 = UINT64_C(0);
-store64(p1 + 776, j1);
+store64(p1 + 712, j1);
 j0 = v4;
 j1 = UINT64_C(0);
-store64(p1 + 768, j1);
+store64(p1 + 704, j1);
 j0 = v4;
 j1 = UINT64_C(0);
-store64(p1 + 760, j1);
+store64(p1 + 696, j1);
 j0 = v4;
 i1 = UINT32_C(0);
-store32(p1 + 1304, i1);
+store32(p1 + 688, i1);
 j0 = v4;
 i1 = UINT32_C(0);
-store8(p1 + 1308, i1);
+store8(p1 + 692, i1);
 j0 = v4;
 i1 = UINT32_C(0);
-store32(p1 + 1416, i1);
+store32(p1 + 680, i1);
 j0 = v4;
 i1 = UINT32_C(0);
-store8(p1 + 1420, i1);
+store8(p1 + 684, i1);
 i0 = UINT32_C(2);
-v3 = i0;
-i0 = UINT32_C(1);
-v5 = i0;
+v10 = i0;
+i0 = UINT32_C(0);
+v11 = i0;
 goto l4;
-l6:;
+l5:;
 j0 = UINT64_C(0);
-v10 = j0;
+v7 = j0;
 j0 = v4;
 j1 = UINT64_C(0);
-store64(p1 + 2024, j1);
+store64(p1 + 1352, j1);
 j0 = v4;
 j1 = UINT64_C(0);
-store64(p1 + 2016, j1);
+store64(p1 + 1344, j1);
 j0 = v4;
 j1 = UINT64_C(0);
-store64(p1 + 2008, j1);
+store64(p1 + 1336, j1);
 j0 = v4;
 j1 = UINT64_C(0);
-store64(p1 + 2000, j1);
+store64(p1 + 1328, j1);
 j0 = v4;
 j1 = UINT64_C(0);
-store64(p1 + 1456, j1);
+store64(p1 + 1280, j1);
 j0 = v4;
 j1 = UINT64_C(0);
-store64(p1 + 1464, j1);
+store64(p1 + 1288, j1);
 j0 = v4;
 j1 = UINT64_C(0);
-store64(p1 + 1472, j1);
+store64(p1 + 1296, j1);
 j0 = v4;
 j1 = UINT64_C(0);
-store64(p1 + 1480, j1);
+store64(p1 + 1304, j1);
 j0 = v4;
 j1 = UINT64_C(0);
-store64(p1 + 1488, j1);
+store64(p1 + 1312, j1);
 j0 = v4;
 j1 = UINT64_C(0);
-store64(p1 + 1496, j1);
+store64(p1 + 1320, j1);
+i0 = UINT32_C(0);
+v2 = i0;
 j0 = v4;
-j1 = UINT64_C(1712);
+j1 = UINT64_C(992);
 j0 = j0 + j1;
 i1 = UINT32_C(0);
 j2 = UINT64_C(288);
 fill(m, j0, i1, j2);
+i0 = UINT32_C(1);
+v11 = i0;
 j0 = v4;
-j1 = UINT64_C(1016);
+j1 = UINT64_C(736);
 j0 = j0 + j1;
 i1 = UINT32_C(1);
 j2 = UINT64_C(256);
 fill(m, j0, i1, j2);
 j0 = v4;
 i1 = UINT32_C(0);
-store32(p1 + 792, i1);
+store32(p1 + 728, i1);
 j0 = v4;
 j1 = UINT64_C(0);
-store64(p1 + 784, j1);
+store64(p1 + 720, j1);
 j0 = v4;
 j1 = UINT64_C(0);
-store64(p1 + 776, j1);
+store64(p1 + 712, j1);
 j0 = v4;
 j1 = UINT64_C(0);
-store64(p1 + 768, j1);
+store64(p1 + 704, j1);
 j0 = v4;
 j1 = UINT64_C(0);
-store64(p1 + 760, j1);
+store64(p1 + 696, j1);
 j0 = v4;
 i1 = UINT32_C(0);
-store32(p1 + 1304, i1);
+store32(p1 + 688, i1);
 j0 = v4;
 i1 = UINT32_C(0);
-store8(p1 + 1308, i1);
+store8(p1 + 692, i1);
 j0 = v4;
 i1 = UINT32_C(0);
-store32(p1 + 1416, i1);
+store32(p1 + 680, i1);
 j0 = v4;
 i1 = UINT32_C(0);
-store8(p1 + 1420, i1);
+store8(p1 + 684, i1);
+i0 = UINT32_C(2);
+v9 = i0;
 i0 = UINT32_C(0);
-v2 = i0;
-l5:;
-i0 = UINT32_C(0);
-v3 = i0;
+v10 = i0;
 l4:;
-i0 = v7;
-i1 = UINT32_C(3);
-i2 = v8;
-i0 = i2 ? i0 : i1;
-v7 = i0;
 j0 = v4;
 j1 = v4;
-j1 = load64(p1 + 2024);
-store64(p1 + 680, j1);
-j0 = v4;
-j1 = v4;
-j1 = load64(p1 + 2016);
+j1 = load64(p1 + 1352);
 store64(p1 + 672, j1);
 j0 = v4;
 j1 = v4;
-j1 = load64(p1 + 2008);
+j1 = load64(p1 + 1344);
 store64(p1 + 664, j1);
 j0 = v4;
 j1 = v4;
-j1 = load64(p1 + 2000);
+j1 = load64(p1 + 1336);
 store64(p1 + 656, j1);
 j0 = v4;
 j1 = v4;
-j1 = load64(p1 + 1456);
+j1 = load64(p1 + 1328);
+store64(p1 + 648, j1);
+j0 = v4;
+j1 = v4;
+j1 = load64(p1 + 1280);
+store64(p1 + 600, j1);
+j0 = v4;
+j1 = v4;
+j1 = load64(p1 + 1288);
 store64(p1 + 608, j1);
 j0 = v4;
 j1 = v4;
-j1 = load64(p1 + 1464);
+j1 = load64(p1 + 1296);
 store64(p1 + 616, j1);
 j0 = v4;
 j1 = v4;
-j1 = load64(p1 + 1472);
+j1 = load64(p1 + 1304);
 store64(p1 + 624, j1);
 j0 = v4;
 j1 = v4;
-j1 = load64(p1 + 1480);
+j1 = load64(p1 + 1312);
 store64(p1 + 632, j1);
 j0 = v4;
 j1 = v4;
-j1 = load64(p1 + 1488);
+j1 = load64(p1 + 1320);
 store64(p1 + 640, j1);
 j0 = v4;
-j1 = v4;
-j1 = load64(p1 + 1496);
-store64(p1 + 648, j1);
-j0 = v4;
-j1 = UINT64_C(320);
+j1 = UINT64_C(312);
 j0 = j0 + j1;
 j1 = v4;
-j2 = UINT64_C(1712);
+j2 = UINT64_C(992);
 j1 = j1 + j2;
 j2 = UINT64_C(288);
 copy(m, j0, j1, j2);
 j0 = v4;
-j1 = UINT64_C(64);
+j1 = UINT64_C(56);
 j0 = j0 + j1;
 j1 = v4;
-j2 = UINT64_C(1016);
+j2 = UINT64_C(736);
 j1 = j1 + j2;
 j2 = UINT64_C(256);
 copy(m, j0, j1, j2);
 j0 = v4;
 j1 = v4;
-i1 = load32(p1 + 792);
-store32(p1 + 56, i1);
+i1 = load32(p1 + 728);
+store32(p1 + 48, i1);
 j0 = v4;
 j1 = v4;
-j1 = load64(p1 + 784);
-store64(p1 + 48, j1);
-j0 = v4;
-j1 = v4;
-j1 = load64(p1 + 776);
+j1 = load64(p1 + 720);
 store64(p1 + 40, j1);
 j0 = v4;
 j1 = v4;
-j1 = load64(p1 + 768);
+j1 = load64(p1 + 712);
 store64(p1 + 32, j1);
 j0 = v4;
 j1 = v4;
-j1 = load64(p1 + 760);
+j1 = load64(p1 + 704);
 store64(p1 + 24, j1);
 j0 = v4;
 j1 = v4;
-i1 = load32(p1 + 1304);
-store32(p1 + 16, i1);
+j1 = load64(p1 + 696);
+store64(p1 + 16, j1);
 j0 = v4;
 j1 = v4;
-i1 = load8(p1 + 1308);
-store8(p1 + 20, i1);
-j0 = v4;
-j1 = v4;
-i1 = load32(p1 + 1416);
+i1 = load32(p1 + 688);
 store32(p1 + 8, i1);
 j0 = v4;
 j1 = v4;
-i1 = load8(p1 + 1420);
+i1 = load8(p1 + 692);
 store8(p1 + 12, i1);
-i0 = v5;
-i0 = (i0 == 0);
-if (!i0) {
-j0 = v4;
-j1 = v4;
-j1 = load64(p1 + 680);
-store64(p1 + 2072, j1);
 j0 = v4;
 j1 = v4;
 j1 = load64(p1 + 672);
-store64(p1 + 2064, j1);
-j0 = v4;
-j1 = v4;
-j1 = load64(p1 + 664);
-store64(p1 + 2056, j1);
-j0 = v4;
-j1 = v4;
-j1 = load64(p1 + 656);
-store64(p1 + 2048, j1);
-j0 = v4;
-j1 = v4;
-j1 = load64(p1 + 608);
-store64(p1 + 2000, j1);
-j0 = v4;
-j1 = v4;
-j1 = load64(p1 + 616);
-store64(p1 + 2008, j1);
-j0 = v4;
-j1 = v4;
-j1 = load64(p1 + 624);
-store64(p1 + 2016, j1);
-j0 = v4;
-j1 = v4;
-j1 = load64(p1 + 632);
-store64(p1 + 2024, j1);
-j0 = v4;
-j1 = v4;
-j1 = load64(p1 + 640);
-store64(p1 + 2032, j1);
-j0 = v4;
-j1 = v4;
-j1 = load64(p1 + 648);
-store64(p1 + 2040, j1);
-j0 = v4;
-j1 = UINT64_C(1712);
-j0 = j0 + j1;
-j1 = v4;
-j2 = UINT64_C(320);
-j1 = j1 + j2;
-j2 = UINT64_C(288);
-copy(m, j0, j1, j2);
-j0 = v4;
-j1 = UINT64_C(1456);
-j0 = j0 + j1;
-j1 = v4;
-j2 = UINT64_C(64);
-j1 = j1 + j2;
-j2 = UINT64_C(256);
-copy(m, j0, j1, j2);
-j0 = v4;
-j1 = v4;
-i1 = load32(p1 + 56);
-store32(p1 + 1448, i1);
-j0 = v4;
-j1 = v4;
-j1 = load64(p1 + 48);
-store64(p1 + 1440, j1);
-j0 = v4;
-j1 = v4;
-j1 = load64(p1 + 40);
-store64(p1 + 1432, j1);
-j0 = v4;
-j1 = v4;
-j1 = load64(p1 + 32);
-store64(p1 + 1424, j1);
-j0 = v4;
-j1 = v4;
-j1 = load64(p1 + 24);
-store64(p1 + 1416, j1);
-j0 = v4;
-j1 = v4;
-i1 = load32(p1 + 16);
-store32(p1 + 1408, i1);
-j0 = v4;
-j1 = v4;
-i1 = load8(p1 + 20);
-store8(p1 + 1412, i1);
-j0 = v4;
-j1 = v4;
-i1 = load32(p1 + 8);
-store32(p1 + 1400, i1);
-j0 = v4;
-j1 = v4;
-i1 = load8(p1 + 12);
-store8(p1 + 1404, i1);
-i0 = UINT32_C(0);
-v8 = i0;
-j0 = v4;
-i1 = UINT32_C(0);
-store8(p1 + 1396, i1);
-j0 = v4;
-i1 = UINT32_C(0);
-store32(p1 + 1392, i1);
-j0 = v4;
-i1 = UINT32_C(0);
-store32(p1 + 1384, i1);
-j0 = v4;
-i1 = UINT32_C(0);
-store8(p1 + 1388, i1);
-goto l9;
-}
-j0 = v4;
-i1 = UINT32_C(0);
-store8(p1 + 1388, i1);
-j0 = v4;
-i1 = UINT32_C(0);
-store32(p1 + 1384, i1);
-j0 = v4;
-j1 = v4;
-j1 = load64(p1 + 656);
-store64(p1 + 2048, j1);
-j0 = v4;
-j1 = v4;
-j1 = load64(p1 + 664);
-store64(p1 + 2056, j1);
-j0 = v4;
-j1 = v4;
-j1 = load64(p1 + 672);
-store64(p1 + 2064, j1);
-j0 = v4;
-j1 = v4;
-j1 = load64(p1 + 680);
-store64(p1 + 2072, j1);
-j0 = v4;
-j1 = v4;
-j1 = load64(p1 + 608);
-store64(p1 + 2000, j1);
-j0 = v4;
-j1 = v4;
-j1 = load64(p1 + 616);
-store64(p1 + 2008, j1);
-j0 = v4;
-j1 = v4;
-j1 = load64(p1 + 624);
-store64(p1 + 2016, j1);
-j0 = v4;
-j1 = v4;
-j1 = load64(p1 + 632);
-store64(p1 + 2024, j1);
-j0 = v4;
-j1 = v4;
-j1 = load64(p1 + 640);
-store64(p1 + 2032, j1);
-j0 = v4;
-j1 = v4;
-j1 = load64(p1 + 648);
-store64(p1 + 2040, j1);
-j0 = v4;
-j1 = UINT64_C(1712);
-j0 = j0 + j1;
-j1 = v4;
-j2 = UINT64_C(320);
-j1 = j1 + j2;
-j2 = UINT64_C(288);
-copy(m, j0, j1, j2);
-j0 = v4;
-j1 = UINT64_C(1456);
-j0 = j0 + j1;
-j1 = v4;
-j2 = UINT64_C(64);
-j1 = j1 + j2;
-j2 = UINT64_C(256);
-copy(m, j0, j1, j2);
-j0 = v4;
-j1 = v4;
-i1 = load32(p1 + 56);
-store32(p1 + 1448, i1);
-j0 = v4;
-j1 = v4;
-j1 = load64(p1 + 48);
-store64(p1 + 1440, j1);
-j0 = v4;
-j1 = v4;
-j1 = load64(p1 + 40);
-store64(p1 + 1432, j1);
-j0 = v4;
-j1 = v4;
-j1 = load64(p1 + 32);
-store64(p1 + 1424, j1);
-j0 = v4;
-j1 = v4;
-j1 = load64(p1 + 24);
-store64(p1 + 1416, j1);
-j0 = v4;
-j1 = v4;
-i1 = load32(p1 + 16);
-store32(p1 + 1408, i1);
-j0 = v4;
-j1 = v4;
-i1 = load8(p1 + 20);
-store8(p1 + 1412, i1);
-j0 = v4;
-j1 = v4;
-i1 = load32(p1 + 8);
-store32(p1 + 1400, i1);
-j0 = v4;
-j1 = v4;
-i1 = load8(p1 + 12);
-store8(p1 + 1404, i1);
-j0 = v4;
-i1 = UINT32_C(0);
-store8(p1 + 1396, i1);
-j0 = v4;
-i1 = UINT32_C(0);
-store32(p1 + 1392, i1);
-i0 = UINT32_C(1);
-v8 = i0;
-l9:;
-j0 = v4;
-j1 = v4;
-j1 = load64(p1 + 2072);
-store64(p1 + 1376, j1);
-j0 = v4;
-j1 = v4;
-j1 = load64(p1 + 2064);
-store64(p1 + 1368, j1);
-j0 = v4;
-j1 = v4;
-j1 = load64(p1 + 2056);
-store64(p1 + 1360, j1);
-j0 = v4;
-j1 = v4;
-j1 = load64(p1 + 2048);
 store64(p1 + 1352, j1);
 j0 = v4;
 j1 = v4;
-j1 = load64(p1 + 2000);
-store64(p1 + 1304, j1);
+j1 = load64(p1 + 664);
+store64(p1 + 1344, j1);
 j0 = v4;
 j1 = v4;
-j1 = load64(p1 + 2008);
-store64(p1 + 1312, j1);
-j0 = v4;
-j1 = v4;
-j1 = load64(p1 + 2016);
-store64(p1 + 1320, j1);
-j0 = v4;
-j1 = v4;
-j1 = load64(p1 + 2024);
-store64(p1 + 1328, j1);
-j0 = v4;
-j1 = v4;
-j1 = load64(p1 + 2032);
+j1 = load64(p1 + 656);
 store64(p1 + 1336, j1);
 j0 = v4;
 j1 = v4;
-j1 = load64(p1 + 2040);
-store64(p1 + 1344, j1);
+j1 = load64(p1 + 648);
+store64(p1 + 1328, j1);
 j0 = v4;
-j1 = UINT64_C(1016);
+j1 = v4;
+j1 = load64(p1 + 640);
+store64(p1 + 1320, j1);
+j0 = v4;
+j1 = v4;
+j1 = load64(p1 + 632);
+store64(p1 + 1312, j1);
+j0 = v4;
+j1 = v4;
+j1 = load64(p1 + 624);
+store64(p1 + 1304, j1);
+j0 = v4;
+j1 = v4;
+j1 = load64(p1 + 616);
+store64(p1 + 1296, j1);
+j0 = v4;
+j1 = v4;
+j1 = load64(p1 + 608);
+store64(p1 + 1288, j1);
+j0 = v4;
+j1 = v4;
+j1 = load64(p1 + 600);
+store64(p1 + 1280, j1);
+j0 = v4;
+j1 = UINT64_C(992);
 j0 = j0 + j1;
 j1 = v4;
-j2 = UINT64_C(1712);
+j2 = UINT64_C(312);
 j1 = j1 + j2;
 j2 = UINT64_C(288);
 copy(m, j0, j1, j2);
 j0 = v4;
-j1 = UINT64_C(760);
+j1 = UINT64_C(736);
 j0 = j0 + j1;
 j1 = v4;
-j2 = UINT64_C(1456);
+j2 = UINT64_C(56);
 j1 = j1 + j2;
 j2 = UINT64_C(256);
 copy(m, j0, j1, j2);
 j0 = v4;
 j1 = v4;
-i1 = load32(p1 + 1448);
-store32(p1 + 752, i1);
+i1 = load32(p1 + 48);
+store32(p1 + 728, i1);
 j0 = v4;
 j1 = v4;
-j1 = load64(p1 + 1440);
-store64(p1 + 744, j1);
-j0 = v4;
-j1 = v4;
-j1 = load64(p1 + 1432);
-store64(p1 + 736, j1);
-j0 = v4;
-j1 = v4;
-j1 = load64(p1 + 1424);
-store64(p1 + 728, j1);
-j0 = v4;
-j1 = v4;
-j1 = load64(p1 + 1416);
+j1 = load64(p1 + 40);
 store64(p1 + 720, j1);
 j0 = v4;
 j1 = v4;
-i1 = load32(p1 + 1408);
-store32(p1 + 712, i1);
+j1 = load64(p1 + 32);
+store64(p1 + 712, j1);
 j0 = v4;
 j1 = v4;
-i1 = load8(p1 + 1412);
-store8(p1 + 716, i1);
+j1 = load64(p1 + 24);
+store64(p1 + 704, j1);
 j0 = v4;
 j1 = v4;
-i1 = load32(p1 + 1400);
-store32(p1 + 704, i1);
+j1 = load64(p1 + 16);
+store64(p1 + 696, j1);
 j0 = v4;
 j1 = v4;
-i1 = load8(p1 + 1404);
-store8(p1 + 708, i1);
-j0 = v4;
-j1 = v4;
-i1 = load8(p1 + 1396);
-store8(p1 + 700, i1);
-j0 = v4;
-j1 = v4;
-i1 = load32(p1 + 1392);
-store32(p1 + 696, i1);
-j0 = v4;
-j1 = v4;
-i1 = load32(p1 + 1384);
+i1 = load32(p1 + 8);
 store32(p1 + 688, i1);
 j0 = v4;
 j1 = v4;
-i1 = load8(p1 + 1388);
+i1 = load8(p1 + 12);
 store8(p1 + 692, i1);
 j0 = v0;
 j1 = UINT64_C(0);
@@ -148181,52 +148080,52 @@ p2 = write_at(j0, m, 752u);
 store64(p2 + 0, j1);
 j0 = v0;
 j1 = v4;
-j1 = load64(p1 + 1352);
+j1 = load64(p1 + 1328);
 store64(p2 + 8, j1);
 j0 = v0;
 j1 = v4;
-j1 = load64(p1 + 1360);
+j1 = load64(p1 + 1336);
 store64(p2 + 16, j1);
 j0 = v0;
 j1 = v4;
-j1 = load64(p1 + 1368);
+j1 = load64(p1 + 1344);
 store64(p2 + 24, j1);
 j0 = v0;
 j1 = v4;
-j1 = load64(p1 + 1376);
+j1 = load64(p1 + 1352);
 store64(p2 + 32, j1);
 j0 = v0;
 j1 = v4;
-j1 = load64(p1 + 1304);
+j1 = load64(p1 + 1280);
 store64(p2 + 40, j1);
 j0 = v0;
 j1 = v4;
-j1 = load64(p1 + 1312);
+j1 = load64(p1 + 1288);
 store64(p2 + 48, j1);
 j0 = v0;
 j1 = v4;
-j1 = load64(p1 + 1320);
+j1 = load64(p1 + 1296);
 store64(p2 + 56, j1);
 j0 = v0;
 j1 = v4;
-j1 = load64(p1 + 1328);
+j1 = load64(p1 + 1304);
 store64(p2 + 64, j1);
 j0 = v0;
 j1 = v4;
-j1 = load64(p1 + 1336);
+j1 = load64(p1 + 1312);
 store64(p2 + 72, j1);
 j0 = v0;
 j1 = v4;
-j1 = load64(p1 + 1344);
+j1 = load64(p1 + 1320);
 store64(p2 + 80, j1);
 j0 = v0;
-j1 = v10;
+j1 = v7;
 store64(p2 + 88, j1);
 j0 = v0;
 j1 = UINT64_C(96);
 j0 = j0 + j1;
 j1 = v4;
-j2 = UINT64_C(1016);
+j2 = UINT64_C(992);
 j1 = j1 + j2;
 j2 = UINT64_C(288);
 copy(m, j0, j1, j2);
@@ -148234,7 +148133,7 @@ j0 = v0;
 j1 = UINT64_C(384);
 j0 = j0 + j1;
 j1 = v4;
-j2 = UINT64_C(760);
+j2 = UINT64_C(736);
 j1 = j1 + j2;
 j2 = UINT64_C(256);
 copy(m, j0, j1, j2);
@@ -148253,7 +148152,7 @@ j0 = v0;
 i1 = UINT32_C(0);
 store16(p2 + 680, i1);
 j0 = v0;
-i1 = v3;
+i1 = v10;
 store8(p2 + 679, i1);
 j0 = v0;
 i1 = UINT32_C(0);
@@ -148266,23 +148165,23 @@ i1 = v2;
 store8(p2 + 676, i1);
 j0 = v0;
 j1 = v4;
-i1 = load32(p1 + 752);
+i1 = load32(p1 + 728);
 store32(p2 + 672, i1);
 j0 = v0;
 j1 = v4;
-j1 = load64(p1 + 744);
+j1 = load64(p1 + 720);
 store64(p2 + 664, j1);
 j0 = v0;
 j1 = v4;
-j1 = load64(p1 + 736);
+j1 = load64(p1 + 712);
 store64(p2 + 656, j1);
 j0 = v0;
 j1 = v4;
-j1 = load64(p1 + 728);
+j1 = load64(p1 + 704);
 store64(p2 + 648, j1);
 j0 = v0;
 j1 = v4;
-j1 = load64(p1 + 720);
+j1 = load64(p1 + 696);
 store64(p2 + 640, j1);
 j0 = v0;
 i1 = v2;
@@ -148304,61 +148203,60 @@ j1 = UINT64_C(0);
 store64(p2 + 708, j1);
 j0 = v0;
 j1 = UINT64_C(0);
-store64(p2 + 715, j1);
+store64(p2 + 716, j1);
 j0 = v0;
-j1 = v4;
-i1 = load8(p1 + 716);
-store8(p2 + 689, i1);
+j1 = UINT64_C(0);
+store64(p2 + 724, j1);
 j0 = v0;
-j1 = v4;
-i1 = load32(p1 + 712);
-store32(p2 + 685, i1);
-j0 = v0;
-j1 = v4;
-i1 = load32(p1 + 704);
-store32(p2 + 691, i1);
-j0 = v0;
-j1 = v4;
-i1 = load8(p1 + 708);
-store8(p2 + 695, i1);
-j0 = v0;
-j1 = v4;
-i1 = load32(p1 + 696);
-store32(p2 + 723, i1);
-j0 = v0;
-j1 = v4;
-i1 = load8(p1 + 700);
-store8(p2 + 727, i1);
-j0 = v0;
-i1 = v8;
-store8(p2 + 739, i1);
+i1 = UINT32_C(0);
+store32(p2 + 732, i1);
 j0 = v0;
 i1 = UINT32_C(0);
 store16(p2 + 737, i1);
 j0 = v0;
-i1 = v7;
+i1 = v8;
 store8(p2 + 736, i1);
 j0 = v0;
-j1 = UINT64_C(0);
-store64(p2 + 728, j1);
+i1 = v11;
+store8(p2 + 739, i1);
 j0 = v0;
-i1 = UINT32_C(0);
-store32(p2 + 740, i1);
+j1 = v4;
+i1 = load8(p1 + 692);
+store8(p2 + 689, i1);
+j0 = v0;
+j1 = v4;
+i1 = load32(p1 + 688);
+store32(p2 + 685, i1);
+j0 = v0;
+j1 = v4;
+i1 = load32(p1 + 680);
+store32(p2 + 691, i1);
+j0 = v0;
+j1 = v4;
+i1 = load8(p1 + 684);
+store8(p2 + 695, i1);
 j0 = v0;
 i1 = UINT32_C(0);
 store32(p2 + 743, i1);
 j0 = v0;
-j1 = v4;
-i1 = load8(p1 + 692);
-store8(p2 + 751, i1);
+i1 = UINT32_C(0);
+store32(p2 + 740, i1);
 j0 = v0;
-j1 = v4;
-i1 = load32(p1 + 688);
-store32(p2 + 747, i1);
+i1 = v3;
+i2 = UINT32_C(4294967292);
+i1 = i1 + i2;
+i2 = UINT32_C(255);
+i1 = i1 & i2;
+i2 = UINT32_C(3);
+i1 = (i1 < i2);
+store8(p2 + 747, i1);
+j0 = v0;
+i1 = UINT32_C(0);
+store32(p2 + 748, i1);
 }
 }
 j0 = v4;
-j1 = UINT64_C(2080);
+j1 = UINT64_C(1360);
 j0 = j0 + j1;
 m->g0 = j0;
 i0 = v5;
@@ -149675,6 +149573,7 @@ uint32_t v40 = 0;
 uint32_t v41 = 0;
 uint32_t v42 = 0;
 uint32_t v43 = 0;
+uint32_t v44 = 0;
 uint32_t i0;
 uint32_t i1;
 uint32_t i2;
@@ -149702,10 +149601,14 @@ uint8_t *p12;
 uint8_t *p13;
 uint8_t *p14;
 uint8_t *p15;
+uint8_t *p16;
+uint8_t *p17;
+uint8_t *p18;
+uint8_t *p19;
 j0 = m->g0;
-j1 = UINT64_C(2944);
+j1 = UINT64_C(2928);
 j0 = j0 - j1;
-p1 = write_at(j0, m, 2944u);
+p1 = write_at(j0, m, 2928u);
 v4 = j0;
 m->g0 = j0;
 j0 = v4;
@@ -149716,39 +149619,33 @@ if (!i0) {
 i0 = UINT32_C(0);
 v5 = i0;
 j0 = v4;
-j1 = UINT64_C(712);
+j1 = UINT64_C(704);
 j0 = j0 + j1;
 i1 = UINT32_C(0);
 j2 = UINT64_C(760);
 fill(m, j0, i1, j2);
 j0 = v4;
-j1 = UINT64_C(16);
+j1 = UINT64_C(8);
 j0 = j0 + j1;
 i1 = UINT32_C(0);
 j2 = UINT64_C(696);
 fill(m, j0, i1, j2);
 j0 = v4;
 i1 = UINT32_C(0);
-store8(p1 + 12, i1);
-j0 = v4;
-i1 = UINT32_C(0);
-store32(p1 + 8, i1);
+store8(p1 + 4, i1);
 j0 = v4;
 i1 = UINT32_C(0);
 store32(p1 + 0, i1);
 j0 = v4;
-i1 = UINT32_C(0);
-store8(p1 + 4, i1);
-j0 = v4;
-j1 = UINT64_C(712);
+j1 = UINT64_C(704);
 j0 = j0 + j1;
 j1 = v0;
 fio_c_log_judge_log_judge_from(m, j0, j1);
 j0 = v4;
-j1 = UINT64_C(1472);
+j1 = UINT64_C(1464);
 j0 = j0 + j1;
 j1 = v4;
-j2 = UINT64_C(712);
+j2 = UINT64_C(704);
 j1 = j1 + j2;
 j2 = UINT64_C(760);
 copy(m, j0, j1, j2);
@@ -149784,7 +149681,7 @@ i0 = i2 ? i0 : i1;
 j0 = (uint64_t)i0;
 v10 = j0;
 j0 = v4;
-j1 = UINT64_C(1472);
+j1 = UINT64_C(1464);
 j0 = j0 + j1;
 j1 = UINT64_C(4);
 j0 = j0 | j1;
@@ -149807,11 +149704,11 @@ if (!i0) {
 j0 = v7;
 j1 = UINT64_C(0);
 i0 = (j0 != j1);
-if (i0) { goto l8; }
+if (i0) { goto l11; }
 }
 j0 = v10;
 i0 = (j0 == 0);
-if (i0) { goto l7; }
+if (i0) { goto l10; }
 j0 = v10;
 j1 = UINT64_C(18446744073709551615);
 j0 = j0 + j1;
@@ -149844,7 +149741,7 @@ v14 = j0;
 i0 = v6;
 i0 = (i0 == 0);
 if (i0) { goto l3; }
-goto l13;
+goto l16;
 }
 i0 = v16;
 i1 = UINT32_C(2);
@@ -149856,22 +149753,22 @@ i0 = v6;
 i1 = UINT32_C(14);
 i0 = (i0 != i1);
 if (i0) { goto l3; }
-goto l13;
+goto l16;
 }
 i0 = v16;
 i1 = UINT32_C(4294967293);
 i0 = i0 + i1;
 switch (i0) {
 case 0:
-goto l16;
+goto l19;
 case 1:
-goto l13;
+goto l16;
 case 2:
-goto l17;
+goto l20;
 default:
-goto l13;
+goto l16;
 }
-l17:;
+l20:;
 j0 = v2;
 v14 = j0;
 i0 = v6;
@@ -149879,29 +149776,38 @@ i1 = UINT32_C(4294967286);
 i0 = i0 + i1;
 switch (i0) {
 case 0:
-goto l10;
+goto l13;
 case 1:
-goto l11;
+goto l14;
 case 2:
 goto l3;
 case 3:
 goto l3;
 case 4:
-goto l13;
+goto l16;
 default:
 goto l3;
 }
-l16:;
+l19:;
 i0 = v6;
 i1 = UINT32_C(14);
 i0 = (i0 != i1);
-if (i0) { goto l12; }
-l13:;
+if (i0) { goto l15; }
+l16:;
 j0 = v4;
-i0 = load8(p1 + 1485);
+i0 = load8(p1 + 1477);
+v6 = i0;
+j0 = v4;
+i0 = load8(p1 + 2222);
+i1 = UINT32_C(1);
+i0 = (i0 != i1);
+if (!i0) {
+i0 = v6;
+i1 = UINT32_C(255);
+i0 = i0 & i1;
 i1 = UINT32_C(1);
 i0 = (i0 == i1);
-if (!i0) {
+if (i0) { goto l21; }
 j0 = v11;
 j1 = UINT64_C(0);
 p4 = write_at(j0, m, 9u);
@@ -149911,44 +149817,10 @@ i1 = UINT32_C(0);
 store8(p4 + 8, i1);
 j0 = v4;
 i1 = UINT32_C(0);
-store8(p1 + 1473, i1);
+store8(p1 + 1465, i1);
 j0 = v4;
 i1 = UINT32_C(2);
-store8(p1 + 1485, i1);
-}
-j0 = v4;
-i0 = load8(p1 + 2160);
-if (!i0) {
-j0 = v4;
-i1 = UINT32_C(1);
-store8(p1 + 2160, i1);
-}
-j0 = v2;
-v14 = j0;
-j0 = v4;
-i0 = load8(p1 + 2208);
-i1 = UINT32_C(1);
-i0 = (i0 != i1);
-if (i0) { goto l3; }
-j0 = v4;
-i1 = UINT32_C(0);
-store8(p1 + 2209, i1);
-j0 = v2;
-v14 = j0;
-goto l3;
-l12:;
-j0 = v4;
-i0 = load8(p1 + 1485);
-v6 = i0;
-j0 = v4;
-i0 = load8(p1 + 2228);
-if (!i0) {
-j0 = v2;
-v14 = j0;
-i0 = v6;
-i1 = UINT32_C(255);
-i0 = i0 & i1;
-if (i0) { goto l3; }
+store8(p1 + 1477, i1);
 goto l21;
 }
 i0 = v6;
@@ -149956,8 +149828,7 @@ i1 = UINT32_C(255);
 i0 = i0 & i1;
 i1 = UINT32_C(1);
 i0 = (i0 == i1);
-if (i0) { goto l20; }
-l21:;
+if (!i0) {
 j0 = v11;
 j1 = UINT64_C(0);
 p5 = write_at(j0, m, 9u);
@@ -149967,44 +149838,60 @@ i1 = UINT32_C(0);
 store8(p5 + 8, i1);
 j0 = v4;
 i1 = UINT32_C(0);
-store8(p1 + 1473, i1);
+store8(p1 + 1465, i1);
 j0 = v4;
 i1 = UINT32_C(2);
-store8(p1 + 1485, i1);
-l20:;
+store8(p1 + 1477, i1);
+}
 j0 = v4;
-i0 = load8(p1 + 2160);
+i0 = load8(p1 + 2152);
 if (!i0) {
 j0 = v4;
 i1 = UINT32_C(1);
-store8(p1 + 2160, i1);
+store8(p1 + 2152, i1);
 }
+l21:;
 j0 = v2;
 v14 = j0;
 j0 = v4;
-i0 = load8(p1 + 2208);
+i0 = load8(p1 + 2200);
 i1 = UINT32_C(1);
 i0 = (i0 != i1);
 if (i0) { goto l3; }
 j0 = v4;
 i1 = UINT32_C(0);
-store8(p1 + 2209, i1);
+store8(p1 + 2201, i1);
 j0 = v2;
 v14 = j0;
 goto l3;
-l11:;
+l15:;
+j0 = v4;
+i0 = load8(p1 + 1477);
+v6 = i0;
+j0 = v4;
+i0 = load8(p1 + 2220);
+if (!i0) {
 j0 = v2;
 v14 = j0;
-j0 = v4;
-i0 = load8(p1 + 2228);
-i1 = UINT32_C(1);
-i0 = (i0 != i1);
+i0 = v6;
+i1 = UINT32_C(255);
+i0 = i0 & i1;
 if (i0) { goto l3; }
 j0 = v4;
-i0 = load8(p1 + 1485);
+i0 = load8(p1 + 2222);
+if (i0) { goto l5; }
+goto l25;
+}
+j0 = v4;
+i0 = load8(p1 + 2222);
+if (i0) { goto l6; }
+i0 = v6;
+i1 = UINT32_C(255);
+i0 = i0 & i1;
 i1 = UINT32_C(1);
 i0 = (i0 == i1);
-if (!i0) {
+if (i0) { goto l24; }
+l25:;
 j0 = v11;
 j1 = UINT64_C(0);
 p6 = write_at(j0, m, 9u);
@@ -150014,49 +149901,114 @@ i1 = UINT32_C(0);
 store8(p6 + 8, i1);
 j0 = v4;
 i1 = UINT32_C(0);
-store8(p1 + 1473, i1);
+store8(p1 + 1465, i1);
 j0 = v4;
 i1 = UINT32_C(2);
-store8(p1 + 1485, i1);
-}
+store8(p1 + 1477, i1);
+l24:;
 j0 = v4;
-i0 = load8(p1 + 2160);
-if (!i0) {
+i0 = load8(p1 + 2152);
+if (i0) { goto l4; }
 j0 = v4;
 i1 = UINT32_C(1);
-store8(p1 + 2160, i1);
-}
+store8(p1 + 2152, i1);
+goto l4;
+l14:;
 j0 = v2;
 v14 = j0;
 j0 = v4;
-i0 = load8(p1 + 2208);
+i0 = load8(p1 + 2220);
+i1 = UINT32_C(1);
+i0 = (i0 != i1);
+if (i0) { goto l3; }
+j0 = v4;
+i0 = load8(p1 + 1477);
+v6 = i0;
+j0 = v4;
+i0 = load8(p1 + 2222);
+i1 = UINT32_C(1);
+i0 = (i0 != i1);
+if (!i0) {
+i0 = v6;
+i1 = UINT32_C(255);
+i0 = i0 & i1;
+i1 = UINT32_C(1);
+i0 = (i0 == i1);
+if (i0) { goto l27; }
+j0 = v11;
+j1 = UINT64_C(0);
+p7 = write_at(j0, m, 9u);
+store64(p7 + 0, j1);
+j0 = v11;
+i1 = UINT32_C(0);
+store8(p7 + 8, i1);
+j0 = v4;
+i1 = UINT32_C(0);
+store8(p1 + 1465, i1);
+j0 = v4;
+i1 = UINT32_C(2);
+store8(p1 + 1477, i1);
+goto l27;
+}
+i0 = v6;
+i1 = UINT32_C(255);
+i0 = i0 & i1;
+i1 = UINT32_C(1);
+i0 = (i0 == i1);
+if (!i0) {
+j0 = v11;
+j1 = UINT64_C(0);
+p8 = write_at(j0, m, 9u);
+store64(p8 + 0, j1);
+j0 = v11;
+i1 = UINT32_C(0);
+store8(p8 + 8, i1);
+j0 = v4;
+i1 = UINT32_C(0);
+store8(p1 + 1465, i1);
+j0 = v4;
+i1 = UINT32_C(2);
+store8(p1 + 1477, i1);
+}
+j0 = v4;
+i0 = load8(p1 + 2152);
+if (!i0) {
+j0 = v4;
+i1 = UINT32_C(1);
+store8(p1 + 2152, i1);
+}
+l27:;
+j0 = v2;
+v14 = j0;
+j0 = v4;
+i0 = load8(p1 + 2200);
 i1 = UINT32_C(1);
 i0 = (i0 != i1);
 if (i0) { goto l3; }
 j0 = v4;
 i1 = UINT32_C(0);
-store8(p1 + 2209, i1);
+store8(p1 + 2201, i1);
 j0 = v2;
 v14 = j0;
 goto l3;
-l10:;
+l13:;
 j0 = v4;
 i1 = UINT32_C(1);
-store8(p1 + 2229, i1);
+store8(p1 + 2221, i1);
 j0 = v2;
 v14 = j0;
 goto l3;
-l8:;
+l11:;
 j0 = v9;
-p7 = read_at(j0, m, 2u);
-j0 = load16(p7 + 0);
+p9 = read_at(j0, m, 2u);
+j0 = load16(p9 + 0);
 v15 = j0;
 j0 = v4;
 i1 = UINT32_C(0);
-store16(p1 + 2256, i1);
+store16(p1 + 2240, i1);
 j0 = v4;
 j1 = UINT64_C(0);
-store64(p1 + 2248, j1);
+store64(p1 + 2232, j1);
 j0 = v13;
 j1 = v15;
 j2 = v13;
@@ -150069,8 +150021,8 @@ v17 = i0;
 j0 = v14;
 j1 = UINT64_C(24);
 j0 = j0 + j1;
-p8 = read_at(j0, m, 1u);
-i0 = load8(p8 + 0);
+p10 = read_at(j0, m, 1u);
+i0 = load8(p10 + 0);
 i1 = UINT32_C(1);
 i0 = (i0 == i1);
 if (!i0) {
@@ -150082,7 +150034,7 @@ i0 = UINT32_C(0);
 v19 = i0;
 i0 = UINT32_C(0);
 v16 = i0;
-goto l4;
+goto l7;
 }
 i0 = UINT32_C(0);
 v18 = i0;
@@ -150091,149 +150043,144 @@ v16 = i0;
 j0 = v14;
 j1 = UINT64_C(27);
 j0 = j0 + j1;
-p9 = read_at(j0, m, 1u);
-i0 = load8(p9 + 0);
+p11 = read_at(j0, m, 1u);
+i0 = load8(p11 + 0);
 v6 = i0;
 i1 = UINT32_C(4294967295);
 i0 = i0 + i1;
 switch (i0) {
 case 0:
-goto l28;
+goto l32;
 case 1:
-goto l29;
+goto l33;
 default:
-goto l27;
+goto l31;
 }
-l29:;
+l33:;
 i0 = UINT32_C(0);
 v6 = i0;
-l28:;
+l32:;
 i0 = UINT32_C(1);
 v16 = i0;
 i0 = v1;
 i1 = UINT32_C(255);
 i0 = i0 & i1;
-if (i0) { goto l6; }
+if (i0) { goto l9; }
 i0 = v6;
 v18 = i0;
-l27:;
+l31:;
 j0 = v15;
 i0 = (j0 == 0);
 i0 = (i0 == 0);
 if (!i0) {
 i0 = UINT32_C(1);
 v19 = i0;
-goto l30;
+goto l34;
 }
 j0 = v8;
-p10 = read_at(j0, m, 1u);
-i0 = (uint32_t)extend(load8(p10 + 0), 7);
+p12 = read_at(j0, m, 1u);
+i0 = (uint32_t)extend(load8(p12 + 0), 7);
 i1 = UINT32_C(4294967295);
 i0 = (SIGNED32(i0) > SIGNED32(i1));
 v19 = i0;
-l30:;
+l34:;
 i0 = v18;
 v6 = i0;
-goto l5;
-l7:;
+goto l8;
+l10:;
 j0 = v4;
-j1 = UINT64_C(1488);
+j1 = UINT64_C(1480);
 j0 = j0 + j1;
 v2 = j0;
 j0 = v4;
-i0 = load8(p1 + 2229);
+i0 = load8(p1 + 2222);
 v5 = i0;
 j0 = v4;
-i0 = load8(p1 + 2228);
+i0 = load8(p1 + 2221);
 v6 = i0;
 j0 = v4;
-i0 = load8(p1 + 2217);
+i0 = load8(p1 + 2220);
 v16 = i0;
 j0 = v4;
-i0 = load8(p1 + 2216);
+i0 = load8(p1 + 2209);
 v19 = i0;
 j0 = v4;
-i0 = load32(p1 + 2224);
+i0 = load8(p1 + 2208);
 v17 = i0;
 j0 = v4;
-i0 = load32(p1 + 2220);
+i0 = load32(p1 + 2216);
 v18 = i0;
 j0 = v4;
-i0 = load8(p1 + 2200);
+i0 = load32(p1 + 2212);
 v20 = i0;
 j0 = v4;
-i0 = load32(p1 + 2196);
+i0 = load8(p1 + 2192);
 v1 = i0;
 j0 = v4;
-i0 = load8(p1 + 2192);
+i0 = load32(p1 + 2188);
 v21 = i0;
 j0 = v4;
-i0 = load32(p1 + 2188);
+i0 = load8(p1 + 2184);
 v22 = i0;
 j0 = v4;
-i0 = load8(p1 + 2184);
+i0 = load32(p1 + 2180);
 v23 = i0;
 j0 = v4;
-i0 = load16(p1 + 1474);
+i0 = load8(p1 + 2176);
 v24 = i0;
 j0 = v4;
-i0 = load8(p1 + 1472);
+i0 = load16(p1 + 1466);
 v25 = i0;
 j0 = v4;
-i0 = load8(p1 + 1485);
+i0 = load8(p1 + 1464);
 v26 = i0;
 j0 = v4;
-i0 = load8(p1 + 1484);
+i0 = load8(p1 + 1477);
 v27 = i0;
 j0 = v4;
-i0 = load8(p1 + 1483);
+i0 = load8(p1 + 1476);
 v28 = i0;
 j0 = v4;
-i0 = load8(p1 + 1482);
+i0 = load8(p1 + 1475);
 v29 = i0;
 j0 = v4;
-i0 = load8(p1 + 1481);
+i0 = load8(p1 + 1474);
 v30 = i0;
 j0 = v4;
-i0 = load8(p1 + 1480);
+i0 = load8(p1 + 1473);
 v31 = i0;
 j0 = v4;
-i0 = load8(p1 + 1479);
+i0 = load8(p1 + 1472);
 v32 = i0;
 j0 = v4;
-i0 = load8(p1 + 1478);
+i0 = load8(p1 + 1471);
 v33 = i0;
 j0 = v4;
-i0 = load8(p1 + 1477);
+i0 = load8(p1 + 1470);
 v34 = i0;
 j0 = v4;
-i0 = load8(p1 + 1476);
+i0 = load8(p1 + 1469);
 v35 = i0;
 j0 = v4;
-i0 = load8(p1 + 2208);
+i0 = load8(p1 + 1468);
+v36 = i0;
+j0 = v4;
+i0 = load8(p1 + 2200);
 if (!i0) {
 j0 = v4;
-j1 = UINT64_C(2248);
+j1 = UINT64_C(2232);
 j0 = j0 + j1;
 j1 = v2;
 j2 = UINT64_C(696);
 copy(m, j0, j1, j2);
 i0 = UINT32_C(0);
-v36 = i0;
-j0 = v4;
-i1 = UINT32_C(0);
-store8(p1 + 2244, i1);
-j0 = v4;
-i1 = UINT32_C(0);
-store32(p1 + 2240, i1);
-j0 = v4;
-i1 = UINT32_C(0);
-store32(p1 + 2232, i1);
-j0 = v4;
-i1 = UINT32_C(0);
-store8(p1 + 2236, i1);
-i0 = UINT32_C(0);
 v37 = i0;
+j0 = v4;
+i1 = UINT32_C(0);
+store8(p1 + 2228, i1);
+j0 = v4;
+i1 = UINT32_C(0);
+store32(p1 + 2224, i1);
 i0 = UINT32_C(0);
 v38 = i0;
 i0 = UINT32_C(0);
@@ -150246,286 +150193,272 @@ i0 = UINT32_C(0);
 v42 = i0;
 i0 = UINT32_C(0);
 v43 = i0;
-goto l32;
+i0 = UINT32_C(0);
+v44 = i0;
+goto l36;
 }
 j0 = v4;
-i1 = UINT32_C(0);
-store32(p1 + 2232, i1);
-j0 = v4;
-i1 = UINT32_C(0);
-store8(p1 + 2236, i1);
-j0 = v4;
-i0 = load8(p1 + 2209);
-v37 = i0;
-j0 = v4;
-i0 = load8(p1 + 2214);
-v42 = i0;
-j0 = v4;
-i0 = load8(p1 + 2215);
-v43 = i0;
-j0 = v4;
-i0 = load8(p1 + 2211);
-v39 = i0;
-j0 = v4;
-i0 = load8(p1 + 2210);
+i0 = load8(p1 + 2201);
 v38 = i0;
 j0 = v4;
-i0 = load8(p1 + 2213);
-v41 = i0;
+i0 = load8(p1 + 2206);
+v43 = i0;
 j0 = v4;
-i0 = load8(p1 + 2212);
+i0 = load8(p1 + 2207);
+v44 = i0;
+j0 = v4;
+i0 = load8(p1 + 2203);
 v40 = i0;
 j0 = v4;
-j1 = UINT64_C(2248);
+i0 = load8(p1 + 2202);
+v39 = i0;
+j0 = v4;
+i0 = load8(p1 + 2205);
+v42 = i0;
+j0 = v4;
+i0 = load8(p1 + 2204);
+v41 = i0;
+j0 = v4;
+j1 = UINT64_C(2232);
 j0 = j0 + j1;
 j1 = v2;
 j2 = UINT64_C(696);
 copy(m, j0, j1, j2);
 j0 = v4;
 i1 = UINT32_C(0);
-store8(p1 + 2244, i1);
+store8(p1 + 2228, i1);
 j0 = v4;
 i1 = UINT32_C(0);
-store32(p1 + 2240, i1);
+store32(p1 + 2224, i1);
 i0 = UINT32_C(1);
-v36 = i0;
-i0 = v41;
+v37 = i0;
+i0 = v42;
 i1 = UINT32_C(0);
-i2 = v40;
+i2 = v41;
 i3 = UINT32_C(1);
 i2 = (i2 == i3);
-v40 = i2;
+v41 = i2;
 i0 = i2 ? i0 : i1;
-v41 = i0;
-i0 = v39;
+v42 = i0;
+i0 = v40;
 i1 = UINT32_C(0);
-i2 = v38;
+i2 = v39;
 i3 = UINT32_C(1);
 i2 = (i2 == i3);
-v38 = i2;
+v39 = i2;
 i0 = i2 ? i0 : i1;
-v39 = i0;
+v40 = i0;
+i0 = v44;
+i1 = UINT32_C(1);
+i0 = i0 & i1;
+v44 = i0;
 i0 = v43;
 i1 = UINT32_C(1);
 i0 = i0 & i1;
 v43 = i0;
-i0 = v42;
+i0 = v38;
 i1 = UINT32_C(1);
 i0 = i0 & i1;
-v42 = i0;
-i0 = v37;
-i1 = UINT32_C(1);
-i0 = i0 & i1;
-v37 = i0;
-l32:;
+v38 = i0;
+l36:;
 j0 = v4;
-j1 = UINT64_C(16);
+j1 = UINT64_C(8);
 j0 = j0 + j1;
 j1 = v4;
-j2 = UINT64_C(2248);
+j2 = UINT64_C(2232);
 j1 = j1 + j2;
 j2 = UINT64_C(696);
 copy(m, j0, j1, j2);
 j0 = v4;
 j1 = v4;
-i1 = load8(p1 + 2244);
-store8(p1 + 12, i1);
-j0 = v4;
-j1 = v4;
-i1 = load32(p1 + 2240);
-store32(p1 + 8, i1);
-j0 = v4;
-j1 = v4;
-i1 = load32(p1 + 2232);
-store32(p1 + 0, i1);
-j0 = v4;
-j1 = v4;
-i1 = load8(p1 + 2236);
+i1 = load8(p1 + 2228);
 store8(p1 + 4, i1);
+j0 = v4;
+j1 = v4;
+i1 = load32(p1 + 2224);
+store32(p1 + 0, i1);
 j0 = v0;
 j1 = v4;
-j2 = UINT64_C(16);
+j2 = UINT64_C(8);
 j1 = j1 + j2;
 j2 = UINT64_C(696);
 copy(m, j0, j1, j2);
-j0 = v0;
-i1 = v20;
-p11 = write_at(j0 + UINT64_C(696), m, 56u);
-store8(p11 + 26, i1);
-j0 = v0;
-i1 = v21;
-i2 = UINT32_C(255);
-i1 = i1 & i2;
-i2 = UINT32_C(1);
-i1 = (i1 == i2);
-v20 = i1;
-store8(p11 + 25, i1);
-j0 = v0;
-i1 = v23;
-i2 = UINT32_C(255);
-i1 = i1 & i2;
-i2 = UINT32_C(1);
-i1 = (i1 == i2);
-v21 = i1;
-store8(p11 + 24, i1);
 j0 = v0;
 i1 = v1;
-i2 = UINT32_C(0);
-i3 = v20;
-i1 = i3 ? i1 : i2;
-store32(p11 + 20, i1);
+p13 = write_at(j0 + UINT64_C(696), m, 56u);
+store8(p13 + 26, i1);
 j0 = v0;
 i1 = v22;
-i2 = UINT32_C(0);
-i3 = v21;
-i1 = i3 ? i1 : i2;
-store32(p11 + 16, i1);
-j0 = v0;
-i1 = UINT32_C(0);
-store32(p11 + 12, i1);
+i2 = UINT32_C(255);
+i1 = i1 & i2;
+i2 = UINT32_C(1);
+i1 = (i1 == i2);
+v1 = i1;
+store8(p13 + 25, i1);
 j0 = v0;
 i1 = v24;
-store16(p11 + 10, i1);
+i2 = UINT32_C(255);
+i1 = i1 & i2;
+i2 = UINT32_C(1);
+i1 = (i1 == i2);
+v22 = i1;
+store8(p13 + 24, i1);
+j0 = v0;
+i1 = v21;
+i2 = UINT32_C(0);
+i3 = v1;
+i1 = i3 ? i1 : i2;
+store32(p13 + 20, i1);
+j0 = v0;
+i1 = v23;
+i2 = UINT32_C(0);
+i3 = v22;
+i1 = i3 ? i1 : i2;
+store32(p13 + 16, i1);
+j0 = v0;
+i1 = UINT32_C(0);
+store32(p13 + 12, i1);
 j0 = v0;
 i1 = v25;
-store8(p11 + 9, i1);
+store16(p13 + 10, i1);
+j0 = v0;
+i1 = v26;
+store8(p13 + 9, i1);
 j0 = v0;
 i1 = UINT32_C(66048);
-i2 = v26;
+i2 = v27;
 i3 = UINT32_C(255);
 i2 = i2 & i3;
 i3 = UINT32_C(3);
 i2 = i2 << (i3 & 31);
 i1 = i1 >> (i2 & 31);
-store8(p11 + 8, i1);
+store8(p13 + 8, i1);
 j0 = v0;
-i1 = v27;
+i1 = v28;
 i2 = UINT32_C(1);
 i1 = i1 & i2;
 i2 = UINT32_C(1);
 i1 = i1 + i2;
 i2 = UINT32_C(0);
-i3 = v28;
+i3 = v29;
 i4 = UINT32_C(255);
 i3 = i3 & i4;
 i1 = i3 ? i1 : i2;
-store8(p11 + 7, i1);
-j0 = v0;
-i1 = v29;
-store8(p11 + 6, i1);
+store8(p13 + 7, i1);
 j0 = v0;
 i1 = v30;
-store8(p11 + 5, i1);
+store8(p13 + 6, i1);
 j0 = v0;
 i1 = v31;
+store8(p13 + 5, i1);
+j0 = v0;
+i1 = v32;
 i2 = UINT32_C(0);
-i3 = v32;
+i3 = v33;
 i4 = UINT32_C(255);
 i3 = i3 & i4;
 i4 = UINT32_C(1);
 i3 = (i3 == i4);
-v20 = i3;
+v1 = i3;
 i1 = i3 ? i1 : i2;
-store8(p11 + 4, i1);
+store8(p13 + 4, i1);
 j0 = v0;
-i1 = v20;
-store8(p11 + 3, i1);
-j0 = v0;
-i1 = v33;
-store8(p11 + 2, i1);
+i1 = v1;
+store8(p13 + 3, i1);
 j0 = v0;
 i1 = v34;
+store8(p13 + 2, i1);
+j0 = v0;
+i1 = v35;
 i2 = UINT32_C(0);
-i3 = v35;
+i3 = v36;
 i4 = UINT32_C(255);
 i3 = i3 & i4;
 i4 = UINT32_C(1);
 i3 = (i3 == i4);
-v20 = i3;
+v1 = i3;
 i1 = i3 ? i1 : i2;
-store8(p11 + 1, i1);
+store8(p13 + 1, i1);
 j0 = v0;
-i1 = v20;
-store8(p11 + 0, i1);
-j0 = v0;
-j1 = v4;
-i1 = load32(p1 + 8);
-store32(p11 + 27, i1);
-j0 = v0;
-j1 = v4;
-i1 = load8(p1 + 12);
-store8(p11 + 31, i1);
-j0 = v0;
-i1 = v43;
-store8(p11 + 50, i1);
-j0 = v0;
-i1 = v42;
-store8(p11 + 49, i1);
-j0 = v0;
-i1 = v41;
-store8(p11 + 48, i1);
-j0 = v0;
-i1 = v40;
-store8(p11 + 47, i1);
-j0 = v0;
-i1 = v39;
-store8(p11 + 46, i1);
-j0 = v0;
-i1 = v38;
-store8(p11 + 45, i1);
-j0 = v0;
-i1 = v37;
-store8(p11 + 44, i1);
-j0 = v0;
-i1 = v36;
-store8(p11 + 43, i1);
-j0 = v0;
-i1 = v5;
-store8(p11 + 42, i1);
-j0 = v0;
-i1 = v6;
-store8(p11 + 41, i1);
-j0 = v0;
-i1 = v16;
-i2 = UINT32_C(1);
-i1 = i1 + i2;
-i2 = UINT32_C(0);
-i3 = v19;
-i4 = UINT32_C(255);
-i3 = i3 & i4;
-i1 = i3 ? i1 : i2;
-store8(p11 + 40, i1);
-j0 = v0;
-i1 = v17;
-store32(p11 + 36, i1);
-j0 = v0;
-i1 = v18;
-store32(p11 + 32, i1);
+i1 = v1;
+store8(p13 + 0, i1);
 j0 = v0;
 j1 = v4;
 i1 = load32(p1 + 0);
-store32(p11 + 51, i1);
+store32(p13 + 27, i1);
 j0 = v0;
 j1 = v4;
 i1 = load8(p1 + 4);
-store8(p11 + 55, i1);
+store8(p13 + 31, i1);
+j0 = v0;
+i1 = UINT32_C(0);
+store32(p13 + 52, i1);
+j0 = v0;
+i1 = v5;
+store8(p13 + 51, i1);
+j0 = v0;
+i1 = v44;
+store8(p13 + 50, i1);
+j0 = v0;
+i1 = v43;
+store8(p13 + 49, i1);
+j0 = v0;
+i1 = v42;
+store8(p13 + 48, i1);
+j0 = v0;
+i1 = v41;
+store8(p13 + 47, i1);
+j0 = v0;
+i1 = v40;
+store8(p13 + 46, i1);
+j0 = v0;
+i1 = v39;
+store8(p13 + 45, i1);
+j0 = v0;
+i1 = v38;
+store8(p13 + 44, i1);
+j0 = v0;
+i1 = v37;
+store8(p13 + 43, i1);
+j0 = v0;
+i1 = v6;
+store8(p13 + 42, i1);
+j0 = v0;
+i1 = v16;
+store8(p13 + 41, i1);
+j0 = v0;
+i1 = v19;
+i2 = UINT32_C(1);
+i1 = i1 + i2;
+i2 = UINT32_C(0);
+i3 = v17;
+i4 = UINT32_C(255);
+i3 = i3 & i4;
+i1 = i3 ? i1 : i2;
+store8(p13 + 40, i1);
+j0 = v0;
+i1 = v18;
+store32(p13 + 36, i1);
+j0 = v0;
+i1 = v20;
+store32(p13 + 32, i1);
 j0 = v4;
-j1 = UINT64_C(2944);
+j1 = UINT64_C(2928);
 j0 = j0 + j1;
 m->g0 = j0;
 j0 = v12;
 i0 = (uint32_t)j0;
 r = i0;
 return r;
-l6:;
+l9:;
 i0 = v6;
 v19 = i0;
-l5:;
+l8:;
 j0 = v4;
-j1 = UINT64_C(2248);
+j1 = UINT64_C(2232);
 j0 = j0 + j1;
 j1 = v4;
-j2 = UINT64_C(1472);
+j2 = UINT64_C(1464);
 j1 = j1 + j2;
 i2 = v19;
 i3 = UINT32_C(1);
@@ -150538,52 +150471,83 @@ fio_check_log_judge_LogJudge_frame(m, j0, j1, i2, i3, i4, j5, j6);
 j0 = v14;
 j1 = UINT64_C(24);
 j0 = j0 + j1;
-p12 = read_at(j0, m, 1u);
-i0 = load8(p12 + 0);
+p14 = read_at(j0, m, 1u);
+i0 = load8(p14 + 0);
 i1 = UINT32_C(1);
 i0 = (i0 != i1);
 if (!i0) {
 j0 = v14;
 j1 = UINT64_C(25);
 j0 = j0 + j1;
-p13 = read_at(j0, m, 1u);
-i0 = load8(p13 + 0);
+p15 = read_at(j0, m, 1u);
+i0 = load8(p15 + 0);
 i0 = (i0 == 0);
 if (!i0) {
 j0 = v4;
-i0 = load8(p1 + 1485);
+i0 = load8(p1 + 1477);
+v6 = i0;
+j0 = v4;
+i0 = load8(p1 + 2222);
+i1 = UINT32_C(1);
+i0 = (i0 != i1);
+if (!i0) {
+i0 = v6;
+i1 = UINT32_C(255);
+i0 = i0 & i1;
+i1 = UINT32_C(1);
+i0 = (i0 == i1);
+if (i0) { goto l39; }
+j0 = v11;
+j1 = UINT64_C(0);
+p16 = write_at(j0, m, 9u);
+store64(p16 + 0, j1);
+j0 = v11;
+i1 = UINT32_C(0);
+store8(p16 + 8, i1);
+j0 = v4;
+i1 = UINT32_C(0);
+store8(p1 + 1465, i1);
+j0 = v4;
+i1 = UINT32_C(2);
+store8(p1 + 1477, i1);
+goto l39;
+}
+i0 = v6;
+i1 = UINT32_C(255);
+i0 = i0 & i1;
 i1 = UINT32_C(1);
 i0 = (i0 == i1);
 if (!i0) {
 j0 = v11;
 j1 = UINT64_C(0);
-p14 = write_at(j0, m, 9u);
-store64(p14 + 0, j1);
+p17 = write_at(j0, m, 9u);
+store64(p17 + 0, j1);
 j0 = v11;
 i1 = UINT32_C(0);
-store8(p14 + 8, i1);
+store8(p17 + 8, i1);
 j0 = v4;
 i1 = UINT32_C(0);
-store8(p1 + 1473, i1);
+store8(p1 + 1465, i1);
 j0 = v4;
 i1 = UINT32_C(2);
-store8(p1 + 1485, i1);
+store8(p1 + 1477, i1);
 }
 j0 = v4;
-i0 = load8(p1 + 2160);
+i0 = load8(p1 + 2152);
 if (!i0) {
 j0 = v4;
 i1 = UINT32_C(1);
-store8(p1 + 2160, i1);
+store8(p1 + 2152, i1);
 }
+l39:;
 j0 = v4;
-i0 = load8(p1 + 2208);
+i0 = load8(p1 + 2200);
 i1 = UINT32_C(1);
 i0 = (i0 != i1);
 if (!i0) {
 j0 = v4;
 i1 = UINT32_C(0);
-store8(p1 + 2209, i1);
+store8(p1 + 2201, i1);
 }
 }
 }
@@ -150596,29 +150560,29 @@ v18 = i0;
 i0 = UINT32_C(0);
 v16 = i0;
 j0 = v4;
-j0 = load8(p1 + 2248);
+j0 = load8(p1 + 2232);
 i0 = (uint32_t)j0;
 switch (i0) {
 case 0:
-goto l38;
+goto l43;
 case 1:
-goto l4;
+goto l7;
 case 2:
-goto l37;
+goto l42;
 default:
-goto l38;
+goto l43;
 }
-l38:;
+l43:;
 j0 = v4;
-i0 = load16(p1 + 2252);
+i0 = load16(p1 + 2236);
 j1 = v4;
-i1 = load8(p1 + 2254);
+i1 = load8(p1 + 2238);
 i2 = UINT32_C(16);
 i1 = i1 << (i2 & 31);
 i0 = i0 | i1;
 v21 = i0;
 j0 = v4;
-i0 = load8(p1 + 2251);
+i0 = load8(p1 + 2235);
 v22 = i0;
 i0 = UINT32_C(0);
 v6 = i0;
@@ -150631,25 +150595,25 @@ v17 = i0;
 i0 = UINT32_C(0);
 v16 = i0;
 j0 = v4;
-i0 = load8(p1 + 2250);
+i0 = load8(p1 + 2234);
 v18 = i0;
 switch (i0) {
 case 0:
-goto l39;
+goto l44;
 case 1:
-goto l43;
+goto l48;
 case 2:
-goto l42;
+goto l47;
 case 3:
-goto l41;
+goto l46;
 case 4:
-goto l39;
+goto l44;
 case 5:
-goto l40;
+goto l45;
 default:
-goto l39;
+goto l44;
 }
-l43:;
+l48:;
 i0 = UINT32_C(255);
 v17 = i0;
 i0 = UINT32_C(0);
@@ -150676,10 +150640,10 @@ i0 = i0 + i1;
 v19 = i0;
 i0 = UINT32_C(0);
 v16 = i0;
-goto l39;
-l42:;
+goto l44;
+l47:;
 j0 = v4;
-i0 = load8(p1 + 2255);
+i0 = load8(p1 + 2239);
 i1 = UINT32_C(4294967295);
 i2 = v21;
 i3 = UINT32_C(16711680);
@@ -150689,7 +150653,7 @@ i2 = (i2 == i3);
 i0 = i2 ? i0 : i1;
 v17 = i0;
 j0 = v4;
-i0 = load8(p1 + 2256);
+i0 = load8(p1 + 2240);
 i1 = UINT32_C(1);
 i0 = i0 + i1;
 v19 = i0;
@@ -150699,8 +150663,8 @@ i0 = UINT32_C(0);
 v20 = i0;
 i0 = v21;
 v16 = i0;
-goto l39;
-l41:;
+goto l44;
+l46:;
 i0 = UINT32_C(255);
 v17 = i0;
 i0 = UINT32_C(2);
@@ -150716,8 +150680,8 @@ i0 = UINT32_C(0);
 v20 = i0;
 i0 = UINT32_C(0);
 v16 = i0;
-goto l39;
-l40:;
+goto l44;
+l45:;
 i0 = UINT32_C(255);
 v17 = i0;
 i0 = UINT32_C(4);
@@ -150733,22 +150697,22 @@ i0 = UINT32_C(0);
 v19 = i0;
 i0 = UINT32_C(0);
 v20 = i0;
-l39:;
+l44:;
 i0 = v20;
 i1 = v19;
 i2 = UINT32_C(255);
 i1 = i1 & i2;
 i0 = i0 | i1;
 v19 = i0;
-goto l4;
-l37:;
+goto l7;
+l42:;
 i0 = UINT32_C(0);
 v16 = i0;
 i0 = UINT32_C(6);
 v6 = i0;
 i0 = UINT32_C(0);
 v19 = i0;
-l4:;
+l7:;
 i0 = v5;
 i1 = UINT32_C(4294967295);
 i0 = i0 + i1;
@@ -150776,29 +150740,64 @@ j1 = j1 * j2;
 j0 = j0 + j1;
 v15 = j0;
 i1 = v16;
-p15 = write_at(j0, m, 10u);
-store16(p15 + 8, i1);
+p18 = write_at(j0, m, 10u);
+store16(p18 + 8, i1);
 j0 = v15;
 i1 = UINT32_C(0);
-store8(p15 + 7, i1);
+store8(p18 + 7, i1);
 j0 = v15;
 i1 = v17;
-store8(p15 + 6, i1);
+store8(p18 + 6, i1);
 j0 = v15;
 i1 = v19;
-store32(p15 + 2, i1);
+store32(p18 + 2, i1);
 j0 = v15;
 i1 = v6;
-store8(p15 + 1, i1);
+store8(p18 + 1, i1);
 j0 = v15;
 i1 = v18;
-store8(p15 + 0, i1);
+store8(p18 + 0, i1);
 j0 = v12;
 j1 = UINT64_C(1);
 j0 = j0 + j1;
 v12 = j0;
 j0 = v2;
 v15 = j0;
+goto l3;
+l6:;
+i0 = v6;
+i1 = UINT32_C(255);
+i0 = i0 & i1;
+i1 = UINT32_C(1);
+i0 = (i0 == i1);
+if (i0) { goto l4; }
+l5:;
+j0 = v11;
+j1 = UINT64_C(0);
+p19 = write_at(j0, m, 9u);
+store64(p19 + 0, j1);
+j0 = v11;
+i1 = UINT32_C(0);
+store8(p19 + 8, i1);
+j0 = v4;
+i1 = UINT32_C(0);
+store8(p1 + 1465, i1);
+j0 = v4;
+i1 = UINT32_C(2);
+store8(p1 + 1477, i1);
+l4:;
+j0 = v2;
+v14 = j0;
+j0 = v4;
+i0 = load8(p1 + 2200);
+i1 = UINT32_C(1);
+i0 = (i0 != i1);
+if (i0) { goto l3; }
+j0 = v4;
+i1 = UINT32_C(0);
+store8(p1 + 2201, i1);
+j0 = v2;
+v14 = j0;
 goto l3;
 }
 fio2070_trap();
@@ -150864,6 +150863,7 @@ uint32_t v32 = 0;
 uint32_t v33 = 0;
 uint32_t v34 = 0;
 uint32_t v35 = 0;
+uint32_t v36 = 0;
 uint32_t i0;
 uint32_t i1;
 uint32_t i2;
@@ -150880,9 +150880,9 @@ uint8_t *p1;
 uint8_t *p2;
 uint8_t *p3;
 j0 = m->g0;
-j1 = UINT64_C(2256);
+j1 = UINT64_C(2240);
 j0 = j0 - j1;
-p1 = write_at(j0, m, 2256u);
+p1 = write_at(j0, m, 2240u);
 v6 = j0;
 m->g0 = j0;
 j0 = v6;
@@ -150927,36 +150927,30 @@ v7 = i0;
 l5:;
 j0 = v6;
 j1 = UINT64_C(0);
-store64(p1 + 768, j1);
+store64(p1 + 760, j1);
 i0 = UINT32_C(0);
 v8 = i0;
 j0 = v6;
 i1 = UINT32_C(0);
-store16(p1 + 776, i1);
+store16(p1 + 768, i1);
 j0 = v6;
-j1 = UINT64_C(8);
-j0 = j0 + j1;
 i1 = UINT32_C(0);
 j2 = UINT64_C(760);
 fill(m, j0, i1, j2);
 j0 = v6;
-j1 = UINT64_C(8);
-j0 = j0 + j1;
 j1 = v0;
 fio_c_log_judge_log_judge_from(m, j0, j1);
 j0 = v6;
-j1 = UINT64_C(784);
+j1 = UINT64_C(776);
 j0 = j0 + j1;
 j1 = v6;
-j2 = UINT64_C(8);
-j1 = j1 + j2;
 j2 = UINT64_C(760);
 copy(m, j0, j1, j2);
 j0 = v6;
-j1 = UINT64_C(768);
+j1 = UINT64_C(760);
 j0 = j0 + j1;
 j1 = v6;
-j2 = UINT64_C(784);
+j2 = UINT64_C(776);
 j1 = j1 + j2;
 i2 = v1;
 i3 = UINT32_C(255);
@@ -150970,104 +150964,99 @@ j6 = v4;
 fio_check_log_judge_LogJudge_frame(m, j0, j1, i2, i3, i4, j5, j6);
 i0 = UINT32_C(66048);
 j1 = v6;
-i1 = load8(p1 + 797);
+i1 = load8(p1 + 789);
 i2 = UINT32_C(3);
 i1 = i1 << (i2 & 31);
 i0 = i0 >> (i1 & 31);
 v2 = i0;
 j0 = v6;
-j1 = UINT64_C(800);
+j1 = UINT64_C(792);
 j0 = j0 + j1;
 v3 = j0;
 j0 = v6;
-i0 = load8(p1 + 1541);
+i0 = load8(p1 + 1534);
 v7 = i0;
 j0 = v6;
-i0 = load8(p1 + 1540);
+i0 = load8(p1 + 1533);
 v1 = i0;
 j0 = v6;
-i0 = load8(p1 + 1529);
+i0 = load8(p1 + 1532);
 v9 = i0;
 j0 = v6;
-i0 = load8(p1 + 1528);
+i0 = load8(p1 + 1521);
 v10 = i0;
 j0 = v6;
-i0 = load32(p1 + 1536);
+i0 = load8(p1 + 1520);
 v11 = i0;
 j0 = v6;
-i0 = load32(p1 + 1532);
+i0 = load32(p1 + 1528);
 v12 = i0;
 j0 = v6;
-i0 = load8(p1 + 1512);
+i0 = load32(p1 + 1524);
 v13 = i0;
 j0 = v6;
-i0 = load32(p1 + 1508);
+i0 = load8(p1 + 1504);
 v14 = i0;
 j0 = v6;
-i0 = load8(p1 + 1504);
+i0 = load32(p1 + 1500);
 v15 = i0;
 j0 = v6;
-i0 = load32(p1 + 1500);
+i0 = load8(p1 + 1496);
 v16 = i0;
 j0 = v6;
-i0 = load8(p1 + 1496);
+i0 = load32(p1 + 1492);
 v17 = i0;
 j0 = v6;
-i0 = load16(p1 + 786);
+i0 = load8(p1 + 1488);
 v18 = i0;
 j0 = v6;
-i0 = load8(p1 + 784);
+i0 = load16(p1 + 778);
 v19 = i0;
 j0 = v6;
-i0 = load8(p1 + 796);
+i0 = load8(p1 + 776);
 v20 = i0;
 j0 = v6;
-i0 = load8(p1 + 795);
+i0 = load8(p1 + 788);
 v21 = i0;
 j0 = v6;
-i0 = load8(p1 + 794);
+i0 = load8(p1 + 787);
 v22 = i0;
 j0 = v6;
-i0 = load8(p1 + 793);
+i0 = load8(p1 + 786);
 v23 = i0;
 j0 = v6;
-i0 = load8(p1 + 792);
+i0 = load8(p1 + 785);
 v24 = i0;
 j0 = v6;
-i0 = load8(p1 + 791);
+i0 = load8(p1 + 784);
 v25 = i0;
 j0 = v6;
-i0 = load8(p1 + 790);
+i0 = load8(p1 + 783);
 v26 = i0;
 j0 = v6;
-i0 = load8(p1 + 789);
+i0 = load8(p1 + 782);
 v27 = i0;
 j0 = v6;
-i0 = load8(p1 + 788);
+i0 = load8(p1 + 781);
 v28 = i0;
 j0 = v6;
-i0 = load8(p1 + 1520);
+i0 = load8(p1 + 780);
+v29 = i0;
+j0 = v6;
+i0 = load8(p1 + 1512);
 if (!i0) {
 j0 = v6;
-j1 = UINT64_C(1560);
+j1 = UINT64_C(1544);
 j0 = j0 + j1;
 j1 = v3;
 j2 = UINT64_C(696);
 copy(m, j0, j1, j2);
 j0 = v6;
 i1 = UINT32_C(0);
-store8(p1 + 1556, i1);
+store8(p1 + 1540, i1);
 j0 = v6;
 i1 = UINT32_C(0);
-store32(p1 + 1552, i1);
-j0 = v6;
-i1 = UINT32_C(0);
-store32(p1 + 1544, i1);
-j0 = v6;
-i1 = UINT32_C(0);
-store8(p1 + 1548, i1);
-i0 = UINT32_C(0);
-v29 = i0;
+store32(p1 + 1536, i1);
 i0 = UINT32_C(0);
 v30 = i0;
 i0 = UINT32_C(0);
@@ -151080,113 +151069,109 @@ i0 = UINT32_C(0);
 v34 = i0;
 i0 = UINT32_C(0);
 v35 = i0;
+i0 = UINT32_C(0);
+v36 = i0;
 goto l8;
 }
 j0 = v6;
-i1 = UINT32_C(0);
-store32(p1 + 1544, i1);
-j0 = v6;
-i1 = UINT32_C(0);
-store8(p1 + 1548, i1);
-j0 = v6;
-i0 = load8(p1 + 1521);
+i0 = load8(p1 + 1513);
 v8 = i0;
 j0 = v6;
-i0 = load8(p1 + 1526);
-v29 = i0;
-j0 = v6;
-i0 = load8(p1 + 1527);
-v34 = i0;
-j0 = v6;
-i0 = load8(p1 + 1523);
-v31 = i0;
-j0 = v6;
-i0 = load8(p1 + 1522);
+i0 = load8(p1 + 1518);
 v30 = i0;
 j0 = v6;
-i0 = load8(p1 + 1525);
-v33 = i0;
+i0 = load8(p1 + 1519);
+v35 = i0;
 j0 = v6;
-i0 = load8(p1 + 1524);
+i0 = load8(p1 + 1515);
 v32 = i0;
 j0 = v6;
-j1 = UINT64_C(1560);
+i0 = load8(p1 + 1514);
+v31 = i0;
+j0 = v6;
+i0 = load8(p1 + 1517);
+v34 = i0;
+j0 = v6;
+i0 = load8(p1 + 1516);
+v33 = i0;
+j0 = v6;
+j1 = UINT64_C(1544);
 j0 = j0 + j1;
 j1 = v3;
 j2 = UINT64_C(696);
 copy(m, j0, j1, j2);
 j0 = v6;
 i1 = UINT32_C(0);
-store8(p1 + 1556, i1);
+store8(p1 + 1540, i1);
 j0 = v6;
 i1 = UINT32_C(0);
-store32(p1 + 1552, i1);
-i0 = v33;
-i1 = UINT32_C(0);
-i2 = v32;
-i3 = UINT32_C(1);
-i2 = (i2 == i3);
-v32 = i2;
-i0 = i2 ? i0 : i1;
-v33 = i0;
-i0 = v31;
-i1 = UINT32_C(0);
-i2 = v30;
-i3 = UINT32_C(1);
-i2 = (i2 == i3);
-v30 = i2;
-i0 = i2 ? i0 : i1;
-v31 = i0;
+store32(p1 + 1536, i1);
 i0 = v34;
+i1 = UINT32_C(0);
+i2 = v33;
+i3 = UINT32_C(1);
+i2 = (i2 == i3);
+v33 = i2;
+i0 = i2 ? i0 : i1;
+v34 = i0;
+i0 = v32;
+i1 = UINT32_C(0);
+i2 = v31;
+i3 = UINT32_C(1);
+i2 = (i2 == i3);
+v31 = i2;
+i0 = i2 ? i0 : i1;
+v32 = i0;
+i0 = v35;
+i1 = UINT32_C(1);
+i0 = i0 & i1;
+v36 = i0;
+i0 = v30;
 i1 = UINT32_C(1);
 i0 = i0 & i1;
 v35 = i0;
-i0 = v29;
-i1 = UINT32_C(1);
-i0 = i0 & i1;
-v34 = i0;
 i0 = v8;
 i1 = UINT32_C(1);
 i0 = i0 & i1;
-v29 = i0;
+v30 = i0;
 i0 = UINT32_C(1);
 v8 = i0;
 l8:;
 j0 = v0;
 j1 = v6;
-j2 = UINT64_C(1560);
+j2 = UINT64_C(1544);
 j1 = j1 + j2;
 j2 = UINT64_C(696);
 copy(m, j0, j1, j2);
 j0 = v0;
-i1 = v13;
+i1 = v14;
 p2 = write_at(j0 + UINT64_C(696), m, 56u);
 store8(p2 + 26, i1);
 j0 = v0;
 i1 = UINT32_C(0);
 store32(p2 + 12, i1);
 j0 = v0;
-i1 = v18;
+i1 = v19;
 store16(p2 + 10, i1);
 j0 = v0;
-i1 = v19;
+i1 = v20;
 store8(p2 + 9, i1);
 j0 = v0;
 i1 = v2;
 store8(p2 + 8, i1);
 j0 = v0;
-i1 = v22;
+i1 = v23;
 store8(p2 + 6, i1);
 j0 = v0;
-i1 = v23;
+i1 = v24;
 store8(p2 + 5, i1);
 j0 = v0;
-i1 = v26;
+i1 = v27;
 store8(p2 + 2, i1);
 i0 = UINT32_C(255);
-v13 = i0;
+v14 = i0;
 j0 = v0;
-i1 = v15;
+i1 = v16;
 i2 = UINT32_C(255);
 i1 = i1 & i2;
 i2 = UINT32_C(1);
@@ -151194,127 +151179,125 @@ i1 = (i1 == i2);
 v2 = i1;
 store8(p2 + 25, i1);
 j0 = v0;
-i1 = v17;
+i1 = v18;
 i2 = UINT32_C(255);
 i1 = i1 & i2;
 i2 = UINT32_C(1);
 i1 = (i1 == i2);
-v15 = i1;
+v16 = i1;
 store8(p2 + 24, i1);
 j0 = v0;
-i1 = v25;
-i2 = UINT32_C(255);
-i1 = i1 & i2;
-i2 = UINT32_C(1);
-i1 = (i1 == i2);
-v17 = i1;
-store8(p2 + 3, i1);
-j0 = v0;
-i1 = v28;
+i1 = v26;
 i2 = UINT32_C(255);
 i1 = i1 & i2;
 i2 = UINT32_C(1);
 i1 = (i1 == i2);
 v18 = i1;
+store8(p2 + 3, i1);
+j0 = v0;
+i1 = v29;
+i2 = UINT32_C(255);
+i1 = i1 & i2;
+i2 = UINT32_C(1);
+i1 = (i1 == i2);
+v19 = i1;
 store8(p2 + 0, i1);
 j0 = v0;
 j1 = v6;
-i1 = load32(p1 + 1552);
+i1 = load32(p1 + 1536);
 store32(p2 + 27, i1);
 j0 = v0;
 j1 = v6;
-i1 = load8(p1 + 1556);
+i1 = load8(p1 + 1540);
 store8(p2 + 31, i1);
 j0 = v0;
-i1 = v14;
+i1 = v15;
 i2 = UINT32_C(0);
 i3 = v2;
 i1 = i3 ? i1 : i2;
 store32(p2 + 20, i1);
 j0 = v0;
-i1 = v16;
+i1 = v17;
 i2 = UINT32_C(0);
-i3 = v15;
+i3 = v16;
 i1 = i3 ? i1 : i2;
 store32(p2 + 16, i1);
 j0 = v0;
-i1 = v20;
+i1 = v21;
 i2 = UINT32_C(1);
 i1 = i1 & i2;
 i2 = UINT32_C(1);
 i1 = i1 + i2;
 i2 = UINT32_C(0);
-i3 = v21;
+i3 = v22;
 i4 = UINT32_C(255);
 i3 = i3 & i4;
 i1 = i3 ? i1 : i2;
 store8(p2 + 7, i1);
 j0 = v0;
-i1 = v24;
-i2 = UINT32_C(0);
-i3 = v17;
-i1 = i3 ? i1 : i2;
-store8(p2 + 4, i1);
-j0 = v0;
-i1 = v27;
+i1 = v25;
 i2 = UINT32_C(0);
 i3 = v18;
 i1 = i3 ? i1 : i2;
+store8(p2 + 4, i1);
+j0 = v0;
+i1 = v28;
+i2 = UINT32_C(0);
+i3 = v19;
+i1 = i3 ? i1 : i2;
 store8(p2 + 1, i1);
 j0 = v0;
-i1 = v35;
+i1 = UINT32_C(0);
+store32(p2 + 52, i1);
+j0 = v0;
+i1 = v7;
+store8(p2 + 51, i1);
+j0 = v0;
+i1 = v36;
 store8(p2 + 50, i1);
 j0 = v0;
-i1 = v34;
+i1 = v35;
 store8(p2 + 49, i1);
 j0 = v0;
-i1 = v33;
+i1 = v34;
 store8(p2 + 48, i1);
 j0 = v0;
-i1 = v32;
+i1 = v33;
 store8(p2 + 47, i1);
 j0 = v0;
-i1 = v31;
+i1 = v32;
 store8(p2 + 46, i1);
 j0 = v0;
-i1 = v30;
+i1 = v31;
 store8(p2 + 45, i1);
 j0 = v0;
-i1 = v29;
+i1 = v30;
 store8(p2 + 44, i1);
 j0 = v0;
 i1 = v8;
 store8(p2 + 43, i1);
 j0 = v0;
-i1 = v7;
+i1 = v1;
 store8(p2 + 42, i1);
 j0 = v0;
-i1 = v1;
+i1 = v9;
 store8(p2 + 41, i1);
 j0 = v0;
-i1 = v9;
+i1 = v10;
 i2 = UINT32_C(1);
 i1 = i1 + i2;
 i2 = UINT32_C(0);
-i3 = v10;
+i3 = v11;
 i4 = UINT32_C(255);
 i3 = i3 & i4;
 i1 = i3 ? i1 : i2;
 store8(p2 + 40, i1);
 j0 = v0;
-i1 = v11;
+i1 = v12;
 store32(p2 + 36, i1);
 j0 = v0;
-i1 = v12;
+i1 = v13;
 store32(p2 + 32, i1);
-j0 = v0;
-j1 = v6;
-i1 = load32(p1 + 1544);
-store32(p2 + 51, i1);
-j0 = v0;
-j1 = v6;
-i1 = load8(p1 + 1548);
-store8(p2 + 55, i1);
 i0 = UINT32_C(5);
 v7 = i0;
 i0 = UINT32_C(3);
@@ -151324,7 +151307,7 @@ v1 = i0;
 i0 = UINT32_C(0);
 v8 = i0;
 j0 = v6;
-j0 = load8(p1 + 768);
+j0 = load8(p1 + 760);
 i0 = (uint32_t)j0;
 switch (i0) {
 case 0:
@@ -151338,15 +151321,15 @@ goto l10;
 }
 l10:;
 j0 = v6;
-i0 = load16(p1 + 772);
+i0 = load16(p1 + 764);
 j1 = v6;
-i1 = load8(p1 + 774);
+i1 = load8(p1 + 766);
 i2 = UINT32_C(16);
 i1 = i1 << (i2 & 31);
 i0 = i0 | i1;
 v10 = i0;
 j0 = v6;
-i0 = load8(p1 + 771);
+i0 = load8(p1 + 763);
 v11 = i0;
 i0 = UINT32_C(0);
 v7 = i0;
@@ -151355,11 +151338,11 @@ v1 = i0;
 i0 = UINT32_C(0);
 v9 = i0;
 i0 = UINT32_C(255);
-v13 = i0;
+v14 = i0;
 i0 = UINT32_C(0);
 v8 = i0;
 j0 = v6;
-i0 = load8(p1 + 770);
+i0 = load8(p1 + 762);
 v2 = i0;
 switch (i0) {
 case 0:
@@ -151379,7 +151362,7 @@ goto l11;
 }
 l15:;
 i0 = UINT32_C(255);
-v13 = i0;
+v14 = i0;
 i0 = UINT32_C(0);
 v7 = i0;
 i0 = v10;
@@ -151407,7 +151390,7 @@ v8 = i0;
 goto l11;
 l14:;
 j0 = v6;
-i0 = load8(p1 + 775);
+i0 = load8(p1 + 767);
 i1 = UINT32_C(4294967295);
 i2 = v10;
 i3 = UINT32_C(16711680);
@@ -151415,9 +151398,9 @@ i2 = i2 & i3;
 i3 = UINT32_C(65536);
 i2 = (i2 == i3);
 i0 = i2 ? i0 : i1;
-v13 = i0;
+v14 = i0;
 j0 = v6;
-i0 = load8(p1 + 776);
+i0 = load8(p1 + 768);
 i1 = UINT32_C(1);
 i0 = i0 + i1;
 v1 = i0;
@@ -151430,7 +151413,7 @@ v8 = i0;
 goto l11;
 l13:;
 i0 = UINT32_C(255);
-v13 = i0;
+v14 = i0;
 i0 = UINT32_C(2);
 i1 = UINT32_C(1);
 i2 = v11;
@@ -151447,7 +151430,7 @@ v8 = i0;
 goto l11;
 l12:;
 i0 = UINT32_C(255);
-v13 = i0;
+v14 = i0;
 i0 = UINT32_C(4);
 i1 = UINT32_C(3);
 i2 = v11;
@@ -151487,7 +151470,7 @@ j0 = v5;
 i1 = UINT32_C(0);
 store8(p3 + 7, i1);
 j0 = v5;
-i1 = v13;
+i1 = v14;
 store8(p3 + 6, i1);
 j0 = v5;
 i1 = v1;
@@ -151499,10 +151482,524 @@ j0 = v5;
 i1 = v2;
 store8(p3 + 0, i1);
 j0 = v6;
-j1 = UINT64_C(2256);
+j1 = UINT64_C(2240);
 j0 = j0 + j1;
 m->g0 = j0;
 i0 = v2;
+r = i0;
+return r;
+}
+static uint32_t enter_log_batch_part(struct machine *m, uint64_t v0, uint64_t v1, uint64_t v2, uint64_t v3)
+{
+uint32_t v4 = 0;
+uint32_t i0;
+uint64_t j0;
+uint64_t j1;
+uint64_t j2;
+uint64_t j3;
+uint32_t r = 0;
+i0 = rattle_enter(m);
+i0 = (i0 == 0);
+if (!i0) {
+fio2070_trap();
+}
+j0 = v0;
+j1 = v1;
+j2 = v2;
+j3 = v3;
+i0 = proved_log_batch_part(m, j0, j1, j2, j3);
+v4 = i0;
+rattle_leave(m);
+i0 = v4;
+r = i0;
+return r;
+}
+static uint32_t proved_log_batch_part(struct machine *m, uint64_t v0, uint64_t v1, uint64_t v2, uint64_t v3)
+{
+uint64_t v4 = 0;
+uint64_t v5 = 0;
+uint32_t v6 = 0;
+uint64_t v7 = 0;
+uint64_t v8 = 0;
+uint64_t v9 = 0;
+uint64_t v10 = 0;
+uint64_t v11 = 0;
+uint64_t v12 = 0;
+uint64_t v13 = 0;
+uint64_t v14 = 0;
+uint32_t v15 = 0;
+uint32_t v16 = 0;
+uint32_t v17 = 0;
+uint64_t v18 = 0;
+uint32_t v19 = 0;
+uint32_t v20 = 0;
+uint32_t v21 = 0;
+uint32_t v22 = 0;
+uint32_t v23 = 0;
+uint64_t v24 = 0;
+uint32_t v25 = 0;
+uint64_t v26 = 0;
+uint64_t v27 = 0;
+uint64_t v28 = 0;
+uint64_t v29 = 0;
+uint64_t v30 = 0;
+uint64_t v31 = 0;
+uint32_t i0;
+uint32_t i1;
+uint32_t i2;
+uint32_t i3;
+uint64_t j0;
+uint64_t j1;
+uint64_t j2;
+uint64_t j3;
+uint64_t j4;
+uint32_t r = 0;
+uint8_t *p1;
+uint8_t *p2;
+uint8_t *p3;
+uint8_t *p4;
+uint8_t *p5;
+uint8_t *p6;
+uint8_t *p7;
+uint8_t *p8;
+uint8_t *p9;
+uint8_t *p10;
+uint8_t *p11;
+uint8_t *p12;
+uint8_t *p13;
+j0 = m->g0;
+j1 = UINT64_C(16);
+i0 = (SIGNED64(j0) < SIGNED64(j1));
+if (!i0) {
+j0 = UINT64_C(0);
+v4 = j0;
+j0 = v1;
+j1 = UINT64_C(4096);
+j2 = UINT64_C(0);
+j3 = v1;
+i3 = (j3 == 0);
+j1 = i3 ? j1 : j2;
+j0 = j0 + j1;
+v5 = j0;
+j0 = v3;
+j1 = UINT64_C(0);
+p1 = write_at(j0, m, 16u);
+store64(p1 + 8, j1);
+j0 = v3;
+j1 = UINT64_C(0);
+store64(p1 + 0, j1);
+j0 = v0;
+j1 = UINT64_C(4);
+j0 = j0 + j1;
+p2 = read_at(j0 + UINT64_C(18446744073709551612), m, 8u);
+i0 = load32(p2 + 4);
+v6 = i0;
+i1 = UINT32_C(20480);
+i2 = v6;
+i3 = UINT32_C(20480);
+i2 = (i2 < i3);
+i0 = i2 ? i0 : i1;
+j0 = (uint64_t)i0;
+v7 = j0;
+j0 = v3;
+j1 = UINT64_C(499728);
+j0 = j0 + j1;
+v8 = j0;
+j0 = v3;
+j1 = UINT64_C(16);
+j0 = j0 + j1;
+v9 = j0;
+j0 = v3;
+j1 = UINT64_C(458768);
+j0 = j0 + j1;
+v10 = j0;
+j0 = v0;
+j1 = UINT64_C(499728);
+j0 = j0 + j1;
+v11 = j0;
+j0 = v0;
+j1 = UINT64_C(458768);
+j0 = j0 + j1;
+v12 = j0;
+j0 = v0;
+j1 = UINT64_C(16);
+j0 = j0 + j1;
+v13 = j0;
+j0 = v0;
+i0 = load32(p2 + 0);
+v6 = i0;
+i1 = UINT32_C(4096);
+i2 = v6;
+i3 = UINT32_C(4096);
+i2 = (i2 < i3);
+i0 = i2 ? i0 : i1;
+j0 = (uint64_t)i0;
+v14 = j0;
+i0 = UINT32_C(0);
+v6 = i0;
+j0 = UINT64_C(65536);
+v0 = j0;
+i0 = UINT32_C(0);
+v15 = i0;
+i0 = UINT32_C(0);
+v16 = i0;
+i0 = UINT32_C(0);
+v17 = i0;
+l4:;
+j0 = v12;
+v1 = j0;
+l5:;
+j0 = v11;
+v18 = j0;
+i0 = v6;
+i0 = (i0 == 0);
+if (!i0) {
+j0 = v7;
+j1 = UINT64_C(0);
+i0 = (j0 != j1);
+if (i0) { goto l6; }
+}
+j0 = v14;
+i0 = (j0 == 0);
+if (i0) { goto l2; }
+j0 = v13;
+j1 = UINT64_C(16);
+j0 = j0 + j1;
+p3 = read_at(j0, m, 4u);
+i0 = load32(p3 + 0);
+v6 = i0;
+i0 = UINT32_C(0);
+v17 = i0;
+i0 = UINT32_C(0);
+v19 = i0;
+i0 = UINT32_C(0);
+v20 = i0;
+i0 = UINT32_C(0);
+v21 = i0;
+j0 = v4;
+j1 = v2;
+i0 = (j0 >= j1);
+if (!i0) {
+i0 = UINT32_C(4);
+v20 = i0;
+j0 = v5;
+j1 = v4;
+j0 = j0 + j1;
+p4 = read_at(j0, m, 1u);
+i0 = load8(p4 + 0);
+v17 = i0;
+v19 = i0;
+i0 = UINT32_C(0);
+v21 = i0;
+i0 = v17;
+i1 = UINT32_C(4294967295);
+i0 = i0 + i1;
+switch (i0) {
+case 0:
+goto l10;
+case 1:
+goto l8;
+default:
+goto l9;
+}
+l10:;
+j0 = v13;
+j1 = UINT64_C(25);
+j0 = j0 + j1;
+p5 = read_at(j0 + UINT64_C(18446744073709551615), m, 2u);
+i0 = load8(p5 + 1);
+v19 = i0;
+j0 = v13;
+j1 = UINT64_C(24);
+j0 = j0 + j1;
+i0 = load8(p5 + 0);
+v20 = i0;
+i0 = UINT32_C(1);
+v17 = i0;
+i0 = v6;
+v21 = i0;
+goto l8;
+l9:;
+i0 = UINT32_C(0);
+v19 = i0;
+i0 = UINT32_C(0);
+v20 = i0;
+i0 = UINT32_C(0);
+v21 = i0;
+}
+l8:;
+j0 = v14;
+j1 = UINT64_C(18446744073709551615);
+j0 = j0 + j1;
+v14 = j0;
+j0 = v13;
+j1 = UINT64_C(8);
+j0 = j0 + j1;
+p6 = read_at(j0 + UINT64_C(18446744073709551608), m, 32u);
+j0 = load64(p6 + 8);
+v11 = j0;
+j0 = v13;
+j1 = UINT64_C(26);
+j0 = j0 + j1;
+i0 = load32(p6 + 26);
+v22 = i0;
+j0 = v13;
+j1 = UINT64_C(30);
+j0 = j0 + j1;
+i0 = load16(p6 + 30);
+v23 = i0;
+j0 = v13;
+j0 = load64(p6 + 0);
+v24 = j0;
+j0 = v3;
+j1 = v3;
+i1 = load32(p1 + 0);
+v25 = i1;
+i2 = UINT32_C(1);
+i1 = i1 + i2;
+store32(p1 + 0, i1);
+j0 = v9;
+i1 = v25;
+j1 = (uint64_t)i1;
+j2 = UINT64_C(5);
+j1 = j1 << (j2 & 63);
+j0 = j0 + j1;
+v26 = j0;
+i1 = v23;
+p7 = write_at(j0, m, 32u);
+store16(p7 + 30, i1);
+j0 = v26;
+i1 = v22;
+store32(p7 + 26, i1);
+j0 = v26;
+i1 = v19;
+store8(p7 + 25, i1);
+j0 = v26;
+i1 = v20;
+store8(p7 + 24, i1);
+j0 = v26;
+i1 = UINT32_C(0);
+store32(p7 + 20, i1);
+j0 = v26;
+i1 = v21;
+store32(p7 + 16, i1);
+j0 = v26;
+j1 = v11;
+store64(p7 + 8, j1);
+j0 = v26;
+j1 = v24;
+store64(p7 + 0, j1);
+j0 = v4;
+j1 = UINT64_C(1);
+j0 = j0 + j1;
+v4 = j0;
+j0 = v13;
+j1 = UINT64_C(32);
+j0 = j0 + j1;
+v13 = j0;
+j0 = v18;
+v11 = j0;
+goto l5;
+l6:;
+i0 = v6;
+i1 = UINT32_C(4294967295);
+i0 = i0 + i1;
+v6 = i0;
+j0 = v7;
+j1 = UINT64_C(18446744073709551615);
+j0 = j0 + j1;
+v7 = j0;
+j0 = v0;
+j1 = v0;
+j2 = v1;
+p8 = read_at(j2, m, 2u);
+j2 = load16(p8 + 0);
+v26 = j2;
+j3 = v0;
+j4 = v26;
+i3 = (j3 < j4);
+j1 = i3 ? j1 : j2;
+v26 = j1;
+j0 = j0 - j1;
+v0 = j0;
+j0 = v18;
+j1 = v26;
+j0 = j0 + j1;
+v11 = j0;
+j0 = v1;
+j1 = UINT64_C(2);
+j0 = j0 + j1;
+v12 = j0;
+v1 = j0;
+i0 = v17;
+i1 = UINT32_C(255);
+i0 = i0 & i1;
+i1 = UINT32_C(1);
+i0 = (i0 != i1);
+if (i0) { goto l5; }
+j0 = v10;
+i1 = v16;
+j1 = (uint64_t)i1;
+j2 = UINT64_C(1);
+j1 = j1 << (j2 & 63);
+j0 = j0 + j1;
+j1 = v26;
+p9 = write_at(j0, m, 2u);
+store16(p9 + 0, j1);
+j0 = v8;
+i1 = v15;
+j1 = (uint64_t)i1;
+v27 = j1;
+j0 = j0 + j1;
+v1 = j0;
+j1 = v18;
+j0 = j0 - j1;
+j1 = v26;
+i0 = (j0 >= j1);
+if (!i0) {
+j0 = v26;
+j1 = UINT64_C(3);
+j0 = j0 & j1;
+v28 = j0;
+j0 = UINT64_C(0);
+v24 = j0;
+j0 = v26;
+j1 = UINT64_C(4);
+i0 = (j0 < j1);
+if (!i0) {
+j0 = v3;
+j1 = v27;
+j0 = j0 + j1;
+v29 = j0;
+j0 = v26;
+j1 = UINT64_C(65532);
+j0 = j0 & j1;
+v30 = j0;
+j0 = UINT64_C(0);
+v24 = j0;
+for (;;) {
+j0 = v29;
+j1 = v24;
+j0 = j0 + j1;
+v1 = j0;
+j1 = UINT64_C(499728);
+j0 = j0 + j1;
+j1 = v18;
+j2 = v24;
+j1 = j1 + j2;
+v31 = j1;
+p10 = read_at(j1, m, 4u);
+i1 = load8(p10 + 0);
+p11 = write_at(j0, m, 4u);
+store8(p11 + 0, i1);
+j0 = v1;
+j1 = UINT64_C(499729);
+j0 = j0 + j1;
+j1 = v31;
+j2 = UINT64_C(1);
+j1 = j1 + j2;
+i1 = load8(p10 + 1);
+store8(p11 + 1, i1);
+j0 = v1;
+j1 = UINT64_C(499730);
+j0 = j0 + j1;
+j1 = v31;
+j2 = UINT64_C(2);
+j1 = j1 + j2;
+i1 = load8(p10 + 2);
+store8(p11 + 2, i1);
+j0 = v1;
+j1 = UINT64_C(499731);
+j0 = j0 + j1;
+j1 = v31;
+j2 = UINT64_C(3);
+j1 = j1 + j2;
+i1 = load8(p10 + 3);
+store8(p11 + 3, i1);
+j0 = v30;
+j1 = v24;
+j2 = UINT64_C(4);
+j1 = j1 + j2;
+v24 = j1;
+i0 = (j0 != j1);
+if (!i0) break;
+}
+j0 = v28;
+i0 = (j0 == 0);
+if (i0) { goto l11; }
+}
+j0 = v18;
+j1 = v24;
+j0 = j0 + j1;
+v1 = j0;
+j0 = v8;
+j1 = v24;
+j2 = v27;
+j1 = j1 + j2;
+j0 = j0 + j1;
+v18 = j0;
+l15:;
+j0 = v18;
+j1 = v1;
+p12 = read_at(j1, m, 1u);
+i1 = load8(p12 + 0);
+p13 = write_at(j0, m, 1u);
+store8(p13 + 0, i1);
+j0 = v18;
+j1 = UINT64_C(1);
+j0 = j0 + j1;
+v18 = j0;
+j0 = v1;
+j1 = UINT64_C(1);
+j0 = j0 + j1;
+v1 = j0;
+j0 = v28;
+j1 = UINT64_C(18446744073709551615);
+j0 = j0 + j1;
+v28 = j0;
+j1 = UINT64_C(0);
+i0 = (j0 != j1);
+if (i0) { goto l15; }
+goto l11;
+}
+j0 = v26;
+i0 = (j0 == 0);
+if (!i0) {
+j0 = v1;
+j1 = v18;
+j2 = v26;
+copy(m, j0, j1, j2);
+}
+j0 = v3;
+j1 = UINT64_C(4);
+j0 = j0 + j1;
+i0 = load32(p1 + 4);
+v16 = i0;
+l11:;
+i0 = UINT32_C(1);
+v17 = i0;
+j0 = v3;
+j1 = UINT64_C(4);
+j0 = j0 + j1;
+i1 = v16;
+i2 = UINT32_C(1);
+i1 = i1 + i2;
+v16 = i1;
+store32(p1 + 4, i1);
+j0 = v3;
+j1 = UINT64_C(8);
+j0 = j0 + j1;
+i1 = v15;
+j2 = v26;
+i2 = (uint32_t)j2;
+i1 = i1 + i2;
+v15 = i1;
+store32(p1 + 8, i1);
+goto l4;
+}
+fio2070_trap();
+l2:;
+i0 = v16;
 r = i0;
 return r;
 }
@@ -153401,7 +153898,7 @@ enum { STACK_fio2070_log_judge_miss = 2176 };
 enum { STACK_fio2070_log_judge_possible = 2176 };
 #define TABLE_fio2070_log_judge_possible NO_TABLE
 #define call_fio2070_log_judge_possible enter_log_judge_possible
-enum { STACK_fio2070_log_judge_start = 2080 };
+enum { STACK_fio2070_log_judge_start = 1360 };
 #define TABLE_fio2070_log_judge_start NO_TABLE
 #define call_fio2070_log_judge_start enter_log_judge_start
 enum { STACK_fio2070_log_signs_batch = 3184 };
@@ -153413,12 +153910,15 @@ enum { STACK_fio2070_log_counts_batch = 16 };
 enum { STACK_fio2070_log_counts_frame = 16 };
 #define TABLE_fio2070_log_counts_frame NO_TABLE
 #define call_fio2070_log_counts_frame enter_log_counts_frame
-enum { STACK_fio2070_log_judge_batch = 4016 };
+enum { STACK_fio2070_log_judge_batch = 4000 };
 #define TABLE_fio2070_log_judge_batch NO_TABLE
 #define call_fio2070_log_judge_batch enter_log_judge_batch
-enum { STACK_fio2070_log_judge_frame = 3328 };
+enum { STACK_fio2070_log_judge_frame = 3312 };
 #define TABLE_fio2070_log_judge_frame NO_TABLE
 #define call_fio2070_log_judge_frame enter_log_judge_frame
+enum { STACK_fio2070_log_batch_part = 0 };
+#define TABLE_fio2070_log_batch_part NO_TABLE
+#define call_fio2070_log_batch_part enter_log_batch_part
 enum { STACK_fio2070_log_read = 401680 };
 #define TABLE_fio2070_log_read table_1048576
 #define call_fio2070_log_read enter_log_read
@@ -153978,6 +154478,22 @@ uint32_t fio2070_log_judge_batch(struct fio2070_log_judge *judge, uint8_t as_sai
     }
     settle_given(batch, verdicts, frames, places);
     for (place = 0; place < count; place++) outcomes[place].items = get16((const uint8_t *)&outcomes[place].items);
+    return count;
+}
+
+uint32_t fio2070_log_batch_part(const struct fio2070_log_batch *batch, const uint8_t *mask, size_t length,
+                                struct fio2070_log_batch *part) {
+    const uint32_t verdicts = batch->verdict_count, frames = batch->frame_count, places = batch->place_count;
+    uint32_t count;
+    MACHINE(fio2070_log_batch_part);
+    settle_given(batch, verdicts, frames, places);
+    {
+        uint64_t a = READS(batch, sizeof *batch), b = READS(mask, length), c = WRITES(part, sizeof *part);
+        count = (uint32_t)call_fio2070_log_batch_part(&machine, a, b, length, c);
+    }
+    settle_given(batch, verdicts, frames, places);
+    if (!IS_LITTLE)
+        settle_batch(part, get32((const uint8_t *)&part->verdict_count), get32((const uint8_t *)&part->frame_count), 0);
     return count;
 }
 

@@ -3,9 +3,9 @@
  *
  * The field I/O transition link of the Model 2070: the header of fio2070.c.
  *
- * Sources: e7722a7f7ab80a6a2bf1a794f57d054c7cbca36f62cbdb13cc00b7aa4fb61b16 (SHA-256; packaging/release-files --sources)
+ * Sources: 2c6c45e0d20351891bcdbe2af8784e24eb1289904dba9d87d418758d903b96dc (SHA-256; packaging/release-files --sources)
  * Kit: rattle-kit-13f logic dac8208d650f15bf
- * Proof: logic=proved functions=225 target=wasm64-unknown-unknown sum=dac8208d650f15bf native=nat,char,string
+ * Proof: logic=proved functions=231 target=wasm64-unknown-unknown sum=dac8208d650f15bf native=nat,char,string
  * Made by `make release-files`: do not edit.
  *
  * Proved is the module of which fio2070.c was made, for wasm64: each call does what fio2070.h says for all octets,
@@ -1194,6 +1194,14 @@ size_t fio2070_log_read(struct fio2070_log_reader *reader, const uint8_t *octets
  * that are left; call it until it gives none. A verdict that was due before stays as it was. */
 void fio2070_log_end(struct fio2070_log_reader *reader);
 
+/** Writes a part of a batch that fio2070_log_read wrote over what `part` held, and returns how many frames it has. A part has a
+ * verdict for each line of the batch. `mask` has an octet for each: 1 takes the line as it is, with its frames; 2 as damaged,
+ * with the reason FIO2070_LOG_NO_MESSAGE; 0 not at all: it is blank. Lines that `mask` does not reach are not taken. A part has
+ * no places. What the judge, the counts and the signs say of a part depends on the lines alone that are taken (proved). */
+FIO2070_MUST_USE
+uint32_t fio2070_log_batch_part(const struct fio2070_log_batch *batch, const uint8_t *mask, size_t length,
+                                struct fio2070_log_batch *part);
+
 /** Lines of one form: what is before their octets, and how many there are. */
 struct fio2070_log_read_as {
     /** The number of the first line that was read by it, from 1; 0 if there was none. */
@@ -1265,11 +1273,12 @@ enum fio2070_log_taken {
     FIO2070_LOG_TAKEN_ON_BUS = 3     /**< on the bus between them */
 };
 
-/** How a log begins, or that late answers are left out of it. */
+/** How a log begins, or that late answers are left out of it; added to one of these, that its CPU never loads the counter. */
 enum fio2070_log_begins {
     FIO2070_LOG_BEGINS_ANYWHERE = 0,  /**< anywhere: what was heard above the first frame that was sent is not judged */
     FIO2070_LOG_BEGINS_WITH_ENDS = 1, /**< with the start of both ends: more is found then */
-    FIO2070_LOG_LEAVES_OUT_LATE = 2   /**< anywhere, and late answers are left out */
+    FIO2070_LOG_LEAVES_OUT_LATE = 2,  /**< anywhere, and late answers are left out */
+    FIO2070_LOG_NEVER_LOADS = 4       /**< no line that is lost is taken for a load of the counter, down to a load in the log */
 };
 
 /** A judge of a log. Its fields are the library's own. */
@@ -1288,12 +1297,13 @@ struct fio2070_log_judge {
     uint8_t polled;
     uint8_t first;
     uint8_t answered;
-    uint8_t reserved[5];
+    uint8_t never_loads;
+    uint8_t reserved[4];
 };
 
 /** Starts above the first line of a log of a module with these limits. `place` is one of enum fio2070_log_taken, where a greater
- * number is FIO2070_LOG_TAKEN_ON_BUS; `start` is one of enum fio2070_log_begins, where a greater number is
- * FIO2070_LOG_BEGINS_ANYWHERE. Returns 0; where a limit is out of its range 1, and nothing changes.
+ * number is FIO2070_LOG_TAKEN_ON_BUS; `start` is one of enum fio2070_log_begins, or one of the first three
+ * plus FIO2070_LOG_NEVER_LOADS; any other number is FIO2070_LOG_BEGINS_ANYWHERE. Returns 0; where a limit is out of its range 1, and nothing changes.
  *
  * FIO2070_LOG_TAKEN_AUTO finds the place of each frame: a frame whose line says no direction was logged on the bus; another one
  * at the CPU's end, if down to it at least four of five directions agree with the types of their messages; at the module, if at

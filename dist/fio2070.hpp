@@ -3,9 +3,9 @@
  *
  * The field I/O transition link of the Model 2070: the header for C++17, above fio2070.h.
  *
- * Sources: e7722a7f7ab80a6a2bf1a794f57d054c7cbca36f62cbdb13cc00b7aa4fb61b16 (SHA-256; packaging/release-files --sources)
+ * Sources: 2c6c45e0d20351891bcdbe2af8784e24eb1289904dba9d87d418758d903b96dc (SHA-256; packaging/release-files --sources)
  * Kit: rattle-kit-13f logic dac8208d650f15bf
- * Proof: logic=proved functions=225 target=wasm64-unknown-unknown sum=dac8208d650f15bf native=nat,char,string
+ * Proof: logic=proved functions=231 target=wasm64-unknown-unknown sum=dac8208d650f15bf native=nat,char,string
  * Made by `make release-files`: do not edit.
  *
  * Proved is the module of which fio2070.c was made, for wasm64: each call does what fio2070.h says for all octets,
@@ -479,17 +479,25 @@ private:
     ::fio2070_log_reader reader_;
 };
 
+/// Writes a part of a batch that `LogReader::read` wrote, and returns how many frames it has: the lines that `mask` has 1 for, those
+/// that it has 2 for as damaged, and blank ones in place of the others. It has no places.
+inline std::uint32_t take_part(const ::fio2070_log_batch &batch, Octets mask, ::fio2070_log_batch &part) {
+    return ::fio2070_log_batch_part(&batch, mask.data(), mask.size(), &part);
+}
+
 /// The judge of a log: it says what each frame is that a reader finds, by what the log says of the lines between them too.
 class LogJudge {
 public:
-    /// A judge above the first line of a log of a module with these limits. None where one is out of its range.
+    /// A judge above the first line of a log of a module with these limits. None where one is out of its range. `never_loads` says that
+    /// the CPU never loads the counter.
     static std::optional<LogJudge> start(::fio2070_log_taken place = FIO2070_LOG_TAKEN_AUTO,
                                          ::fio2070_log_begins begins = FIO2070_LOG_BEGINS_ANYWHERE,
                                          std::uint8_t per_block = FIO2070_MOST_ENTRIES,
-                                         std::uint16_t waiting = FIO2070_STANDARD_WAITING) {
+                                         std::uint16_t waiting = FIO2070_STANDARD_WAITING, bool never_loads = false) {
         std::optional<LogJudge> judge{LogJudge()};
+        const int start = begins + (never_loads ? FIO2070_LOG_NEVER_LOADS : 0);
         if (::fio2070_log_judge_start(&judge->judge_, {waiting, per_block, 0}, static_cast<std::uint8_t>(place),
-                                      static_cast<std::uint8_t>(begins)) != FIO2070_STARTED) judge.reset();
+                                      static_cast<std::uint8_t>(start)) != FIO2070_STARTED) judge.reset();
         return judge;
     }
     /// A line may have held a frame, such as a damaged one; or below a frame another part of the log begins.
