@@ -113,10 +113,12 @@ static void require_forms(uint64_t lines) {
 
 static struct kept of_log, of_part;
 
-/* Says of a batch, and of a part of it, what is said of a log. The mask has what the octets of the piece are modulo 4. */
+/* Says of a batch that has lines, and of a part of it, what is said of a log. The mask has what the octets of the piece are modulo 4. */
 static void say(const uint8_t *piece, size_t length, uint8_t as_said) {
     size_t place;
-    uint8_t *mask = length > 0 ? (uint8_t *)untouched(length) : NULL;
+    uint8_t *mask;
+    if (batch.verdict_count == 0) return;
+    mask = length > 0 ? (uint8_t *)untouched(length) : NULL;
     for (place = 0; place < length; place++) mask[place] = piece[place] % 4;
     require_part(mask, length);
     keep(&of_log, &batch, as_said), keep(&of_part, &part, as_said);
