@@ -1302,8 +1302,9 @@ struct fio2070_log_judge {
 };
 
 /** Starts above the first line of a log of a module with these limits. `place` is one of enum fio2070_log_taken, where a greater
- * number is FIO2070_LOG_TAKEN_ON_BUS; `start` is one of enum fio2070_log_begins, or one of the first three
- * plus FIO2070_LOG_NEVER_LOADS; any other number is FIO2070_LOG_BEGINS_ANYWHERE. Returns 0; where a limit is out of its range 1, and nothing changes.
+ * number is FIO2070_LOG_TAKEN_ON_BUS; `start` is one of enum fio2070_log_begins, or one of the first three plus
+ * FIO2070_LOG_NEVER_LOADS; any other number is FIO2070_LOG_BEGINS_ANYWHERE. Returns 0; where a limit is out of its range 1,
+ * and nothing changes.
  *
  * FIO2070_LOG_TAKEN_AUTO finds the place of each frame: a frame whose line says no direction was logged on the bus; another one
  * at the CPU's end, if down to it at least four of five directions agree with the types of their messages; at the module, if at

@@ -216,6 +216,15 @@ def check_beginning(check, folder):
     check.equal('the bus', (0, 0, 0, True), (numbers_of(out)['breaches'], numbers_of(out)['breaches in content'], status, 'not judged' in err))
 
 
+def check_loads(check, folder):
+    """A damaged line may be a load of the counter, which explains a stamp that goes back, unless the CPU never sends one."""
+    log = written(folder, 'loads', '> 3605\n< b6050000000003e8\n> 3200000\n> 3606\n< b60600000000000a\n')
+    for words, is_told in (([], False), (['--no-loads'], True)):
+        done = fiolog('live', '-q', *words, '--exec', 'cat ' + log)
+        check.equal('a stamp that goes back below a damaged line ' + ' '.join(words), (is_told, not is_told),
+                    ('line 5: restarted: ' in done.out, 'a load of the counter may explain 1' in done.out))
+
+
 def check_passed(check, folder):
     """What is skipped, and what is damaged, is reported."""
     out, err, _ = heard(folder, LOG + 'link down\n', '--quiet', '-v')
@@ -332,7 +341,7 @@ def main():
     check.fault('datagrams', fault_of_datagrams)
     with tempfile.TemporaryDirectory() as folder:
         check.fault('a pipe', fault_of_pipe, folder)
-        for part in (check_forms, check_content, check_beginning, check_passed, check_status_line, check_ended_from_outside):
+        for part in (check_forms, check_content, check_beginning, check_loads, check_passed, check_status_line, check_ended_from_outside):
             part(check, folder)
     check_process_ends(check)
     check_capture_in_pipe(check)

@@ -156,9 +156,11 @@ def check_terminal(check, folder):
 
 def check_options(check, folder):
     """Of several logs each is judged as it is alone."""
-    logs = ['> 3605\n< b60500000000000a\n> 3606\n> 3607\n< b60600000000000b\n< b60700000000000c\n', '< b700000000\n> 3605\n< b605010c03f20000000a\n< b300\n']
+    logs = ['> 3605\n< b60500000000000a\n> 3606\n> 3607\n< b60600000000000b\n< b60700000000000c\n', '< b700000000\n> 3605\n< b605010c03f20000000a\n< b300\n',
+            '> 3605\n< b6050000000003e8\n> 3200000\n> 3606\n< b60600000000000a\n']
     paths = [written(folder, 'option%d' % number, text) for number, text in enumerate(logs)]
-    for words in ([], ['--late-answers'], ['--start-at-poll'], ['--rules', 'transcript'], ['--except', 'pair'], ['--whole'], ['--tees'], ['--at', 'bus']):
+    for words in ([], ['--late-answers'], ['--no-loads'], ['--start-at-poll'], ['--rules', 'transcript'], ['--except', 'pair'], ['--whole'], ['--tees'],
+                  ['--at', 'bus']):
         rows = {row['file']: row for row in fiolog('check', '--json', '--format', 'transcript', *words, *paths).objects()[:-1]}
         for path in paths:
             alone = fiolog('check', '--json', '--format', 'transcript', *words, path).summary()

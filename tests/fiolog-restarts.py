@@ -64,7 +64,7 @@ def check_check(check):
     check.equal('the object of the summary', (0, 1, 0), (done.summary()['breaches'], done.summary()['restarted'], done.status))
     done = checked(GOOD)
     check.equal('no restart', (0, False, 0), (done.status, 'restarted' in done.out + done.err, checked(GOOD, '--json').summary()['restarted']))
-    for words in (['--rules', 'transcript'], ['--late-answers'], ['--whole'], ['--at', 'module'], ['--at', 'bus'], ['--start-at-poll'],
+    for words in (['--rules', 'transcript'], ['--late-answers'], ['--no-loads'], ['--whole'], ['--at', 'module'], ['--at', 'bus'], ['--start-at-poll'],
                   ['--except', 'clock']):
         done = checked(RESTART, *words)
         check.equal('a restart, ' + ' '.join(words), (['6: restarted'], True, 0),

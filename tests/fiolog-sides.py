@@ -112,7 +112,7 @@ def check_sides(check):
             check.equal('record: ' + name, (said, 0, LITTLE), (sentences(record), record.out.count('breaks') + record.err.count('was due'), record.status))
             not_judged = {key: count for key, count in last['not_judged'].items() if 'frame' in key and count}
             check.equal('no frame is judged: ' + name, {'frames_of_one_direction': last['frames']}, not_judged)
-    for words in ('--late-answers', '--start-at-poll', '--whole'):
+    for words in ('--late-answers', '--no-loads', '--start-at-poll', '--whole'):
         done = fiolog('check', words, *LIKE, text=polls(5, 6, 7, 8))
         check.equal('polls that rise, ' + words, (True, 0, LITTLE), (COMMANDS in done.err, done.out.count('line '), done.status))
 

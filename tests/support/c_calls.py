@@ -4,7 +4,8 @@ struct, or none; what is reserved is 0, and is not read; a struct may be moved.
 
 The words of a call are its arguments in order: a number, or the name of a constant; octets in hexadecimal, where `30*3` is short
 for `303030`, `+` joins, and `..` is as many zeros as make eight octets; `FIELD VALUE ..` for a struct; `12/0/5/3` for an item of a list, `*3` after it for three of them. What
-is missing has length 0, and a null pointer. The struct that a call keeps is that of the call before. `room N` at the end is how
+is missing has length 0, and a null pointer. The struct that a call keeps is that of the call before; a part of a batch is kept beside
+the batch. `room N` at the end is how
 much room there is; without it there is as much as is needed. What a call says is what it returns and writes, in this form: zeros
 and what is not written are left out, and a number that the struct begins with which is written."""
 
@@ -170,7 +171,7 @@ class Run:
             if not one.is_address:
                 given += [] if one.name in ('length', 'count', 'room') else [self.value(one.kind, words)]
             elif one.kind.__name__ in KEPT:
-                given.append(self.kept.setdefault(one.kind.__name__, Memory(one.kind)).values)
+                given.append(self.kept.setdefault(one.name if one.name == 'part' else one.kind.__name__, Memory(one.kind)).values)
             elif one.is_const and has_count:
                 values = list_of(one, words)
                 given += [values, ctypes.c_size_t(len(values or ()))]

@@ -6,7 +6,8 @@ steps. A step is the words of a call (c_calls.py), in a group below the rest of 
 is anything. ` *3` at its end stands for three such steps; `~0` is a number of 64 bits less this one; the step `holds` says what is
 in the kept struct, and `line` what a decoder says of a line. What is decoded is written again, as the same octets. Rows of `log`
 have the form, a log, in which `~` is the end of a line, and what is read of it; rows of `log_batches` also whether a frame is of
-whom its line says, and what the calls for batches say; rows of `log_samples` sample lines before the log, how many forms these show, and
+whom its line says, and what the calls for batches say; rows of `log_parts` also a mask, and before ` / ` what is read of the part that
+it takes; rows of `log_samples` sample lines before the log, how many forms these show, and
 by which the log is read. Each call of the header has a row."""
 
 import ctypes
@@ -124,13 +125,34 @@ def log(run, form, text):
     return said[0] if len(set(said)) == 1 else 'not the same in pieces: ' + ' or '.join(sorted(set(said)))
 
 
-def log_batches(run, form, as_said, text):
-    """What the judge says of the frames of a log, what is counted of them, and their sign, by the calls for batches."""
+def take_part(run, mask):
+    """Puts the part that a mask takes in place of the batch, over which the next part is written. Returns the mask of the lines below."""
+    count = int(run.call('log_batch_part', *filter(None, [mask.hex()])) or 0)
+    run.kept.update(log_batch=run.kept['part'], part=run.kept['log_batch'])
+    part, whole = (run.kept[name].values[0] for name in ('log_batch', 'part'))
+    if (count, part.verdict_count) != (part.frame_count, whole.verdict_count):
+        raise Broken('the call says another count of frames, or a line has no verdict')
+    return mask[whole.verdict_count:]
+
+
+def log_parts(run, form, as_said, mask, text):
+    """What is read of the part of a log that a mask takes, and what the calls for batches say of it."""
+    lines = []
+    said = log_batches(run, form, as_said, text, bytes.fromhex(mask), lines)
+    return '%s / %s' % (', '.join(lines), said)
+
+
+def log_batches(run, form, as_said, text, mask=None, lines=None):
+    """What the judge says of the frames of a log, what is counted of them, and their sign, by the calls for batches; with a mask of the part
+    that it takes, whose lines are added."""
     text, found, taken = text.replace('~', '\n').encode(), [], []
     run.call('log_start', str(form))
     for start in ('log_judge_start 1024 255 0 0', 'log_counts_start', 'log_signs_start'):
         run.call(*start.split())
     for _ in batches(run, text, len(text)):
+        if mask is not None:
+            mask = take_part(run, mask)
+            lines += verdicts(run.kept['log_batch'].values[0])
         found += filter(None, [run.call('log_judge_batch', str(as_said))])
         taken += ['taken ' + one for one in run.call('log_counts_batch').split(', ') if one]
         run.call('log_signs_batch', str(as_said))
@@ -152,7 +174,7 @@ def log_samples(run, form, samples, text):
     return ' '.join(said[0]) if said.count(said[0]) == len(said) else 'not the same in pieces: %s' % said
 
 
-LOGS = {'log': log, 'log_batches': log_batches, 'log_samples': log_samples}
+LOGS = {'log': log, 'log_batches': log_batches, 'log_parts': log_parts, 'log_samples': log_samples}
 
 
 def faults(library, row, called):

@@ -71,6 +71,7 @@ class LogBatch:
         self._batch = c.CLogBatch()
         self._verdicts, self._places, self._lengths, self._octets = (
             memoryview(getattr(self._batch, name)).cast('B') for name in ('verdicts', 'places', 'lengths', 'octets'))
+        self._part: Optional['LogBatch'] = None     # over which `parts` writes
         if verdicts:
             self._write(verdicts)
 
@@ -233,7 +234,7 @@ class LogBatch:
     def parts(self, masks: Iterable[bytes]) -> Iterator['LogBatch']:
         """For each mask this batch with blank lines in place of some, and without places, until the next one: the mask has 1 for each line
         that is taken, 2 for one that is taken as damaged, 0 for one that is as blank; lines that it does not reach are."""
-        part = LogBatch()
+        part = self._part = LogBatch() if self._part is None else self._part
         for mask in masks:
             c.library.fio2070_log_batch_part(self._batch, bytes(mask), len(mask), part._batch)
             yield part

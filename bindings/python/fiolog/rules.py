@@ -74,8 +74,8 @@ class Breach(NamedTuple):
 class Rules:
     """The library's judge of a log that was taken `at` one of its places, of a module with the standard limits or with these: the
     most entries of a block, and the most that wait. The log may begin anywhere; a `whole` one begins with the start of both ends.
-    If `late_answers` are left out, it begins anywhere. With `no_loads` its CPU never loads the counter. Breaches of `excepted` rules are left out; so are all of rules on content, if
-    it judges by those of transcripts alone."""
+    If `late_answers` are left out, it begins anywhere. With `no_loads` its CPU never loads the counter. Breaches of `excepted` rules are
+    left out; so are all of rules on content, if it judges by those of transcripts alone."""
 
     def __init__(self, at='auto', whole=False, limits=(), excepted=(), late_answers=False, no_loads=False, with_content=True):
         self.judge = fio2070.LogJudge(*limits, place=at, begun=whole and not late_answers, late_answers=late_answers, never_loads=no_loads)

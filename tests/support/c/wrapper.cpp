@@ -279,6 +279,18 @@ static void judges_a_log() {
     CHECK(taken == std::vector<std::uint64_t>({3000, 1000}) && counts->polls == 2 && (*counts).frames == 4);
 }
 
+// Of a batch the lines that a mask takes: the command that is not, between a poll and its answer, breaks no rule.
+static void takes_parts() {
+    static fio2070::LogReader reader(FIO2070_LOG_FRAMES);
+    static fio2070_log_batch part;
+    const std::string text = "3605\n3607\nb605000000000005\n3606\n";
+    CHECK(reader.read(octets(text), batch) == text.size() && fio2070::take_part(batch, List({1, 0, 1, 2}), part) == 2);
+    CHECK(part.verdict_count == 4 && part.verdicts[1].kind == FIO2070_LOG_BLANK && part.verdicts[3].kind == FIO2070_LOG_DAMAGED);
+    const auto whole = fio2070::LogJudge::start()->batch(batch), alone = fio2070::LogJudge::start()->batch(part);
+    CHECK(whole[1].rule == FIO2070_RULE_ADVANCE && alone.size() == 2 && alone[1].kind == FIO2070_OUTCOME_KEPT);
+    CHECK(fio2070::take_part(batch, {}, part) == 0 && part.verdict_count == 4);
+}
+
 // A log is read by a line that is given, from its first line on.
 static void is_like_a_sample() {
     static fio2070::LogReader reader;
@@ -334,7 +346,7 @@ static void reads_a_line() {
 
 int main() {
     for (const auto test : {reads_and_writes, has_values, tells_values, has_the_longest_text, hears, has_lists, moves, constructs_a_module,
-                            has_parts, has_texts, is_a_module, has_a_maker, has_checkers, judges, judges_a_log, is_like_a_sample,
-                            judges_frames, reads_a_line}) test();
+                            has_parts, has_texts, is_a_module, has_a_maker, has_checkers, judges, judges_a_log, takes_parts,
+                            is_like_a_sample, judges_frames, reads_a_line}) test();
     return end_of_checks();
 }

@@ -74,8 +74,9 @@ pub struct LogJudge(RawLogJudge);
 
 impl LogJudge {
     /// Above the first line of a log, taken at `place`, one of `constants::LOG_TAKEN_AUTO` and those after it, that begins as
-    /// `start` says, one of `constants::LOG_BEGINS_ANYWHERE` and those after it, or plus `constants::LOG_NEVER_LOADS`, of a module whose blocks have at most `per_block`
-    /// entries, 1 to 255, and of which `waiting` may wait, 1 to 8,192. `None` where one of these two is out of its range.
+    /// `start` says, one of `constants::LOG_BEGINS_ANYWHERE` and those after it, or that plus `constants::LOG_NEVER_LOADS`, of a
+    /// module whose blocks have at most `per_block` entries, 1 to 255, and of which `waiting` may wait, 1 to 8,192. `None` where
+    /// one of these two is out of its range.
     pub fn new(place: u8, start: u8, per_block: u8, waiting: u16) -> Option<LogJudge> {
         let limits = RawLimits::of(waiting, per_block);
         let mut judge = RawLogJudge::default();

@@ -365,6 +365,15 @@ fn read_by_batches() {
     let mut counts = LogCounts::new();
     assert_eq!(counts.batch(&batch, &mut taken), [3000, 2000]);
     assert_eq!((counts.frames, counts.polls), (4, 2));
+    let mut part = Box::new(LogBatch::new());
+    assert_eq!(part.take_part(&batch, &[1, 1, 2]), 2);
+    let kinds: Vec<_> = part.verdicts().map(|it| it.kind).collect();
+    assert_eq!(kinds, [LOG_SAYS, LOG_SAYS, LOG_DAMAGED, LOG_BLANK]);
+    assert_eq!(
+        part.verdicts().nth(1).unwrap().frames.next(),
+        Some(&block(5, 5)[..])
+    );
+    assert_eq!(judge.batch(false, &part, &mut outcomes).len(), 2);
     let lines = [0, 0, 1, 1, 2, 2, 3, 3].map(|number| format!("b60{number}000000000001\n"));
     let (mut reader, mut signs) = (LogReader::new(LOG_FRAMES), LogSigns::new());
     reader.read(lines.concat().as_bytes(), &mut batch);
