@@ -119,3 +119,4 @@ pub mod AnewFrames
 pub mod Restarted
 pub mod JudgeExamples
 mod MakersAnswers
+mod EventLogs
