@@ -1,11 +1,11 @@
 -- The judge of a log accuses no right link: its events are lines with marks.
-use Rattle.fio_ends.proofs.Names.{◌≡◌, ◌∙◌, ◌⊎◌, ◌||◌, inl, inr, ℕ, Bool, true, false, List, [], ◌∷◌, ◌++◌, map, Option, Some, None, refl, ap, sym, subst, append_assoc, AllByRecursion, if◌then◌else◌, AccusesNeither, AreUnderWay, AreUnderWayAt, CpuFrame, Event, FewAreUnderWay, FrameOutcome, Judging, LogLine, LogPlace, LogStep, Logged, Machine, Marked, Missing, RuleLimits, Settings, after, events_of, frame_heard, frames_at, is_command, item_numbered, log_from, logged_at, outcomes_of}
+use Rattle.fio_ends.proofs.Names.{◌≡◌, ◌∙◌, ◌&&◌, not, arith, Checker, checker_below_lines, Skips, Nothing, ToCommand, ToPoll, Observation, ◌⊎◌, ◌||◌, inl, inr, ℕ, Bool, true, false, List, [], ◌∷◌, ◌++◌, map, Option, Some, None, refl, ap, sym, subst, append_assoc, AllByRecursion, if◌then◌else◌, AccusesNeither, AreUnderWay, AreUnderWayAt, CpuFrame, observation_in, Event, FewAreUnderWay, FrameOutcome, Judging, LogLine, LogPlace, LogStep, Logged, Machine, Marked, Missing, RuleLimits, Settings, after, events_of, frame_heard, frames_at, is_command, item_numbered, log_from, logged_at, outcomes_of}
 use Rattle.fio_check.proofs.LogLaws.{as_link}
 use Rattle.fio_check.specs.LinkJudges.{Lost as Mark}
-use Rattle.fio_check.specs.LinkJudges.{Frame, judging_below}
+use Rattle.fio_check.specs.LinkJudges.{Frame, judging_below, judging_lost}
 use Rattle.fio_check.specs.LogJudges as judged
 use Rattle.fio_check.specs.LogJudges.{LogEvent, late_starting, link_starting, log_starting, judges_each, outcomes_in_log}
-use Rattle.fio_check.specs.LogLaws.{AreLinesOf, Around, IsJudgedAsLink, around_with, mark_if, nothing_around}
+use Rattle.fio_check.specs.LogLaws.{AreLinesOf, Around, IsJudgedAsLink, around_frame, around_said, around_with, mark_if, nothing_around}
 use Rattle.fio_check.specs.declared.log_judge.LogOutcome.{LogOutcome}
 use Rattle.fio_check.specs.declared.log_judge.LogOutcome.TheVariants.{Link}
 use Rattle.fio_check.specs.declared.log_judge.LogStart.{LogStart}
@@ -13,25 +13,27 @@ use Rattle.fio_check.specs.declared.log_judge.LogStart.TheVariants as starts
 use Rattle.fio_check.specs.declared.outcome.LogPlace.TheVariants.{Bus}
 use Rattle.fio_link.specs.declared.event.Event.TheVariants as happen
 use Rattle.fio_link.specs.Link.{SentFrame}
-use Rattle.fio_ends.specs.EventLogs.{AccusesNeitherInLog, AreLostWhereSaid, BeginsPart, FewAreUnderWayAnywhere, IsSeenLog, LogJudgeAccusesNone, MayHaveHeldFrame, Remark, Remarked, SaysMessage, Seen, SeenStep, SpeaksOfLoss, Unseen, event_of_remark, events_seen, found_saying, is_begun, log_seen}
+use Rattle.fio_ends.specs.EventLogs.{AccusesNeitherInLog, AreLostWhereSaid, BeginsPart, FewAreUnderWayInParts, IsSeenLog, LogJudgeAccusesNone, MayHaveHeldFrame, Remark, Remarked, SaysMessage, Seen, SeenAbove, SeenStep, SpeaksOfLoss, Unseen, below_frames, below_remark, event_of_remark, events_seen, found_saying, is_begun, log_seen, lost_if, nothing_seen}
 use Rattle.fio_ends.specs.LinkLogs.{AreMarked, IsMarkedLog, JudgeAccusesNone, below_command, judging_at_start, loads_at_start}
 use Rattle.fio_ends.proofs.JudgedLogs.{judge_accuses_none}
 
 -- ---- an event has one frame at most
 
-of_heard : (heard : Option SentFrame) → (frame_heard heard ≡ []) ⊎ ((frame : CpuFrame) × (frame_heard heard ≡ frame ∷ []))
-of_heard None = inl refl
+of_heard : (heard : Option SentFrame) → ((frame_heard heard ≡ []) × (false ≡ false)) ⊎ ((frame : CpuFrame) × (frame_heard heard ≡ frame ∷ []))
+of_heard None = inl (refl, refl)
 of_heard (Some frame) = inr (record { from_cpu = false; octets = frame.octets }, refl)
 
-pub one_frame : (first : ℕ) (machine : Machine) (event : Event) → (frames_at first machine event ≡ []) ⊎ ((frame : CpuFrame) × (frames_at first machine event ≡ frame ∷ []))
-one_frame first machine (happen.Scan raw) = inl refl
-one_frame first machine happen.LineSync = inl refl
-one_frame first machine (happen.Raise mask) = inl refl
+-- and a command has one
+one_frame : (first : ℕ) (machine : Machine) (event : Event)
+    → ((frames_at first machine event ≡ []) × (is_command event ≡ false)) ⊎ ((frame : CpuFrame) × (frames_at first machine event ≡ frame ∷ []))
+one_frame first machine (happen.Scan raw) = inl (refl, refl)
+one_frame first machine happen.LineSync = inl (refl, refl)
+one_frame first machine (happen.Raise mask) = inl (refl, refl)
 one_frame first machine happen.Poll = inr (_, refl)
 one_frame first machine (happen.Send command) = inr (_, refl)
-one_frame first machine (happen.ToModule index) = inl refl
+one_frame first machine (happen.ToModule index) = inl (refl, refl)
 one_frame first machine (happen.ToCpu index) = of_heard (item_numbered machine.to_cpu index)
-one_frame first machine happen.Restart = inl refl
+one_frame first machine happen.Restart = inl (refl, refl)
 
 -- ---- marks
 
@@ -42,16 +44,93 @@ marked_more marked (Logged at event ∷ steps) are = are
 marked_more marked (Missing event ∷ steps) are = (refl, marked_more marked steps are.1)
 marked_more marked (Marked ∷ steps) are = are
 
--- the loads that may be under way where a log goes on: as many as where it begins, or one below a mark
-abbrev Stays : Option ℕ → Option ℕ → Type 0
-Stays begins now = (now ≡ begins) ⊎ ((now ≡ None) ⊎ (now ≡ Some 1))
+-- the loads that may be under way where a log goes on: as many as where its part begins, or one below a line that speaks of loss
+abbrev Stays : SeenAbove → Option ℕ → Type 0
+Stays above now = (now ≡ above.begins) ⊎ ((now ≡ Some 1) × (above.warned ≡ true))
 
-stays_below : (event : Event) (begins now : Option ℕ) → Stays begins now → Stays (below_command event begins) (below_command event now)
-stays_below event begins now stays = by (is_command event) stays
+stays_framed : (event : Event) (above : SeenAbove) (frame : CpuFrame) (now : Option ℕ) → Stays above now → Stays (below_frames event above (frame ∷ [])) (below_command event now)
+stays_framed event above frame now stays = by (is_command event) stays
   where
-    by : (command : Bool) → Stays begins now → Stays (if command then None else begins) (if command then None else now)
+    by : (command : Bool) → Stays above now
+        → ((if command then None else now) ≡ (if command then None else above.begins)) ⊎ (((if command then None else now) ≡ Some 1) × (above.warned ≡ true))
     by true stays = inl refl
     by false stays = stays
+
+stays_lost : (above : SeenAbove) (now : Option ℕ) → above.begins ≡ Some 1 → Stays above now → Stays (lost_if true above) now
+stays_lost above now begins stays = elim stays [ | inl same ↦ inl (same ∙ begins) | inr one ↦ inr one ]
+
+stays_warned : (above : SeenAbove) (now : Option ℕ) → Stays above now → Stays (record above { warned = true }) now
+stays_warned above now stays = elim stays [ | inl same ↦ inl same | inr one ↦ inr (one.0, refl) ]
+
+-- ---- what is above
+
+-- what the judge keeps is what the log says above
+record Agrees (begun : Bool) (above : SeenAbove) (around : Around) (judging : Judging) : Type 0 where
+  framed : around.framed ≡ above.framed
+  warned : around.remarked ≡ true → above.warned ≡ true
+  each : above.framed ≡ false → judges_each judging.checker.skips ≡ (begun && not above.lost)
+  begins : above.lost ≡ true → above.begins ≡ Some 1
+
+framed_by : (around : Around) (observation : Observation) → (around_frame around observation).framed ≡ true
+framed_by around observation = grind arith
+
+framed_said : (around : Around) (said : Option Bool) (from_cpu : Bool) → (around_said around said from_cpu).framed ≡ around.framed
+framed_said around said from_cpu = grind arith
+
+warned_by : (around : Around) (observation : Observation) → (around_frame around observation).remarked ≡ true → around.remarked ≡ true
+warned_by around observation is = grind arith
+
+warned_said : (around : Around) (said : Option Bool) (from_cpu : Bool) → (around_said around said from_cpu).remarked ≡ around.remarked
+warned_said around said from_cpu = grind arith
+
+agrees_framed : (begun : Bool) (above : SeenAbove) (around : Around) (judging next : Judging) (event : Event) (said : Option Bool) (frame : CpuFrame)
+    → Agrees begun above around judging → Agrees begun (below_frames event above (frame ∷ [])) (around_with around (found_saying said frame)) next
+agrees_framed begun above around judging next event said frame agrees =
+    let observation = observation_in frame.from_cpu frame.octets in record {
+      framed = framed_said (around_frame around observation) said frame.from_cpu ∙ framed_by around observation;
+      warned = λ is. agrees.warned (warned_by around observation (sym (warned_said (around_frame around observation) said frame.from_cpu) ∙ is));
+      each = λ none. absurd (cc none);
+      begins = λ none. absurd (cc none);
+    }
+
+-- below a mark a checker does not judge each frame
+each_lost : (checker : Checker) → judges_each (checker_below_lines checker checker.skips).skips ≡ false
+each_lost checker = by checker.skips refl
+  where
+    by : (skips : Skips) → checker.skips ≡ skips → judges_each (checker_below_lines checker skips).skips ≡ false
+    by Nothing is = refl
+    by ToCommand is = rw is refl
+    by ToPoll is = refl
+
+not_lost : (begun : Bool) → false ≡ (begun && false)
+not_lost true = refl
+not_lost false = refl
+
+agrees_lost : (begun lost marked : Bool) (above : SeenAbove) (around : Around) (judging : Judging) → Agrees begun above around judging
+    → (lost ≡ true → (marked ≡ true) ⊎ (above.lost ≡ true)) → (lost ≡ false → marked ≡ false)
+    → Agrees begun (lost_if lost above) around (judging_below judging (mark_if marked))
+agrees_lost begun true true above around judging agrees marks none =
+    record { framed = agrees.framed; warned = agrees.warned; each = λ no. each_lost judging.checker ∙ not_lost begun; begins = λ is. refl }
+agrees_lost begun true false above around judging agrees marks none = elim (marks refl) [
+  | inl is ↦ absurd (cc is)
+  | inr was ↦ record { framed = agrees.framed; warned = agrees.warned; each = λ no. agrees.each no ∙ ap (λ (l : Bool). begun && not l) was; begins = λ is. refl }
+]
+agrees_lost begun false true above around judging agrees marks none = absurd (cc (none refl))
+agrees_lost begun false false above around judging agrees marks none = agrees
+
+-- a line that says a message is a mark where the place is lost, if it is not lost above
+possible_marks : (around framed begun each lost : Bool) → around ≡ framed → (framed ≡ false → each ≡ (begun && not lost))
+    → (framed || begun) ≡ true → ((around || each) ≡ true) ⊎ (lost ≡ true)
+possible_marks around true begun each lost same is loses = inl (rw same refl)
+possible_marks around false true each true same is loses = inr refl
+possible_marks around false true each false same is loses = inl (rw same (is refl))
+possible_marks around false false each lost same is loses = absurd (cc loses)
+
+possible_none : (around framed begun each lost : Bool) → around ≡ framed → (framed ≡ false → each ≡ (begun && not lost))
+    → (framed || begun) ≡ false → (around || each) ≡ false
+possible_none around true begun each lost same is loses = absurd (cc loses)
+possible_none around false true each lost same is loses = absurd (cc loses)
+possible_none around false false each lost same is loses = rw same (is refl)
 
 module _ (settings : Settings) (first : ℕ) where
   -- lines that are a log of these events in which frames are missing at marks
@@ -62,14 +141,14 @@ module _ (settings : Settings) (first : ℕ) where
     pub marks : AreMarked marked steps
     pub few : FewAreUnderWay settings first machine begins steps
 
-  under_way : (machine : Machine) (events : List Event) (begins now : Option ℕ) → Stays begins now
-      → AreUnderWay 1 settings first machine events × AreUnderWayAt begins settings first machine events → AreUnderWayAt now settings first machine events
-  under_way machine events begins now stays few = elim stays [
-    | inl same ↦ subst (λ n. AreUnderWayAt n settings first machine events) (sym same) few.1
-    | inr other ↦ elim other [
-      | inl none ↦ subst (λ n. AreUnderWayAt n settings first machine events) (sym none) tt
-      | inr one ↦ subst (λ n. AreUnderWayAt n settings first machine events) (sym one) few.0
-    ]
+  abbrev FewIn : SeenAbove → Machine → List Event → Type 0
+  FewIn above machine events = AreUnderWayAt above.begins settings first machine events × (above.warned ≡ true → AreUnderWay 1 settings first machine events)
+
+  under_way : (machine : Machine) (events : List Event) (above : SeenAbove) (now : Option ℕ) → Stays above now → FewIn above machine events
+      → AreUnderWayAt now settings first machine events
+  under_way machine events above now stays few = elim stays [
+    | inl same ↦ subst (λ n. AreUnderWayAt n settings first machine events) (sym same) few.0
+    | inr one ↦ subst (λ n. AreUnderWayAt n settings first machine events) (sym one.0) (few.1 one.1)
   ]
 
   -- below a mark
@@ -83,95 +162,141 @@ module _ (settings : Settings) (first : ℕ) where
     few = is.few;
   }
 
-  -- below a mark, or none
-  with_mark_if : (machine : Machine) (marked above : Bool) (begins : Option ℕ) (events : List Event) (lines more : List LogLine)
-      → lines ≡ mark_if above ++ more → IsMarkedAs machine marked (Some 1) events more → IsMarkedAs machine marked begins events more
-      → IsMarkedAs machine marked begins events lines
-  with_mark_if machine marked true begins events lines more are below is = with_mark machine marked marked begins events lines more are below
-  with_mark_if machine marked false begins events lines more are below is = rw are is
+  -- below a line at which the place is lost, or not
+  with_remark : (machine : Machine) (above : SeenAbove) (lost marked : Bool) (now : Option ℕ) (events : List Event) (lines more : List LogLine)
+      → lines ≡ mark_if marked ++ more → (lost ≡ true → (marked ≡ true) ⊎ (above.lost ≡ true)) → (lost ≡ false → marked ≡ false)
+      → (above.lost ≡ true → above.begins ≡ Some 1) → Stays above now
+      → ((next : Option ℕ) → Stays (lost_if lost above) next → IsMarkedAs machine (lost_if lost above).lost next events more)
+      → IsMarkedAs machine above.lost now events lines
+  with_remark machine above true true now events lines more are marks none begins stays is = with_mark machine above.lost true now events lines more are (is (Some 1) (inl refl))
+  with_remark machine above true false now events lines more are marks none begins stays is = elim (marks refl) [
+    | inl is ↦ absurd (cc is)
+    | inr was ↦ rw are (subst (λ (l : Bool). IsMarkedAs machine l now events more) (sym was) (is now (stays_lost above now (begins was) stays)))
+  ]
+  with_remark machine above false true now events lines more are marks none begins stays is = absurd (cc (none refl))
+  with_remark machine above false false now events lines more are marks none begins stays is = rw are (is now stays)
+
+  -- with an event that has no frame
+  with_none : (machine : Machine) (event : Event) (lost : Bool) (now : Option ℕ) (events : List Event) (lines : List LogLine)
+      → frames_at first machine event ≡ [] → is_command event ≡ false → IsMarkedAs (after settings first machine event) lost now events lines
+      → IsMarkedAs machine lost now (event ∷ events) lines
+  with_none machine event true now events lines none silent is = record {
+    steps = Missing event ∷ is.steps;
+    are = is.are;
+    events_are = ap (λ (rest : List Event). event ∷ rest) is.events_are;
+    marks = (refl, is.marks);
+    few = is.few;
+  }
+  with_none machine event false now events lines none silent is = record {
+    steps = Logged Bus event ∷ is.steps;
+    are = rw none is.are;
+    events_are = ap (λ (rest : List Event). event ∷ rest) is.events_are;
+    marks = is.marks;
+    few = (
+      λ command. absurd (cc (sym silent ∙ command)),
+      subst (λ (command : Bool). FewAreUnderWay settings first (after settings first machine event) (if command then None else now) is.steps) (sym silent) is.few,
+    );
+  }
 
   -- with the frames of an event
-  with_event : (machine : Machine) (at : LogPlace) (event : Event) (marked : Bool) (begins now : Option ℕ) (events : List Event) (lines more : List LogLine)
-      → lines ≡ map (logged_at at) (frames_at first machine event) ++ more → Stays begins now
-      → (is_command event ≡ true → AreUnderWay 1 settings first machine (event ∷ events) × AreUnderWayAt begins settings first machine (event ∷ events))
+  with_event : (machine : Machine) (at : LogPlace) (event : Event) (marked : Bool) (above : SeenAbove) (now : Option ℕ) (events : List Event) (lines more : List LogLine)
+      → lines ≡ map (logged_at at) (frames_at first machine event) ++ more → Stays above now → (is_command event ≡ true → FewIn above machine (event ∷ events))
       → IsMarkedAs (after settings first machine event) false (below_command event now) events more
       → IsMarkedAs machine marked now (event ∷ events) lines
-  with_event machine at event marked begins now events lines more are stays few is = record {
+  with_event machine at event marked above now events lines more are stays few is = record {
     steps = Logged at event ∷ is.steps;
     are = are ∙ ap (λ (rest : List LogLine). map (logged_at at) (frames_at first machine event) ++ rest) is.are;
     events_are = ap (λ (rest : List Event). event ∷ rest) is.events_are;
     marks = is.marks;
     few = (
       λ command. subst (λ (rest : List Event). AreUnderWayAt now settings first machine (event ∷ rest)) (sym is.events_are)
-          (under_way machine (event ∷ events) begins now stays (few command)),
+          (under_way machine (event ∷ events) above now stays (few command)),
       is.few,
     );
   }
 
-  -- with those of an event below a mark, or none
-  with_found : (machine : Machine) (at : LogPlace) (event : Event) (frame : CpuFrame) (above marked : Bool) (begins now : Option ℕ) (events : List Event)
+  -- with that of an event below a mark, or none
+  with_found : (machine : Machine) (at : LogPlace) (event : Event) (frame : CpuFrame) (mark marked : Bool) (above : SeenAbove) (now : Option ℕ) (events : List Event)
       (lines own more : List LogLine) → frames_at first machine event ≡ frame ∷ [] → lines ≡ own ++ more
-      → own ≡ mark_if above ++ Frame at frame.from_cpu frame.octets ∷ [] → Stays begins now
-      → (is_command event ≡ true → AreUnderWay 1 settings first machine (event ∷ events) × AreUnderWayAt begins settings first machine (event ∷ events))
-      → ((next : Option ℕ) → Stays (below_command event begins) next → IsMarkedAs (after settings first machine event) false next events more)
+      → own ≡ mark_if mark ++ Frame at frame.from_cpu frame.octets ∷ [] → (mark ≡ true → above.warned ≡ true) → Stays above now
+      → (is_command event ≡ true → FewIn above machine (event ∷ events))
+      → ((next : Option ℕ) → Stays (below_frames event above (frame ∷ [])) next → IsMarkedAs (after settings first machine event) false next events more)
       → IsMarkedAs machine marked now (event ∷ events) lines
-  with_found machine at event frame true marked begins now events lines own more frames are owns stays few is =
+  with_found machine at event frame true marked above now events lines own more frames are owns warned stays few is =
+      let one : Stays above (Some 1) = inr (refl, warned refl) in
       with_mark machine marked false now (event ∷ events) lines (Frame at frame.from_cpu frame.octets ∷ more) (are ∙ ap (λ (o : List LogLine). o ++ more) owns)
-      (with_event machine at event false begins (Some 1) events (Frame at frame.from_cpu frame.octets ∷ more) more (rw frames refl) (inr (inr refl)) few
-      (is (below_command event (Some 1)) (stays_below event begins (Some 1) (inr (inr refl)))))
-  with_found machine at event frame false marked begins now events lines own more frames are owns stays few is =
-      with_event machine at event marked begins now events lines more (rw frames (are ∙ ap (λ (o : List LogLine). o ++ more) owns)) stays few
-      (is (below_command event now) (stays_below event begins now stays))
+      (with_event machine at event false above (Some 1) events (Frame at frame.from_cpu frame.octets ∷ more) more (rw frames refl) one few
+      (is (below_command event (Some 1)) (stays_framed event above frame (Some 1) one)))
+  with_found machine at event frame false marked above now events lines own more frames are owns warned stays few is =
+      with_event machine at event marked above now events lines more (rw frames (are ∙ ap (λ (o : List LogLine). o ++ more) owns)) stays few
+      (is (below_command event now) (stays_framed event above frame now stays))
 
   -- what events of a right link are, as lines
-  lines_marked : (seen : List SeenStep) (place : Option LogPlace) (around : Around) (judging : Judging) (machine : Machine) (lost : Bool) (begins now : Option ℕ)
-      (lines : List LogLine) → Stays begins now → AreLostWhereSaid lost seen → FewAreUnderWayAnywhere settings first machine begins seen
-      → AreLinesOf place around judging (log_seen settings first machine seen) lines → IsMarkedAs machine lost now (events_seen seen) lines
-  lines_marked [] place around judging machine lost begins now lines stays missing few are =
+  lines_marked : (begun : Bool) (seen : List SeenStep) (place : Option LogPlace) (above : SeenAbove) (around : Around) (judging : Judging) (machine : Machine) (now : Option ℕ)
+      (lines : List LogLine) → Agrees begun above around judging → Stays above now → AreLostWhereSaid begun settings first above machine seen
+      → FewAreUnderWayInParts begun settings first above machine seen
+      → AreLinesOf place around judging (log_seen settings first machine seen) lines → IsMarkedAs machine above.lost now (events_seen seen) lines
+  lines_marked begun [] place above around judging machine now lines agrees stays missing few are =
       record { steps = []; are = are; events_are = refl; marks = tt; few = tt }
-  lines_marked (Unseen event ∷ seen) place around judging machine lost begins now lines stays missing few are =
-      let is = lines_marked seen place around judging (after settings first machine event) lost begins now lines stays missing.1 few are in record {
+  lines_marked begun (Unseen event ∷ seen) place above around judging machine now lines agrees stays missing few are =
+      let is = lines_marked begun seen place above around judging (after settings first machine event) now lines agrees stays missing.1 few are in record {
         steps = Missing event ∷ is.steps;
         are = is.are;
         events_are = ap (λ (rest : List Event). event ∷ rest) is.events_are;
         marks = (missing.0, is.marks);
         few = is.few;
       }
-  lines_marked (Remarked MayHaveHeldFrame ∷ seen) place around judging machine lost begins now lines stays missing few (own, more, all, owns, rest) =
-      with_mark machine lost true now (events_seen seen) lines more (all ∙ ap (λ (o : List LogLine). o ++ more) owns)
-      (lines_marked seen place (around_with around judged.Lost) (judging_below judging own) machine true begins (Some 1) more (inr (inr refl)) missing few rest)
-  lines_marked (Remarked SaysMessage ∷ seen) place around judging machine lost begins now lines stays missing few (own, more, all, owns, rest) =
-      with_mark_if machine lost (around.framed || judges_each judging.checker.skips) now (events_seen seen) lines more (all ∙ ap (λ (o : List LogLine). o ++ more) owns)
-      (lines_marked seen place (around_with around judged.Possible) (judging_below judging own) machine lost begins (Some 1) more (inr (inr refl)) missing few rest)
-      (lines_marked seen place (around_with around judged.Possible) (judging_below judging own) machine lost begins now more stays missing few rest)
-  lines_marked (Remarked BeginsPart ∷ seen) place around judging machine lost begins now lines stays missing few (own, more, all, owns, rest) =
-      with_mark_if machine lost around.framed now (events_seen seen) lines more (all ∙ ap (λ (o : List LogLine). o ++ more) owns)
-      (lines_marked seen place (around_with around judged.Heading) (judging_below judging own) machine lost begins (Some 1) more (inr (inr refl)) missing few rest)
-      (lines_marked seen place (around_with around judged.Heading) (judging_below judging own) machine lost begins now more stays missing few rest)
-  lines_marked (Remarked SpeaksOfLoss ∷ seen) place around judging machine lost begins now lines stays missing few (own, more, all, owns, rest) =
+  lines_marked begun (Remarked MayHaveHeldFrame ∷ seen) place above around judging machine now lines agrees stays missing few (own, more, all, owns, rest) =
+      with_remark machine above true true now (events_seen seen) lines more (all ∙ ap (λ (o : List LogLine). o ++ more) owns)
+      (λ is. inl refl) (λ is. absurd (cc is)) agrees.begins stays
+      (λ next stays. lines_marked begun seen place (lost_if true above) around (judging_below judging (mark_if true)) machine next more
+      (agrees_lost begun true true above around judging agrees (λ is. inl refl) (λ is. absurd (cc is))) stays missing few
+      (subst (λ (o : List LogLine). AreLinesOf place around (judging_below judging o) (log_seen settings first machine seen) more) owns rest))
+  lines_marked begun (Remarked SaysMessage ∷ seen) place above around judging machine now lines agrees stays missing few (own, more, all, owns, rest) =
+      let marks = possible_marks around.framed above.framed begun (judges_each judging.checker.skips) above.lost agrees.framed agrees.each in
+      let none = possible_none around.framed above.framed begun (judges_each judging.checker.skips) above.lost agrees.framed agrees.each in
+      let marked = around.framed || judges_each judging.checker.skips in
+      with_remark machine above (above.framed || begun) marked now (events_seen seen) lines more (all ∙ ap (λ (o : List LogLine). o ++ more) owns)
+      marks none agrees.begins stays
+      (λ next stays. lines_marked begun seen place (lost_if (above.framed || begun) above) around (judging_below judging (mark_if marked)) machine next more
+      (agrees_lost begun (above.framed || begun) marked above around judging agrees marks none) stays missing few
+      (subst (λ (o : List LogLine). AreLinesOf place around (judging_below judging o) (log_seen settings first machine seen) more) owns rest))
+  lines_marked begun (Remarked BeginsPart ∷ seen) place above around judging machine now lines agrees stays missing few (own, more, all, owns, rest) =
+      let is : own ≡ mark_if above.framed = owns ∙ ap mark_if agrees.framed in
+      with_remark machine above above.framed above.framed now (events_seen seen) lines more (all ∙ ap (λ (o : List LogLine). o ++ more) is)
+      (λ is. inl is) (λ is. is) agrees.begins stays
+      (λ next stays. lines_marked begun seen place (lost_if above.framed above) around (judging_below judging (mark_if above.framed)) machine next more
+      (agrees_lost begun above.framed above.framed above around judging agrees (λ is. inl is) (λ is. is)) stays missing few
+      (subst (λ (o : List LogLine). AreLinesOf place around (judging_below judging o) (log_seen settings first machine seen) more) is rest))
+  lines_marked begun (Remarked SpeaksOfLoss ∷ seen) place above around judging machine now lines agrees stays missing few (own, more, all, owns, rest) =
       let same : lines ≡ more = all ∙ ap (λ (o : List LogLine). o ++ more) owns in
-      rw same (lines_marked seen place (around_with around judged.Missing) (judging_below judging own) machine lost begins now more stays missing few rest)
-  lines_marked (Seen said event ∷ seen) place around judging machine lost begins now lines stays missing few are = elim (one_frame first machine event) [
-    | inl none ↦
-        let rest : AreLinesOf place around judging (log_seen settings first (after settings first machine event) seen) lines =
-        subst (λ (frames : List CpuFrame). AreLinesOf place around judging (map (found_saying said) frames ++ log_seen settings first (after settings first machine event) seen) lines) none are in
-        with_event machine Bus event lost begins now (events_seen seen) lines lines (rw none refl) stays few.0
-        (lines_marked seen place around judging (after settings first machine event) false (below_command event begins) (below_command event now) lines
-        (stays_below event begins now stays) missing few.1 rest)
+      rw same (lines_marked begun seen place (record above { warned = true }) (around_with around judged.Missing) judging machine now more
+      (record { framed = agrees.framed; warned = λ is. refl; each = agrees.each; begins = agrees.begins }) (stays_warned above now stays) missing few
+      (subst (λ (o : List LogLine). AreLinesOf place (around_with around judged.Missing) (judging_below judging o) (log_seen settings first machine seen) more) owns rest))
+  lines_marked begun (Seen said event ∷ seen) place above around judging machine now lines agrees stays missing few are = elim (one_frame first machine event) [
+    | inl none ↦ with_none machine event above.lost now (events_seen seen) lines none.0 none.1
+        (lines_marked begun seen place above around judging (after settings first machine event) now lines agrees stays
+        (subst (λ (frames : List CpuFrame). AreLostWhereSaid begun settings first (below_frames event above frames) (after settings first machine event) seen) none.0 missing)
+        (subst (λ (frames : List CpuFrame). FewAreUnderWayInParts begun settings first (below_frames event above frames) (after settings first machine event) seen) none.0 few.1)
+        (subst (λ (frames : List CpuFrame). AreLinesOf place around judging (map (found_saying said) frames ++ log_seen settings first (after settings first machine event) seen) lines) none.0 are))
     | inr one ↦ by_frame one.0 one.1
         (subst (λ (frames : List CpuFrame). AreLinesOf place around judging (map (found_saying said) frames ++ log_seen settings first (after settings first machine event) seen) lines) one.1 are)
-        (λ below judge next more stays. lines_marked seen place below judge (after settings first machine event) false (below_command event begins) next more stays missing few.1)
+        (λ judge next more stays. lines_marked begun seen place (below_frames event above (one.0 ∷ [])) (around_with around (found_saying said one.0)) judge
+        (after settings first machine event) next more (agrees_framed begun above around judging judge event said one.0 agrees) stays
+        (subst (λ (frames : List CpuFrame). AreLostWhereSaid begun settings first (below_frames event above frames) (after settings first machine event) seen) one.1 missing)
+        (subst (λ (frames : List CpuFrame). FewAreUnderWayInParts begun settings first (below_frames event above frames) (after settings first machine event) seen) one.1 few.1))
   ]
     where
       by_frame : (frame : CpuFrame) → frames_at first machine event ≡ frame ∷ []
           → AreLinesOf place around judging (found_saying said frame ∷ log_seen settings first (after settings first machine event) seen) lines
-          → ((below : Around) (judge : Judging) (next : Option ℕ) (more : List LogLine) → Stays (below_command event begins) next
-          → AreLinesOf place below judge (log_seen settings first (after settings first machine event) seen) more
+          → ((judge : Judging) (next : Option ℕ) (more : List LogLine) → Stays (below_frames event above (frame ∷ [])) next
+          → AreLinesOf place (around_with around (found_saying said frame)) judge (log_seen settings first (after settings first machine event) seen) more
           → IsMarkedAs (after settings first machine event) false next (events_seen seen) more)
-          → IsMarkedAs machine lost now (event ∷ events_seen seen) lines
+          → IsMarkedAs machine above.lost now (event ∷ events_seen seen) lines
       by_frame frame frames (own, more, all, owns, rest) is =
-          with_found machine owns.at event frame owns.marked lost begins now (events_seen seen) lines own more frames all owns.are stays few.0
-          (λ next stays. is (around_with around (found_saying said frame)) (judging_below judging own) next more stays rest)
+          with_found machine owns.at event frame owns.marked above.lost above now (events_seen seen) lines own more frames all owns.are
+          (λ mark. agrees.warned (owns.only mark).0) stays few.0
+          (λ next stays. is (judging_below judging own) next more stays rest)
 
 -- ---- the judge of a log
 
@@ -184,13 +309,18 @@ starts_as limits starts.Begun = refl
 starts_as limits starts.Anywhere = refl
 starts_as limits starts.LateAnswers = refl
 
+agrees_at_start : (limits : RuleLimits) (start : LogStart) → Agrees (is_begun start) (nothing_seen (is_begun start)) nothing_around (link_starting limits start)
+agrees_at_start limits starts.Begun = record { framed = refl; warned = λ is. absurd (cc is); each = λ none. refl; begins = λ is. absurd (cc is) }
+agrees_at_start limits starts.Anywhere = record { framed = refl; warned = λ is. absurd (cc is); each = λ none. refl; begins = λ is. absurd (cc is) }
+agrees_at_start limits starts.LateAnswers = record { framed = refl; warned = λ is. absurd (cc is); each = λ none. refl; begins = λ is. absurd (cc is) }
+
 pub log_judge_accuses_none : LogJudgeAccusesNone
 unfolding LogJudgeAccusesNone JudgeAccusesNone
 log_judge_accuses_none place start settings limits first before steps machine last none log =
     let events = log_seen settings first machine steps in
     let judges = as_link (log_starting limits place start) events none refl in
-    let is = lines_marked settings first steps place nothing_around (link_starting limits start) machine false (loads_at_start (is_begun start)) (loads_at_start (is_begun start))
-    judges.lines (inl refl) log.lost log.few judges.are in
+    let is = lines_marked settings first (is_begun start) steps place (nothing_seen (is_begun start)) nothing_around (link_starting limits start) machine
+    (loads_at_start (is_begun start)) judges.lines (agrees_at_start limits start) (inl refl) log.lost log.few judges.are in
     let accuses = judge_accuses_none (is_begun start) settings limits first before is.steps machine last (record {
       in_range = log.in_range;
       suit = log.suit;

@@ -1,5 +1,5 @@
 -- Logs of a right link as the judge of a log gets them: frames with what their lines say of the sender, and other lines between.
-use Rattle.std.specs.Prelude.{◌≡◌, ℕ, Bool, true, false, List, [], ◌∷◌, ◌++◌, map, Option, Some, None}
+use Rattle.std.specs.Prelude.{◌≡◌, ℕ, Bool, true, false, List, [], ◌∷◌, ◌++◌, ◌||◌, map, Option, Some, None}
 use Rattle.std.specs.List.{AllByRecursion}
 use Rattle.fio_module.specs.Settings.{Settings, AreInRange}
 use Rattle.fio_check.specs.LogJudges.{Found, Heading, LogEvent, Lost, Missing, Possible, late_starting, log_starting, outcomes_in_log}
@@ -59,37 +59,72 @@ log_seen settings first machine (Seen said event ∷ steps) =
 log_seen settings first machine (Unseen event ∷ steps) = log_seen settings first (after settings first machine event) steps
 log_seen settings first machine (Remarked remark ∷ steps) = event_of_remark remark ∷ log_seen settings first machine steps
 
--- whether a frame may be missing directly below a line, by whether one may be directly above it
-abbrev pub lost_with : Bool → Remark → Bool
-lost_with lost MayHaveHeldFrame = true
-lost_with lost remark = lost
+-- what a log says above a line
+pub record SeenAbove : Type 0 where
+  -- a frame is above
+  pub framed : Bool
+  -- the place is lost directly above, with no frame between
+  pub lost : Bool
+  -- a line above speaks of loss
+  pub warned : Bool
+  -- so many loads of the counter may be under way at the first command that is logged in this part, if it has not begun above
+  pub begins : Option ℕ
 
--- frames are missing only below a line that may have held one, with no frame between, by whether such a line is directly above
-abbrev pub AreLostWhereSaid : Bool → List SeenStep → Type 0
-AreLostWhereSaid lost [] = Unit {0}
-AreLostWhereSaid lost (Seen said event ∷ steps) = AreLostWhereSaid false steps
-AreLostWhereSaid lost (Unseen event ∷ steps) = (lost ≡ true) × AreLostWhereSaid lost steps
-AreLostWhereSaid lost (Remarked remark ∷ steps) = AreLostWhereSaid (lost_with lost remark) steps
+-- above the first line
+abbrev pub nothing_seen : Bool → SeenAbove
+nothing_seen begun = record { framed = false; lost = false; warned = false; begins = loads_at_start begun }
 
--- At each command that is logged at most one load of the counter is under way; at the first one, at most this number, if it is given.
-abbrev pub FewAreUnderWayAnywhere : Settings → ℕ → Machine → Option ℕ → List SeenStep → Type 0
-FewAreUnderWayAnywhere settings first machine begins [] = Unit {0}
-FewAreUnderWayAnywhere settings first machine begins (Seen said event ∷ steps) =
-    (is_command event ≡ true → AreUnderWay 1 settings first machine (event ∷ events_seen steps)
-    × AreUnderWayAt begins settings first machine (event ∷ events_seen steps))
-    × FewAreUnderWayAnywhere settings first (after settings first machine event) (below_command event begins) steps
-FewAreUnderWayAnywhere settings first machine begins (Unseen event ∷ steps) =
-    FewAreUnderWayAnywhere settings first (after settings first machine event) begins steps
-FewAreUnderWayAnywhere settings first machine begins (Remarked remark ∷ steps) = FewAreUnderWayAnywhere settings first machine begins steps
+-- below the frames of an event, if it has any
+abbrev pub below_frames : Event → SeenAbove → List CpuFrame → SeenAbove
+below_frames event above [] = above
+below_frames event above (frame ∷ frames) =
+    record above { framed = true; lost = false; begins = below_command event above.begins }
+
+-- below a line at which the place is lost, if it is: another part begins there
+abbrev pub lost_if : Bool → SeenAbove → SeenAbove
+lost_if true above = record above { lost = true; begins = Some 1 }
+lost_if false above = above
+
+-- Below another line. The place is lost where it may have held a frame; where it says a message, below a frame or in a log that
+-- begins with both ends; and where it begins another part, below a frame.
+abbrev pub below_remark : Bool → SeenAbove → Remark → SeenAbove
+below_remark begun above MayHaveHeldFrame = lost_if true above
+below_remark begun above SaysMessage = lost_if (above.framed || begun) above
+below_remark begun above BeginsPart = lost_if above.framed above
+below_remark begun above SpeaksOfLoss = record above { warned = true }
+
+-- frames are missing only below a line at which the place is lost, with no frame between
+abbrev pub AreLostWhereSaid : Bool → Settings → ℕ → SeenAbove → Machine → List SeenStep → Type 0
+AreLostWhereSaid begun settings first above machine [] = Unit {0}
+AreLostWhereSaid begun settings first above machine (Seen said event ∷ steps) =
+    AreLostWhereSaid begun settings first (below_frames event above (frames_at first machine event)) (after settings first machine event) steps
+AreLostWhereSaid begun settings first above machine (Unseen event ∷ steps) =
+    (above.lost ≡ true) × AreLostWhereSaid begun settings first above (after settings first machine event) steps
+AreLostWhereSaid begun settings first above machine (Remarked remark ∷ steps) =
+    AreLostWhereSaid begun settings first (below_remark begun above remark) machine steps
+
+-- Few loads of the counter are under way at the first command that is logged in a part: at most this number in the first one, if it
+-- is given, and at most one in each that begins where the place is lost. Below a line that speaks of loss at most one is under way
+-- at each command that is logged.
+abbrev pub FewAreUnderWayInParts : Bool → Settings → ℕ → SeenAbove → Machine → List SeenStep → Type 0
+FewAreUnderWayInParts begun settings first above machine [] = Unit {0}
+FewAreUnderWayInParts begun settings first above machine (Seen said event ∷ steps) =
+    (is_command event ≡ true → AreUnderWayAt above.begins settings first machine (event ∷ events_seen steps)
+    × (above.warned ≡ true → AreUnderWay 1 settings first machine (event ∷ events_seen steps)))
+    × FewAreUnderWayInParts begun settings first (below_frames event above (frames_at first machine event)) (after settings first machine event) steps
+FewAreUnderWayInParts begun settings first above machine (Unseen event ∷ steps) =
+    FewAreUnderWayInParts begun settings first above (after settings first machine event) steps
+FewAreUnderWayInParts begun settings first above machine (Remarked remark ∷ steps) =
+    FewAreUnderWayInParts begun settings first (below_remark begun above remark) machine steps
 
 -- whether a log begins with both ends
 abbrev pub is_begun : LogStart → Bool
 is_begun Begun = true
 is_begun other = false
 
--- What the CPU's end logs of a prompt run, from the start of both ends or from any event on, though frames may be missing at lines
--- that may have held one, and other lines may stand anywhere. The judge's limits suit the module; at most one load of the counter is
--- under way at each command that is logged, and none where the log begins; and all that is compared is near.
+-- What the CPU's end logs of a prompt run, from the start of both ends or from any event on, though any frames may be missing where
+-- the place is lost, and other lines may stand anywhere. The judge's limits suit the module; few loads of the counter are under way
+-- where a part of the log begins, and below a line that speaks of loss; and all that is compared is near.
 pub record IsSeenLog (begun : Bool) (settings : Settings) (limits : RuleLimits) (first : ℕ) (before : List Event)
     (steps : List SeenStep) (machine last : Machine) : Type 0 where
   pub in_range : AreInRange settings
@@ -97,8 +132,8 @@ pub record IsSeenLog (begun : Bool) (settings : Settings) (limits : RuleLimits) 
   pub run : IsPromptRun settings first (before ++ events_seen steps) last
   pub leads : Leads settings first start before machine
   pub begins : MayBegin begun before
-  pub lost : AreLostWhereSaid false steps
-  pub few : FewAreUnderWayAnywhere settings first machine (loads_at_start begun) steps
+  pub lost : AreLostWhereSaid begun settings first (nothing_seen begun) machine steps
+  pub few : FewAreUnderWayInParts begun settings first (nothing_seen begun) machine steps
   pub near : AreTimesNear begun settings first (judged_from begun settings first machine (events_seen steps))
       (judged_events begun (events_seen steps)) last
 
