@@ -1,39 +1,19 @@
 -- The judge of a log accuses no right link: its events are lines with marks.
-use Rattle.fio_ends.proofs.Names.{◌≡◌, ◌∙◌, ◌&&◌, not, arith, Checker, checker_below_lines, Skips, Nothing, ToCommand, ToPoll, Observation, ◌⊎◌, ◌||◌, inl, inr, ℕ, Bool, true, false, List, [], ◌∷◌, ◌++◌, map, Option, Some, None, refl, ap, sym, subst, append_assoc, AllByRecursion, if◌then◌else◌, AccusesNeither, AreUnderWay, AreUnderWayAt, CpuFrame, observation_in, Event, FewAreUnderWay, FrameOutcome, Judging, LogLine, LogPlace, LogStep, Logged, Machine, Marked, Missing, RuleLimits, Settings, after, events_of, frame_heard, frames_at, is_command, item_numbered, log_from, logged_at, outcomes_of}
+use Rattle.fio_ends.proofs.Names.{◌≡◌, ◌∙◌, not, ◌⊎◌, ◌||◌, inl, inr, ℕ, Bool, true, false, List, [], ◌∷◌, ◌++◌, map, Option, Some, None, refl, ap, sym, subst, AllByRecursion, if◌then◌else◌, AccusesNeither, AreUnderWay, AreUnderWayAt, CpuFrame, Event, FewAreUnderWay, FrameOutcome, Judging, LogLine, LogPlace, LogStep, Logged, Machine, Marked, Missing, RuleLimits, Settings, after, events_of, frames_at, is_command, log_from, logged_at, outcomes_of}
 use Rattle.fio_check.proofs.LogLaws.{as_link}
 use Rattle.fio_check.specs.LinkJudges.{Lost as Mark}
-use Rattle.fio_check.specs.LinkJudges.{Frame, judging_below, judging_lost}
+use Rattle.fio_check.specs.LinkJudges.{Frame, judging_below}
 use Rattle.fio_check.specs.LogJudges as judged
-use Rattle.fio_check.specs.LogJudges.{LogEvent, late_starting, link_starting, log_starting, judges_each, outcomes_in_log}
-use Rattle.fio_check.specs.LogLaws.{AreLinesOf, Around, IsJudgedAsLink, around_frame, around_said, around_with, mark_if, nothing_around}
-use Rattle.fio_check.specs.declared.log_judge.LogOutcome.{LogOutcome}
+use Rattle.fio_check.specs.LogJudges.{link_starting, log_starting, judges_each, outcomes_in_log}
+use Rattle.fio_check.specs.LogLaws.{AreLinesOf, Around, around_with, mark_if, nothing_around}
 use Rattle.fio_check.specs.declared.log_judge.LogOutcome.TheVariants.{Link}
 use Rattle.fio_check.specs.declared.log_judge.LogStart.{LogStart}
 use Rattle.fio_check.specs.declared.log_judge.LogStart.TheVariants as starts
 use Rattle.fio_check.specs.declared.outcome.LogPlace.TheVariants.{Bus}
-use Rattle.fio_link.specs.declared.event.Event.TheVariants as happen
-use Rattle.fio_link.specs.Link.{SentFrame}
-use Rattle.fio_ends.specs.EventLogs.{AccusesNeitherInLog, AreLostWhereSaid, BeginsPart, FewAreUnderWayInParts, IsSeenLog, LogJudgeAccusesNone, MayHaveHeldFrame, Remark, Remarked, SaysMessage, Seen, SeenAbove, SeenStep, SpeaksOfLoss, Unseen, below_frames, below_remark, event_of_remark, events_seen, found_saying, is_begun, log_seen, lost_if, nothing_seen}
-use Rattle.fio_ends.specs.LinkLogs.{AreMarked, IsMarkedLog, JudgeAccusesNone, below_command, judging_at_start, loads_at_start}
+use Rattle.fio_ends.specs.EventLogs.{AccusesNeitherInLog, AreLostWhereSaid, BeginsPart, FewAreUnderWayInParts, LogJudgeAccusesNone, MayHaveHeldFrame, Remarked, SaysMessage, Seen, SeenAbove, SeenStep, SpeaksOfLoss, Unseen, below_frames, events_seen, found_saying, is_begun, log_seen, lost_if, nothing_seen}
+use Rattle.fio_ends.specs.LinkLogs.{AreMarked, JudgeAccusesNone, below_command, judging_at_start, loads_at_start}
 use Rattle.fio_ends.proofs.JudgedLogs.{judge_accuses_none}
-
--- ---- an event has one frame at most
-
-of_heard : (heard : Option SentFrame) → ((frame_heard heard ≡ []) × (false ≡ false)) ⊎ ((frame : CpuFrame) × (frame_heard heard ≡ frame ∷ []))
-of_heard None = inl (refl, refl)
-of_heard (Some frame) = inr (record { from_cpu = false; octets = frame.octets }, refl)
-
--- and a command has one
-one_frame : (first : ℕ) (machine : Machine) (event : Event)
-    → ((frames_at first machine event ≡ []) × (is_command event ≡ false)) ⊎ ((frame : CpuFrame) × (frames_at first machine event ≡ frame ∷ []))
-one_frame first machine (happen.Scan raw) = inl (refl, refl)
-one_frame first machine happen.LineSync = inl (refl, refl)
-one_frame first machine (happen.Raise mask) = inl (refl, refl)
-one_frame first machine happen.Poll = inr (_, refl)
-one_frame first machine (happen.Send command) = inr (_, refl)
-one_frame first machine (happen.ToModule index) = inl (refl, refl)
-one_frame first machine (happen.ToCpu index) = of_heard (item_numbered machine.to_cpu index)
-one_frame first machine happen.Restart = inl (refl, refl)
+use Rattle.fio_ends.proofs.SeenAbove.{Agrees, Stays, agrees_framed, agrees_lost, one_frame, possible_marks, possible_none, stays_framed, stays_lost, stays_warned}
 
 -- ---- marks
 
@@ -43,94 +23,6 @@ marked_more marked [] are = tt
 marked_more marked (Logged at event ∷ steps) are = are
 marked_more marked (Missing event ∷ steps) are = (refl, marked_more marked steps are.1)
 marked_more marked (Marked ∷ steps) are = are
-
--- the loads that may be under way where a log goes on: as many as where its part begins, or one below a line that speaks of loss
-abbrev Stays : SeenAbove → Option ℕ → Type 0
-Stays above now = (now ≡ above.begins) ⊎ ((now ≡ Some 1) × (above.warned ≡ true))
-
-stays_framed : (event : Event) (above : SeenAbove) (frame : CpuFrame) (now : Option ℕ) → Stays above now → Stays (below_frames event above (frame ∷ [])) (below_command event now)
-stays_framed event above frame now stays = by (is_command event) stays
-  where
-    by : (command : Bool) → Stays above now
-        → ((if command then None else now) ≡ (if command then None else above.begins)) ⊎ (((if command then None else now) ≡ Some 1) × (above.warned ≡ true))
-    by true stays = inl refl
-    by false stays = stays
-
-stays_lost : (above : SeenAbove) (now : Option ℕ) → above.begins ≡ Some 1 → Stays above now → Stays (lost_if true above) now
-stays_lost above now begins stays = elim stays [ | inl same ↦ inl (same ∙ begins) | inr one ↦ inr one ]
-
-stays_warned : (above : SeenAbove) (now : Option ℕ) → Stays above now → Stays (record above { warned = true }) now
-stays_warned above now stays = elim stays [ | inl same ↦ inl same | inr one ↦ inr (one.0, refl) ]
-
--- ---- what is above
-
--- what the judge keeps is what the log says above
-record Agrees (begun : Bool) (above : SeenAbove) (around : Around) (judging : Judging) : Type 0 where
-  framed : around.framed ≡ above.framed
-  warned : around.remarked ≡ true → above.warned ≡ true
-  each : above.framed ≡ false → judges_each judging.checker.skips ≡ (begun && not above.lost)
-  begins : above.lost ≡ true → above.begins ≡ Some 1
-
-framed_by : (around : Around) (observation : Observation) → (around_frame around observation).framed ≡ true
-framed_by around observation = grind arith
-
-framed_said : (around : Around) (said : Option Bool) (from_cpu : Bool) → (around_said around said from_cpu).framed ≡ around.framed
-framed_said around said from_cpu = grind arith
-
-warned_by : (around : Around) (observation : Observation) → (around_frame around observation).remarked ≡ true → around.remarked ≡ true
-warned_by around observation is = grind arith
-
-warned_said : (around : Around) (said : Option Bool) (from_cpu : Bool) → (around_said around said from_cpu).remarked ≡ around.remarked
-warned_said around said from_cpu = grind arith
-
-agrees_framed : (begun : Bool) (above : SeenAbove) (around : Around) (judging next : Judging) (event : Event) (said : Option Bool) (frame : CpuFrame)
-    → Agrees begun above around judging → Agrees begun (below_frames event above (frame ∷ [])) (around_with around (found_saying said frame)) next
-agrees_framed begun above around judging next event said frame agrees =
-    let observation = observation_in frame.from_cpu frame.octets in record {
-      framed = framed_said (around_frame around observation) said frame.from_cpu ∙ framed_by around observation;
-      warned = λ is. agrees.warned (warned_by around observation (sym (warned_said (around_frame around observation) said frame.from_cpu) ∙ is));
-      each = λ none. absurd (cc none);
-      begins = λ none. absurd (cc none);
-    }
-
--- below a mark a checker does not judge each frame
-each_lost : (checker : Checker) → judges_each (checker_below_lines checker checker.skips).skips ≡ false
-each_lost checker = by checker.skips refl
-  where
-    by : (skips : Skips) → checker.skips ≡ skips → judges_each (checker_below_lines checker skips).skips ≡ false
-    by Nothing is = refl
-    by ToCommand is = rw is refl
-    by ToPoll is = refl
-
-not_lost : (begun : Bool) → false ≡ (begun && false)
-not_lost true = refl
-not_lost false = refl
-
-agrees_lost : (begun lost marked : Bool) (above : SeenAbove) (around : Around) (judging : Judging) → Agrees begun above around judging
-    → (lost ≡ true → (marked ≡ true) ⊎ (above.lost ≡ true)) → (lost ≡ false → marked ≡ false)
-    → Agrees begun (lost_if lost above) around (judging_below judging (mark_if marked))
-agrees_lost begun true true above around judging agrees marks none =
-    record { framed = agrees.framed; warned = agrees.warned; each = λ no. each_lost judging.checker ∙ not_lost begun; begins = λ is. refl }
-agrees_lost begun true false above around judging agrees marks none = elim (marks refl) [
-  | inl is ↦ absurd (cc is)
-  | inr was ↦ record { framed = agrees.framed; warned = agrees.warned; each = λ no. agrees.each no ∙ ap (λ (l : Bool). begun && not l) was; begins = λ is. refl }
-]
-agrees_lost begun false true above around judging agrees marks none = absurd (cc (none refl))
-agrees_lost begun false false above around judging agrees marks none = agrees
-
--- a line that says a message is a mark where the place is lost, if it is not lost above
-possible_marks : (around framed begun each lost : Bool) → around ≡ framed → (framed ≡ false → each ≡ (begun && not lost))
-    → (framed || begun) ≡ true → ((around || each) ≡ true) ⊎ (lost ≡ true)
-possible_marks around true begun each lost same is loses = inl (rw same refl)
-possible_marks around false true each true same is loses = inr refl
-possible_marks around false true each false same is loses = inl (rw same (is refl))
-possible_marks around false false each lost same is loses = absurd (cc loses)
-
-possible_none : (around framed begun each lost : Bool) → around ≡ framed → (framed ≡ false → each ≡ (begun && not lost))
-    → (framed || begun) ≡ false → (around || each) ≡ false
-possible_none around true begun each lost same is loses = absurd (cc loses)
-possible_none around false true each lost same is loses = absurd (cc loses)
-possible_none around false false each lost same is loses = rw same (is refl)
 
 module _ (settings : Settings) (first : ℕ) where
   -- lines that are a log of these events in which frames are missing at marks

@@ -5,10 +5,10 @@ ghost use Rattle.fio_ends.specs.BusRuns.{BusesExist, HeadlineAtStations, LinesAr
 ghost use Rattle.fio_ends.specs.Calls.{CallsAreRuns};
 ghost use Rattle.fio_ends.specs.ContentPremises.{HasNearTimes};
 ghost use Rattle.fio_ends.specs.ContentRuns.{AccusesNone, Always, ContentNeverAccuses};
+ghost use Rattle.fio_ends.specs.EventLogs.{LogJudgeAccusesNone};
 ghost use Rattle.fio_ends.specs.LineRuns.{EachFrameMayCome, EachStruckFrameMayCome, HeadlineOverLines, LinesAreRuns, LinesBringRecords};
 ghost use Rattle.fio_ends.specs.Lines.{AtCpu, AtModule};
 ghost use Rattle.fio_ends.specs.LinkLogs.{AccusesNoneBelowLoads, FramesMayBeMissing, JudgeAccusesNone, JudgeKeepsAll, LoadsMayBeUnderWay};
-ghost use Rattle.fio_ends.specs.EventLogs.{LogJudgeAccusesNone};
 ghost use Rattle.fio_ends.specs.Explainable.{AccusedAreNotExplainable};
 ghost use Rattle.fio_ends.specs.PollLogs.{AreOfBothKinds, LogsOfPollsAreDecided};
 ghost use Rattle.fio_ends.specs.Pollers.{GoodIsOfPoller};
@@ -313,7 +313,7 @@ pub fn judge_accuses_no_maker()
 {}
 
 /// So the judge of a log accuses no right link, wherever the log was taken and whatever its lines say of senders, if it leaves no
-/// late answers out: frames may be missing at lines that may have held one, and other lines may stand anywhere.
+/// late answers out: any frames may be missing directly below lines at which the place is lost, and other lines may stand anywhere.
 #[tactic(auto, using(crate::proofs::EventLogs::log_judge_accuses_none))]
 pub fn log_judge_accuses_no_right_link()
     ensures { LogJudgeAccusesNone }
