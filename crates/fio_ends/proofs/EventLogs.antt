@@ -1,5 +1,5 @@
 -- The judge of a log accuses no right link: its events are lines with marks.
-use Rattle.fio_ends.proofs.Names.{◌≡◌, ◌∙◌, not, ◌⊎◌, ◌||◌, inl, inr, ℕ, Bool, true, false, List, [], ◌∷◌, ◌++◌, map, Option, Some, None, refl, ap, sym, subst, AllByRecursion, if◌then◌else◌, AccusesNeither, AreUnderWay, AreUnderWayAt, CpuFrame, Event, FewAreUnderWay, FrameOutcome, Judging, LogLine, LogPlace, LogStep, Logged, Machine, Marked, Missing, RuleLimits, Settings, after, events_of, frames_at, is_command, log_from, logged_at, outcomes_of}
+use Rattle.fio_ends.proofs.Names.{◌≡◌, ◌∙◌, ◌⊎◌, ◌||◌, inl, inr, ℕ, Bool, true, false, List, [], ◌∷◌, ◌++◌, map, Option, Some, None, refl, ap, sym, subst, AllByRecursion, if◌then◌else◌, AccusesNeither, AreUnderWay, AreUnderWayAt, CpuFrame, Event, FewAreUnderWay, FrameOutcome, Judging, LogLine, LogPlace, LogStep, Logged, Machine, Marked, Missing, RuleLimits, Settings, after, events_of, frames_at, is_command, log_from, logged_at, outcomes_of}
 use Rattle.fio_check.proofs.LogLaws.{as_link}
 use Rattle.fio_check.specs.LinkJudges.{Lost as Mark}
 use Rattle.fio_check.specs.LinkJudges.{Frame, judging_below}
