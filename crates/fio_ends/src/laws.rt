@@ -5,6 +5,7 @@ ghost use Rattle.fio_ends.specs.BusRuns.{BusesExist, HeadlineAtStations, LinesAr
 ghost use Rattle.fio_ends.specs.Calls.{CallsAreRuns};
 ghost use Rattle.fio_ends.specs.ContentPremises.{HasNearTimes};
 ghost use Rattle.fio_ends.specs.ContentRuns.{AccusesNone, Always, ContentNeverAccuses};
+ghost use Rattle.fio_ends.specs.EventLogs.{LogJudgeAccusesNone};
 ghost use Rattle.fio_ends.specs.LineRuns.{EachFrameMayCome, EachStruckFrameMayCome, HeadlineOverLines, LinesAreRuns, LinesBringRecords};
 ghost use Rattle.fio_ends.specs.Lines.{AtCpu, AtModule};
 ghost use Rattle.fio_ends.specs.LinkLogs.{AccusesNoneBelowLoads, FramesMayBeMissing, JudgeAccusesNone, JudgeKeepsAll, LoadsMayBeUnderWay};
@@ -309,4 +310,11 @@ pub fn makers_answers_accuse_none()
 #[tactic(auto, using(crate::proofs::MakersAnswers::judge_accuses_no_maker))]
 pub fn judge_accuses_no_maker()
     ensures { JudgeAccusesNoMaker }
+{}
+
+/// So the judge of a log accuses no right link, wherever the log was taken and whatever its lines say of senders, if it leaves no
+/// late answers out: any frames may be missing directly below lines at which the place is lost, and other lines may stand anywhere.
+#[tactic(auto, using(crate::proofs::EventLogs::log_judge_accuses_none))]
+pub fn log_judge_accuses_no_right_link()
+    ensures { LogJudgeAccusesNone }
 {}

@@ -17,7 +17,7 @@
 //! frame is delivered twice, and each answer directly after its command or never (`prompt_runs_are_good`). The log of such a
 //! run may also begin at any event (`later_logs_are_good`). The judge of a link accuses neither end of such a log, whichever
 //! frames are missing at marks (`judge_accuses_no_right_link`), nor one over restarts that a stamp shows
-//! (`judge_finds_restarts`). The transcript's record is the run's (`prompt_runs_are_recorded`). A good transcript's poller has
+//! (`judge_finds_restarts`); nor does the judge of a log, at lines that lose the place (`log_judge_accuses_no_right_link`). The transcript's record is the run's (`prompt_runs_are_recorded`). A good transcript's poller has
 //! the number of each poll, and takes each block answer (`good_transcripts_are_of_pollers`). Calls of both ends in C are a run
 //! (`calls_are_runs`), and so are both ends over two lines of octets (`lines_are_runs`), and each station of a bus
 //! (`stations_are_runs`). `docs/PROMISES.md` says what is assumed.
