@@ -224,7 +224,7 @@ log_judge_accuses_none place start settings limits first before steps machine la
       near = rw is.events_are log.near;
     }) in
     let same : outcomes_in_log (log_starting limits place start) events
-        ≡ map Link (outcomes_of (judging_at_start (is_begun start) limits) (log_from settings first machine is.steps)) =
+    ≡ map Link (outcomes_of (judging_at_start (is_begun start) limits) (log_from settings first machine is.steps)) =
     judges.outcomes ∙ ap (map Link) (ap (λ (j : Judging). outcomes_of j judges.lines) (starts_as limits start)
     ∙ ap (outcomes_of (judging_at_start (is_begun start) limits)) is.are) in
     subst (AllByRecursion AccusesNeitherInLog) (sym same) (all_linked _ accuses)

@@ -41,10 +41,10 @@ stays_framed event above frame now stays = by (is_command event) stays
     by false stays = stays
 
 pub stays_lost : (above : SeenAbove) (now : Option ℕ) → above.begins ≡ Some 1 → Stays above now → Stays (lost_if true above) now
-stays_lost above now begins stays = elim stays [ | inl same ↦ inl (same ∙ begins) | inr one ↦ inr one ]
+stays_lost above now begins stays = elim stays [ inl same ↦ inl (same ∙ begins) | inr one ↦ inr one ]
 
 pub stays_warned : (above : SeenAbove) (now : Option ℕ) → Stays above now → Stays (record above { warned = true }) now
-stays_warned above now stays = elim stays [ | inl same ↦ inl same | inr one ↦ inr (one.0, refl) ]
+stays_warned above now stays = elim stays [ inl same ↦ inl same | inr one ↦ inr (one.0, refl) ]
 
 -- ---- what is above
 
