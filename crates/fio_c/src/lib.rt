@@ -45,7 +45,7 @@
 //! `fio2070_log_counts_batch` counts the frames of a batch, takes the lines between them, and writes the times that are known,
 //! in order, and nothing else (`next`, `taken`, `count`; of what a reader returned `told`). `fio2070_log_signs_batch` takes its
 //! frames (`next`, `told`). `fio2070_log_batch_part` writes the part of a batch that a mask takes (`part`, `lines`, `count`); what
-//! these three calls say of it is what they say of its lines alone (`laws::parts_stand_alone`).
+//! these three calls say of it is what they say of its lines alone (`judge`, `counts`, `signs`).
 //!
 //! `fio2070_log_start` sets the octets of its reader, which may be fewer than the room. The verdicts that `fio2070_log_read`
 //! puts into a batch are those that `Reader` of `fio_log` returns of the next lines, each once, in order and no other, octet
