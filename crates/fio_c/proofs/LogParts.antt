@@ -5,7 +5,7 @@ use Rattle.std.proofs.lemmas.List.Elements.{All-cons, All-drop, All-head, All-ni
 use Rattle.std.proofs.lemmas.List.Sums.{sum_by-cons, sum_by-take-drop}
 use Rattle.std.specs.List.{All, concat, sum_by}
 use Rattle.fio_c.specs.BatchItems.{AreShort, BatchItem, frame_items, frames_by_counts, items_of_content, items_of_verdicts, line_count, octet_count}
-use Rattle.fio_c.specs.LogParts.{frames_in_part, line_in_part, lines_in_part, part_of}
+use Rattle.fio_c.specs.LogParts.{frames_in_part, line_in_part, lines_in_part, batch_part}
 use Rattle.fio_c.specs.Logs.{Content, Holds}
 use Rattle.fio_c.specs.declared.log_batch.LogBatch.{LogBatch}
 use Rattle.fio_c.specs.declared.log_batch.LogVerdict.{LogVerdict}
@@ -147,7 +147,7 @@ pub all_held : (mask : List ℕ) (items : List BatchItem) (content above : Conte
     → above.verdicts ++ lines_by_items (drop line mask) left ≡ lines_by_items mask items
     → above.frames ++ frames_by_items is_taken (drop line mask) left ≡ frames_by_items false mask items
     → above.places ≡ []
-    → Holds part (part_of mask content)
+    → Holds part (batch_part mask content)
 all_held mask items content above part is_taken line left none is holds verdicts frames places =
     let lines : above.verdicts ≡ lines_in_part mask content.verdicts =
     sym (append-nil above.verdicts)

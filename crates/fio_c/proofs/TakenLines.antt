@@ -1,7 +1,7 @@
 -- What is said of the part of a batch is what is said of what its mask takes.
 use Rattle.std.proofs.Common.{◌≡◌, ℕ, suc, zero, ◌==◌, Bool, true, false, List, [], ◌∷◌, ◌++◌, take, drop, Option, None, Some, refl, sym, ap, ap₂, ◌∙◌, slice_index, if◌then◌else◌}
 use Rattle.fio_c.specs.BatchItems.{BatchItem, frame_items, items_of_content, items_of_verdicts}
-use Rattle.fio_c.specs.LogParts.{frames_in_part, lines_in_part, part_of}
+use Rattle.fio_c.specs.LogParts.{frames_in_part, lines_in_part, batch_part}
 use Rattle.fio_c.specs.Logs.{Content}
 use Rattle.fio_c.specs.TakenLines.{anywhere, damaged_line, taken_items, taken_of_verdicts}
 use Rattle.fio_c.specs.declared.log_batch.LogVerdict.{LogVerdict}
@@ -101,5 +101,5 @@ module _ {S R : Type 0} (says : S → List BatchItem → R) (hears : Hears says)
       (part-said rest verdicts (drop verdict.frames frames)) state
 
   pub taken_said : (mask : List ℕ) (content : Content) (state : S)
-      → says state (items_of_content (part_of mask content)) ≡ says state (taken_items mask content)
+      → says state (items_of_content (batch_part mask content)) ≡ says state (taken_items mask content)
   taken_said mask content state = part-said mask content.verdicts content.frames state

@@ -26,8 +26,8 @@ frames_in_part mask (verdict ∷ verdicts) frames =
     ++ frames_in_part (drop 1 mask) verdicts (drop verdict.frames frames)
 
 -- the part of a batch that a mask takes
-abbrev pub part_of : List ℕ → Content → Content
-part_of mask content = record {
+abbrev pub batch_part : List ℕ → Content → Content
+batch_part mask content = record {
   verdicts = lines_in_part mask content.verdicts;
   frames = frames_in_part mask content.verdicts content.frames;
   places = [];

@@ -1,7 +1,7 @@
 //! Parts of a batch of the reader of logs: some of its lines, and blank ones in place of the others.
 ghost use Rattle.std.specs.Prelude.{◌≡◌, ◌≤◌, [], length};
 ghost use Rattle.fio_c.specs.BatchItems.{AreShort, frame_count, items_of_content, line_count, octet_count};
-ghost use Rattle.fio_c.specs.LogParts.{line_in_part, part_of};
+ghost use Rattle.fio_c.specs.LogParts.{line_in_part, batch_part};
 ghost use Rattle.fio_c.specs.Logs.{Content, Holds};
 
 use crate::batch_items::{BatchItems, items_of};
@@ -18,7 +18,7 @@ const AS_DAMAGED: u8 = 2;
 /// without them; any other number, or none, takes nothing of it, and it is as blank. No line of a part has places.
 #[unsafe(no_mangle)]
 pub extern "C" fn fio2070_log_batch_part(batch: &LogBatch, mask: &[u8], part: &mut LogBatch) -> u32
-    ensures part { (content : Content) → Holds batch.now content → Holds part.new (part_of mask.now content) }
+    ensures part { (content : Content) → Holds batch.now content → Holds part.new (batch_part mask.now content) }
     ensures lines { (content : Content) → Holds batch.now content → part.new.verdict_count ≡ length content.verdicts }
     ensures count { result ≡ part.new.frame_count }
     ensures within { result ≤ LOG_FRAMES }
@@ -38,7 +38,7 @@ fn add_items(items: BatchItems<'_>, mask: &[u8], part: &mut LogBatch)
     requires frames { frame_count items ≤ LOG_FRAMES }
     requires octets { octet_count items ≤ LOG_OCTETS }
     requires short { AreShort items }
-    ensures part { (content : Content) → items.entry ≡ items_of_content content → Holds part.new (part_of mask.now content) }
+    ensures part { (content : Content) → items.entry ≡ items_of_content content → Holds part.new (batch_part mask.now content) }
     ensures lines { part.new.verdict_count ≡ line_count items.entry }
     ensures within { part.new.frame_count ≤ LOG_FRAMES }
 {

@@ -11,7 +11,7 @@ use Rattle.fio_message.specs.Decoding.{command_in}
 use Rattle.fio_message.specs.Status.{says_again}
 use Rattle.fio_message.specs.declared.answers.Answer.TheVariants as answers
 use Rattle.fio_message.specs.declared.commands.Command.TheVariants as commands
-use Rattle.fio_check.specs.CountedLogs.{CountedEvent, Heard, KeepsCounts, Missed, Sent, Timed, block_heard, code_sent, command_waiting, counted, counts_at, counts_with_event, is_sent_again, latest_said, poll_sent, poll_waiting, poll_waits, reset_heard, said_at}
+use Rattle.fio_check.specs.CountedLogs.{CountedEvent, Heard, KeepsCounts, Missed, Sent, Timed, block_heard, code_sent, command_waiting, counted, counts_at, counts_with_event, is_sent_again, latest_counted, poll_sent, poll_waiting, poll_waits, reset_heard, said_at}
 use Rattle.fio_check.specs.LogCounts.{counted_answer_of, counted_awaited, counted_block, counted_code, counted_entries, counted_lost, counted_poll_of, counts_above, counts_with, is_awaited, more, raised}
 use Rattle.fio_check.specs.declared.log_counts.LogCounts.{LogCounts}
 use Rattle.fio_check.proofs.EventByEvent.{fold_is}
@@ -134,7 +134,7 @@ next-poll events place time octets number here is =
     counts-same (counts_at events (suc place)) (counts_with (counts_at events place) time octets)
     (rw (here, is) (sym (more-counted _)))
     (rw (here, is) (sym (more-counted _)))
-    (rw (here, is) (sym (repeats-next _ number (latest_said poll_sent events place))))
+    (rw (here, is) (sym (repeats-next _ number (latest_counted poll_sent events place))))
     (rw (here, is) (sym (unanswered-next _ (poll_waits events place))))
     (rw (here, is) (ap counted (same _)))
     (rw (here, is) (ap counted (same _)))
@@ -203,21 +203,21 @@ next-status events place time octets flags receive transmit stamp here isnt is =
     (rw (here, isnt, is) (ap counted (same _)))
     (rw (here, isnt, is) (ap counted (same _)))
     (rw (here, isnt, is) (ap counted (same _)))
-    (rw (here, isnt, is) (sym (restarts-next _ (latest_said reset_heard events place) (nat_le 128 flags))))
+    (rw (here, isnt, is) (sym (restarts-next _ (latest_counted reset_heard events place) (nat_le 128 flags))))
     (rw (here, isnt, is) (sym (raised-table 256 177 _)))
     (rw (here, isnt, is) (table-same 128 _ _ (λ i. same _)))
     (rw (here, isnt, is) (table-same 256 _ _ (λ i. same _)))
     (rw (here, isnt, is) refl)
     (rw (here, isnt, is) refl)
     (rw (here, isnt, is) refl)
-    (rw (here, isnt, is) (awaited-next place 177 (latest_above (said_at code_sent events) place) (latest_above (λ above. said_at (command_waiting (latest_said code_sent events above)) events above) place) (waiting-found events place)))
+    (rw (here, isnt, is) (awaited-next place 177 (latest_above (said_at code_sent events) place) (latest_above (λ above. said_at (command_waiting (latest_counted code_sent events above)) events above) place) (waiting-found events place)))
     (rw (here, isnt, is) refl)
     (rw (here, isnt, is) refl)
     (rw (here, isnt, is) refl)
     (rw (here, isnt, is) refl)
     (rw (here, isnt, is) refl)
     (rw (here, isnt, is) refl)
-    (rw (here, isnt, is) (sym (first-reset (latest_said reset_heard events place) (earliest_above (said_at reset_heard events) place) (nat_le 128 flags) (earliest-some (said_at reset_heard events) place))))
+    (rw (here, isnt, is) (sym (first-reset (latest_counted reset_heard events place) (earliest_above (said_at reset_heard events) place) (nat_le 128 flags) (earliest-some (said_at reset_heard events) place))))
     (rw (here, isnt, is) refl)
     (refl)
     ∙ sym (after-answer (counts_at events place) time octets (answers.Status flags receive transmit stamp) isnt is)
@@ -230,7 +230,7 @@ next-block_again : (events : List CountedEvent) (place : ℕ) (time : Option ℕ
     → poll_waiting (Heard answer) ≡ Some false
     → reset_heard (Heard answer) ≡ None
     → ((counts : LogCounts) → counted_answer_of counts answer ≡ counted_block counts block.number block.entries block.status)
-    → is_sent_again (latest_said block_heard events place) block ≡ true
+    → is_sent_again (latest_counted block_heard events place) block ≡ true
     → counts_at events (suc place) ≡ counts_with (counts_at events place) time octets
 next-block_again events place time octets answer block here isnt is heard ends no-reset does again =
     counts-same (counts_at events (suc place)) (record (after (counts_at events place) (answer_code answer)) { waits = 0; block = block.number; has_block = 1 })
@@ -247,7 +247,7 @@ next-block_again events place time octets answer block here isnt is heard ends n
     (rw (here, isnt, is) refl)
     (rw (here, isnt, is) refl)
     (rw (here, isnt, is) refl)
-    (rw (here, isnt, is) (awaited-next place (answer_code answer) (latest_above (said_at code_sent events) place) (latest_above (λ above. said_at (command_waiting (latest_said code_sent events above)) events above) place) (waiting-found events place)))
+    (rw (here, isnt, is) (awaited-next place (answer_code answer) (latest_above (said_at code_sent events) place) (latest_above (λ above. said_at (command_waiting (latest_counted code_sent events above)) events above) place) (waiting-found events place)))
     (rw (here, isnt, is) refl)
     (rw (here, isnt, is) refl)
     (rw (here, isnt, is, ends) refl)
@@ -258,7 +258,7 @@ next-block_again events place time octets answer block here isnt is heard ends n
     (rw (here, isnt, is, no-reset) refl)
     (refl)
     ∙ sym (after-answer (counts_at events place) time octets answer isnt is ∙ does (after (counts_at events place) (answer_code answer))
-    ∙ rw (again-same block.status block.number (latest_said block_heard events place) ∙ again) refl)
+    ∙ rw (again-same block.status block.number (latest_counted block_heard events place) ∙ again) refl)
 
 next-block_new : (events : List CountedEvent) (place : ℕ) (time : Option ℕ) (octets : List ℕ) (answer : Answer) (block : Block)
     → slice_get events place ≡ Some (Timed time octets)
@@ -268,7 +268,7 @@ next-block_new : (events : List CountedEvent) (place : ℕ) (time : Option ℕ) 
     → poll_waiting (Heard answer) ≡ Some false
     → reset_heard (Heard answer) ≡ None
     → ((counts : LogCounts) → counted_answer_of counts answer ≡ counted_block counts block.number block.entries block.status)
-    → is_sent_again (latest_said block_heard events place) block ≡ false
+    → is_sent_again (latest_counted block_heard events place) block ≡ false
     → counts_at events (suc place) ≡ counts_with (counts_at events place) time octets
 next-block_new events place time octets answer block here isnt is heard ends no-reset does again =
     counts-same (counts_at events (suc place)) (counted_entries (record (after (counts_at events place) (answer_code answer)) { waits = 0; block = block.number; has_block = 1 }) block.entries block.status)
@@ -285,7 +285,7 @@ next-block_new events place time octets answer block here isnt is heard ends no-
     (rw (here, isnt, is) refl)
     (rw (here, isnt, is) refl)
     (rw (here, isnt, is) refl)
-    (rw (here, isnt, is) (awaited-next place (answer_code answer) (latest_above (said_at code_sent events) place) (latest_above (λ above. said_at (command_waiting (latest_said code_sent events above)) events above) place) (waiting-found events place)))
+    (rw (here, isnt, is) (awaited-next place (answer_code answer) (latest_above (said_at code_sent events) place) (latest_above (λ above. said_at (command_waiting (latest_counted code_sent events above)) events above) place) (waiting-found events place)))
     (rw (here, isnt, is) refl)
     (rw (here, isnt, is) refl)
     (rw (here, isnt, is, ends) refl)
@@ -296,13 +296,13 @@ next-block_new events place time octets answer block here isnt is heard ends no-
     (rw (here, isnt, is, no-reset) refl)
     (refl)
     ∙ sym (after-answer (counts_at events place) time octets answer isnt is ∙ does (after (counts_at events place) (answer_code answer))
-    ∙ rw (again-same block.status block.number (latest_said block_heard events place) ∙ again) refl)
+    ∙ rw (again-same block.status block.number (latest_counted block_heard events place) ∙ again) refl)
 
 next-block : (events : List CountedEvent) (place : ℕ) (time : Option ℕ) (octets : List ℕ) (answer : Answer) (block : Block)
     → slice_get events place ≡ Some (Timed time octets) → command_in octets ≡ None → answer_in octets ≡ Some answer
     → block_heard (Heard answer) ≡ Some block → poll_waiting (Heard answer) ≡ Some false → reset_heard (Heard answer) ≡ None
     → ((counts : LogCounts) → counted_answer_of counts answer ≡ counted_block counts block.number block.entries block.status)
-    → (again : Bool) → is_sent_again (latest_said block_heard events place) block ≡ again
+    → (again : Bool) → is_sent_again (latest_counted block_heard events place) block ≡ again
     → counts_at events (suc place) ≡ counts_with (counts_at events place) time octets
 next-block events place time octets answer block here isnt is heard ends no-reset does true again =
     next-block_again events place time octets answer block here isnt is heard ends no-reset does again
@@ -333,7 +333,7 @@ next-answer events place time octets answer here isnt is no-wait no-reset no-blo
     (rw (here, isnt, is) refl)
     (rw (here, isnt, is) refl)
     (rw (here, isnt, is) refl)
-    (rw (here, isnt, is) (awaited-next place (answer_code answer) (latest_above (said_at code_sent events) place) (latest_above (λ above. said_at (command_waiting (latest_said code_sent events above)) events above) place) (waiting-found events place)))
+    (rw (here, isnt, is) (awaited-next place (answer_code answer) (latest_above (said_at code_sent events) place) (latest_above (λ above. said_at (command_waiting (latest_counted code_sent events above)) events above) place) (waiting-found events place)))
     (rw (here, isnt, is) refl)
     (rw (here, isnt, is) refl)
     (rw (here, isnt, is, no-wait) refl)
@@ -395,7 +395,7 @@ next-heard events place time octets (answers.Status flags receive transmit stamp
 next-heard events place time octets (answers.Block number entries status stamp) here isnt is =
     let block : Block = record { number = number; entries = entries.items; status = status; stamp = stamp } in
     next-block events place time octets (answers.Block number entries status stamp) block here isnt is refl refl refl (λ counts. refl)
-    (is_sent_again (latest_said block_heard events place) block) refl
+    (is_sent_again (latest_counted block_heard events place) block) refl
 next-heard events place time octets (answers.LoadCounter one) here isnt is = next-answer events place time octets (answers.LoadCounter one) here isnt is refl refl refl (λ counts. refl)
 next-heard events place time octets (answers.ConfigureInputs one) here isnt is = next-answer events place time octets (answers.ConfigureInputs one) here isnt is refl refl refl (λ counts. refl)
 next-heard events place time octets (answers.RawInputs one two) here isnt is = next-answer events place time octets (answers.RawInputs one two) here isnt is refl refl refl (λ counts. refl)

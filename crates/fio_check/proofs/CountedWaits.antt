@@ -1,7 +1,7 @@
 -- The command that waits for its answer, as the counts of a log keep it.
 use Rattle.fio_check.proofs.Names.{◌≡◌, ◌+◌, ◌%◌, ◌==◌, ◌&&◌, ℕ, zero, suc, Bool, true, false, List, Option, Some, None, refl, not, slice_get, if◌then◌else◌, is_some, option_or, option_map, unwrap_or, latest_above, is_some_and, option_and_then, Placed}
 use Rattle.fio_message.specs.Bits.{bit_of}
-use Rattle.fio_check.specs.CountedLogs.{CountedEvent, CountedSaid, Heard, Sent, Unknown, Unread, code_sent, command_waiting, command_waits, latest_said, said_at, said_in}
+use Rattle.fio_check.specs.CountedLogs.{CountedEvent, CountedSaid, Heard, Sent, Unknown, Unread, code_sent, command_waiting, command_waits, latest_counted, said_at, said_in}
 
 -- ---- the command that waits
 
@@ -27,7 +27,7 @@ pub waiting-found : (events : List CountedEvent) (place : ℕ) → command_waits
     → is_some (latest_above (said_at code_sent events) place) ≡ true
 waiting-found events zero waited = absurd (cc)
 waiting-found events (suc place) waited = waiting-at place (slice_get events place) (latest_above (said_at code_sent events) place)
-    (latest_above (λ above. said_at (command_waiting (latest_said code_sent events above)) events above) place) (waiting-found events place) waited
+    (latest_above (λ above. said_at (command_waiting (latest_counted code_sent events above)) events above) place) (waiting-found events place) waited
 
 -- its answer ends that
 pub awaited-next : (place code : ℕ) (latest : Option (Placed ℕ)) (waits : Option (Placed Bool))

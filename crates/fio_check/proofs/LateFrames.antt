@@ -3,7 +3,7 @@ use Rattle.fio_check.proofs.Names.{◌≡◌, ◌∙◌, ◌+◌, ◌%◌, ◌==
 use Rattle.fio_check.proofs.EventByEvent.{fold_is}
 use Rattle.fio_check.specs.Facts.{awaited_below}
 use Rattle.fio_check.specs.LateAnswers.{awaits, late_above, late_below_answer, late_with, lateness_of, lateness_of_block, lateness_of_polled, unawaited_block}
-use Rattle.fio_check.specs.LateFrames.{KeepsLate, answering_poll, answers_command, found_at, late_at, latest_awaited, polled_above, settling, settling_answer, still_awaited, unsettled_at, waiting_below}
+use Rattle.fio_check.specs.LateFrames.{KeepsLate, answering_poll, answers_command, frame_says_at, late_at, latest_awaited, polled_above, settling, settling_answer, still_awaited, unsettled_at, waiting_below}
 use Rattle.fio_check.specs.declared.late_answers.LateAnswers.{LateAnswers}
 use Rattle.fio_check.specs.declared.late_answers.Lateness.{Lateness}
 use Rattle.fio_check.specs.declared.late_answers.Lateness.TheVariants.{InTime, Late, LateButTaken}
@@ -60,8 +60,8 @@ latest-below place (Some Unreadable) polled waits latest above = above
 is-latest : (frames : List Observation) (place : ℕ) → (still_awaited frames place ≡ None) ⊎ (still_awaited frames place ≡ latest_awaited frames place)
 is-latest frames zero = inl refl
 is-latest frames (suc place) = latest-below place (slice_get frames place) (polled_above frames place)
-    (latest_above (λ above. found_at (waiting_below (latest_awaited frames above) (polled_above frames above)) frames above) place)
-    (latest_above (found_at awaited_below frames) place) (is-latest frames place)
+    (latest_above (λ above. frame_says_at (waiting_below (latest_awaited frames above) (polled_above frames above)) frames above) place)
+    (latest_above (frame_says_at awaited_below frames) place) (is-latest frames place)
 
 -- ---- an answer
 
@@ -148,7 +148,7 @@ late-same late other settled awaited polled first answered =
 
 -- what settles above a place, the latest
 abbrev settled_above : List Observation → ℕ → Option (Placed Bool)
-settled_above frames place = latest_above (λ above. found_at (settling (unsettled_at frames above)) frames above) place
+settled_above frames place = latest_above (λ above. frame_says_at (settling (unsettled_at frames above)) frames above) place
 
 next-frame : (frames : List Observation) (place : ℕ) (found : Observation) → slice_get frames place ≡ Some found
     → late_at frames (suc place) ≡ late_with (late_at frames place) found
@@ -166,10 +166,10 @@ next-frame frames place (Block number status entries absent) here =
     late-same (late_at frames (suc place)) (record answered { settled = settled_by lateness late.settled late.first; awaited = awaited_by lateness late.awaited })
     (rw here (settled-is place (lateness_of_block late number) late.first (settled_above frames place)))
     (rw here (ended place (answers_command (latest_awaited frames place) (polled_above frames place) number)
-    (latest_above (λ above. found_at (waiting_below (latest_awaited frames above) (polled_above frames above)) frames above) place)
+    (latest_above (λ above. frame_says_at (waiting_below (latest_awaited frames above) (polled_above frames above)) frames above) place)
     ∙ block-awaited (late_at frames place) number (latest_awaited frames place) (polled_above frames place) (is-latest frames place)))
     (rw here refl) (rw here refl)
-    (rw here (block-answered place own (latest_above (λ above. found_at (answering_poll (polled_above frames above)) frames above) place)))
+    (rw here (block-answered place own (latest_above (λ above. frame_says_at (answering_poll (polled_above frames above)) frames above) place)))
     ∙ sym (answer-is answered lateness late.first)
 next-frame frames place (Answer code accepts) here =
     let late : LateAnswers = late_at frames place in
@@ -177,7 +177,7 @@ next-frame frames place (Answer code accepts) here =
     late-same (late_at frames (suc place)) (record late { settled = settled_by lateness late.settled false; awaited = awaited_by lateness late.awaited })
     (rw here (settled-is place (lateness_of late (Answer code accepts)) false (settled_above frames place)))
     (rw here (ended place (is_some_and (latest_awaited frames place) (λ other. other == code))
-    (latest_above (λ above. found_at (waiting_below (latest_awaited frames above) (polled_above frames above)) frames above) place)
+    (latest_above (λ above. frame_says_at (waiting_below (latest_awaited frames above) (polled_above frames above)) frames above) place)
     ∙ answer-awaited code (still_awaited frames place) (latest_awaited frames place) (is-latest frames place)))
     (rw here refl) (rw here refl) (rw here refl)
     ∙ sym (answer-is late lateness false)

@@ -46,9 +46,9 @@ said_in (Timed time octets) = said_by time (command_in octets) (answer_in octets
 said_in Missed = Unknown
 
 -- it is a frame
-abbrev pub is_frame : CountedSaid → Bool
-is_frame Unknown = false
-is_frame said = true
+abbrev pub counts_as_frame : CountedSaid → Bool
+counts_as_frame Unknown = false
+counts_as_frame said = true
 
 -- the type of a message
 abbrev pub code_of : CountedSaid → Option ℕ
@@ -107,31 +107,31 @@ abbrev pub said_at : {A : Type 0} → (CountedSaid → Option A) → List Counte
 said_at says events place = option_and_then (λ event. says (said_in event)) (slice_get events place)
 
 -- what the latest event above a place says that says such
-abbrev pub latest_said : {A : Type 0} → (CountedSaid → Option A) → List CountedEvent → ℕ → Option A
-latest_said says events place = option_map (λ found. found.value) (latest_above (said_at says events) place)
+abbrev pub latest_counted : {A : Type 0} → (CountedSaid → Option A) → List CountedEvent → ℕ → Option A
+latest_counted says events place = option_map (λ found. found.value) (latest_above (said_at says events) place)
 
 -- the latest poll above a place waits for its answer
 abbrev pub poll_waits : List CountedEvent → ℕ → Bool
-poll_waits events place = unwrap_or (latest_said poll_waiting events place) false
+poll_waits events place = unwrap_or (latest_counted poll_waiting events place) false
 
 -- the latest command above a place waits for its answer
 abbrev pub command_waits : List CountedEvent → ℕ → Bool
 command_waits events place = unwrap_or (option_map (λ found. found.value)
-    (latest_above (λ above. said_at (command_waiting (latest_said code_sent events above)) events above) place)) false
+    (latest_above (λ above. said_at (command_waiting (latest_counted code_sent events above)) events above) place)) false
 
 -- a poll has the number of the poll above
 abbrev pub is_repeat : List CountedEvent → ℕ → Bool
 is_repeat events place = is_some_and (said_at poll_sent events place)
-    (λ number. is_some_and (latest_said poll_sent events place) (λ polled. polled == number))
+    (λ number. is_some_and (latest_counted poll_sent events place) (λ polled. polled == number))
 
 -- a command is sent while a poll waits for its answer
 abbrev pub leaves_unanswered : List CountedEvent → ℕ → Bool
 leaves_unanswered events place = is_some (said_at code_sent events place) && poll_waits events place
 
 -- a status answer says that the module was reset, and the status answer above does not say so
-abbrev pub is_restart : List CountedEvent → ℕ → Bool
-is_restart events place = is_some_and (said_at reset_heard events place)
-    (λ reset. reset && is_some_and (latest_said reset_heard events place) not)
+abbrev pub counts_as_restart : List CountedEvent → ℕ → Bool
+counts_as_restart events place = is_some_and (said_at reset_heard events place)
+    (λ reset. reset && is_some_and (latest_counted reset_heard events place) not)
 
 -- a block says that it is sent again, and has the number of the block above
 abbrev pub is_sent_again : Option Block → Block → Bool
@@ -140,7 +140,7 @@ is_sent_again above block = says_again block.status && is_some_and above (λ lat
 -- the block at a place, if it is not sent again
 abbrev pub new_block : List CountedEvent → ℕ → Option Block
 new_block events place = option_and_then
-    (λ block. if is_sent_again (latest_said block_heard events place) block then None else Some block)
+    (λ block. if is_sent_again (latest_counted block_heard events place) block then None else Some block)
     (said_at block_heard events place)
 
 -- ---- the counts
@@ -156,30 +156,30 @@ table size at = map (λ number. counted (at number)) (range_with_len 0 size)
 -- the counts of what is above a place
 abbrev pub counts_at : List CountedEvent → ℕ → LogCounts
 counts_at events place = record {
-  frames = counted (how_many_above (λ above. is_some_and (slice_get events above) (λ event. is_frame (said_in event))) place);
+  frames = counted (how_many_above (λ above. is_some_and (slice_get events above) (λ event. counts_as_frame (said_in event))) place);
   polls = counted (how_many_above (λ above. is_some (said_at poll_sent events above)) place);
   repeats = counted (how_many_above (is_repeat events) place);
   unanswered = counted (how_many_above (leaves_unanswered events) place);
   marks = counted (how_many_above (λ above. is_some_and (new_block events above) (λ block. says_lost block.status)) place);
   entries = counted (sum_above (λ above. option_map_or (λ block. length block.entries) (new_block events above) 0) place);
-  restarts = counted (how_many_above (is_restart events) place);
+  restarts = counted (how_many_above (counts_as_restart events) place);
   types = table TYPES (λ code. how_many_above (λ above. is_some_and (said_at code_of events above) (λ found. found == code)) place);
   inputs = table INPUT_NUMBERS (λ input. sum_above (λ above.
       option_map_or (λ block. count_by (λ entry. entry.input == input) block.entries) (new_block events above) 0) place);
   fills = table TYPES (λ fill. how_many_above (λ above.
       is_some_and (new_block events above) (λ block. length block.entries % 256 == fill)) place);
-  sent_at = unwrap_or (option_and_then (λ time. time) (latest_said time_sent events place)) 0;
-  has_sent_at = bit_of (is_some (option_and_then (λ time. time) (latest_said time_sent events place)));
-  command = unwrap_or (latest_said code_sent events place) 0;
+  sent_at = unwrap_or (option_and_then (λ time. time) (latest_counted time_sent events place)) 0;
+  has_sent_at = bit_of (is_some (option_and_then (λ time. time) (latest_counted time_sent events place)));
+  command = unwrap_or (latest_counted code_sent events place) 0;
   has_command = bit_of (command_waits events place);
-  polled = unwrap_or (latest_said poll_sent events place) 0;
-  has_polled = bit_of (is_some (latest_said poll_sent events place));
+  polled = unwrap_or (latest_counted poll_sent events place) 0;
+  has_polled = bit_of (is_some (latest_counted poll_sent events place));
   waits = bit_of (poll_waits events place);
-  block = option_map_or (λ block. block.number) (latest_said block_heard events place) 0;
-  has_block = bit_of (is_some (latest_said block_heard events place));
-  reset = bit_of (unwrap_or (latest_said reset_heard events place) false);
+  block = option_map_or (λ block. block.number) (latest_counted block_heard events place) 0;
+  has_block = bit_of (is_some (latest_counted block_heard events place));
+  reset = bit_of (unwrap_or (latest_counted reset_heard events place) false);
   first_reset = bit_of (unwrap_or (earliest_above (said_at reset_heard events) place) false);
-  has_reset = bit_of (is_some (latest_said reset_heard events place));
+  has_reset = bit_of (is_some (latest_counted reset_heard events place));
   reserved = replicate 5 0;
 }
 

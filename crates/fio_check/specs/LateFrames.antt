@@ -13,16 +13,16 @@ use Rattle.fio_message.specs.declared.types.TheConstants.{BLOCK_ANSWER}
 -- ---- commands above
 
 -- what the frame at a place says, if it says such
-abbrev pub found_at : {A : Type 0} → (Observation → Option A) → List Observation → ℕ → Option A
-found_at says frames place = option_and_then says (slice_get frames place)
+abbrev pub frame_says_at : {A : Type 0} → (Observation → Option A) → List Observation → ℕ → Option A
+frame_says_at says frames place = option_and_then says (slice_get frames place)
 
 -- the type of the answer to the latest command above a place
 abbrev pub latest_awaited : List Observation → ℕ → Option ℕ
-latest_awaited frames place = option_map (λ found. found.value) (latest_above (found_at awaited_below frames) place)
+latest_awaited frames place = option_map (λ found. found.value) (latest_above (frame_says_at awaited_below frames) place)
 
 -- the latest poll above a place
 abbrev pub latest_polled : List Observation → ℕ → Option (Placed ℕ)
-latest_polled frames place = latest_above (found_at number_polled frames) place
+latest_polled frames place = latest_above (frame_says_at number_polled frames) place
 
 -- the number of the latest poll above a place
 abbrev pub polled_above : List Observation → ℕ → Option ℕ
@@ -53,7 +53,7 @@ waiting_below awaited polled observation = None
 -- the type of the answer for which the latest command above a place still waits
 abbrev pub still_awaited : List Observation → ℕ → Option ℕ
 still_awaited frames place = option_and_then (λ found. found.value) (latest_above (λ above.
-    found_at (waiting_below (latest_awaited frames above) (polled_above frames above)) frames above) place)
+    frame_says_at (waiting_below (latest_awaited frames above) (polled_above frames above)) frames above) place)
 
 -- for a block with the number of the latest poll above, true; for a poll, false
 abbrev pub answering_poll : Option ℕ → Observation → Option Bool
@@ -65,7 +65,7 @@ answering_poll polled observation = None
 -- a block with the number of the latest poll is below that poll
 abbrev pub is_answered : List Observation → ℕ → Bool
 is_answered frames place = is_some_and
-    (latest_above (λ above. found_at (answering_poll (polled_above frames above)) frames above) place) (λ found. found.value)
+    (latest_above (λ above. frame_says_at (answering_poll (polled_above frames above)) frames above) place) (λ found. found.value)
 
 -- ---- what is settled
 
@@ -97,7 +97,7 @@ settling above observation = None
 -- no answer to a command above a place can still come
 abbrev pub is_settled : List Observation → ℕ → Bool
 is_settled frames place = is_some_and
-    (latest_above (λ above. found_at (settling (unsettled_at frames above)) frames above) place) (λ found. found.value)
+    (latest_above (λ above. frame_says_at (settling (unsettled_at frames above)) frames above) place) (λ found. found.value)
 
 -- what is above a place
 abbrev pub late_at : List Observation → ℕ → LateAnswers

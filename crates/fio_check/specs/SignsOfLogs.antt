@@ -69,23 +69,23 @@ repeats_at frames place = record {
 -- ---- block answers
 
 -- the number and the stamp of the frame at a place, if it is a block answer
-abbrev pub block_at : List SignFrame → ℕ → Option BlockSeen
-block_at frames place = option_and_then (λ frame. block_seen frame.from_cpu frame.octets) (slice_get frames place)
+abbrev pub block_seen_at : List SignFrame → ℕ → Option BlockSeen
+block_seen_at frames place = option_and_then (λ frame. block_seen frame.from_cpu frame.octets) (slice_get frames place)
 
 -- the latest block answer above a place
 abbrev pub latest_block_seen : List SignFrame → ℕ → Option BlockSeen
-latest_block_seen frames place = option_map (λ found. found.value) (latest_above (block_at frames) place)
+latest_block_seen frames place = option_map (λ found. found.value) (latest_above (block_seen_at frames) place)
 
 -- a block answer is backward: it has the number before that of the block answer above, and no later stamp
 abbrev pub is_backward_at : List SignFrame → ℕ → Bool
-is_backward_at frames place = is_some_and (block_at frames place)
+is_backward_at frames place = is_some_and (block_seen_at frames place)
     (λ block. is_some_and (latest_block_seen frames place) (is_backward block))
 
 -- the order of the block answers above a place
 abbrev pub order_at : List SignFrame → ℕ → BlockOrder
 order_at frames place = record {
   above = latest_block_seen frames place;
-  blocks = at_most (how_many_above (λ above. is_some (block_at frames above)) place);
+  blocks = at_most (how_many_above (λ above. is_some (block_seen_at frames above)) place);
   backward = at_most (how_many_above (is_backward_at frames) place);
 }
 

@@ -28,7 +28,7 @@ use Rattle.fio_rows.specs.declared.saying.Open.TheVariants as opens
 use Rattle.fio_log.specs.Blanks.{Texts}
 use Rattle.fio_log.specs.Following.{TellsLine}
 use Rattle.fio_log.specs.Heard.{Above, HasNoOther, HasRowRoom, IsHeardOf, Known, Tells, TellsEcho, TellsMessage, TellsSaid, is_lost, is_odd_by, is_of_echoes, is_of_message, is_of_others, has_nul, is_spoilt, is_whole_text, says_octets}
-use Rattle.fio_log.specs.LineLogs.{AreLines, AreOfOneLine, AreToldInTurn, AreToldRight, Gone, IsLine, IsMessageLine, IsToldAs, LineIs, Message, Other, ToldLine}
+use Rattle.fio_log.specs.LineLogs.{AreSuchLines, AreOfOneLine, AreToldInTurn, AreToldRight, Gone, IsSuchLine, IsMessageLine, IsToldAs, LineIs, Message, Other, ToldLine}
 use Rattle.fio_log.specs.Lines.{Text}
 use Rattle.fio_log.specs.Spoilt.{are_odd_by, width_of}
 use Rattle.fio_log.specs.declared.by_forms.LineHeard.{LineHeard}
@@ -290,7 +290,7 @@ message_told known text above heard after kind reason frames message are line cl
 -- ---- A log
 
 line_told : (is : LineIs) (forms : List LineForm) (text : Text) (above : Above) (kind : Kind) (reason : Reason) (frames : List (List ℕ)) (below : Above) (ends : Bool)
-    → AreOfOneLine forms → is_message_open above.state.pending ≡ false → IsLine forms text is → ends ≡ false
+    → AreOfOneLine forms → is_message_open above.state.pending ≡ false → IsSuchLine forms text is → ends ≡ false
     → TellsLine ends forms text above kind reason frames below → IsToldAs is kind reason frames
 line_told (Message message) forms text above kind reason frames below ends are closed line never tells =
     message_told _ text above.state tells.heard tells.after kind reason frames message are line closed refl tells.is (told_here ends forms text above kind reason frames below never tells)
@@ -301,7 +301,7 @@ line_told Other forms text above kind reason frames below ends are closed line n
 
 -- each line is told as what it is
 pub told_right : (texts : Texts) (told : ℕ) (above : Above) (lines : List ToldLine) → is_message_open above.state.pending ≡ false
-    → AreLines texts told lines → AreToldInTurn texts told above lines → AreToldRight lines
+    → AreSuchLines texts told lines → AreToldInTurn texts told above lines → AreToldRight lines
 told_right texts told above [] closed are tell = tt
 told_right texts told above (line ∷ lines) closed are (below, tells, more) =
     let shut = below_closed line.forms (texts (told + 1)) above line.kind line.reason line.frames below _ are.0 closed tells in (

@@ -21,15 +21,15 @@ abbrev pub AreOfOneLine : List LineForm → Type 0
 AreOfOneLine forms = AllByRecursion (λ form. (form.rows ≡ One) × (form.is_echo ≡ false)) forms
 
 -- what a line has before the front of the first form that has it
-abbrev pub text_before : List LineForm → List ℕ → List ℕ
-text_before forms line = take (length line - length (first_places forms line).front) line
+abbrev pub text_before_front : List LineForm → List ℕ → List ℕ
+text_before_front forms line = take (length line - length (first_places forms line).front) line
 
 -- A line is a message by itself: the first form that has it reads this message in it, the line ends with the octets of that form, no
 -- form has a line in what is before its front, and there is room for the octets of each form.
 pub record IsMessageLine (forms : List LineForm) (text : Text) (message : List ℕ) : Type 0 where
   pub whole : is_whole_text text ≡ true
   pub read : read_line forms text.octets ≡ Frame message
-  pub before : HasNoLine forms (text_before forms text.octets)
+  pub before : HasNoLine forms (text_before_front forms text.octets)
   pub end : (first_places forms text.octets).end ≡ []
   pub room : AllByRecursion (λ form. length (octets_by form text.octets) < OCTETS) forms
 
@@ -43,10 +43,10 @@ pub data LineIs : Type 0 where
   Other : LineIs
 
 -- a line is this by the forms
-abbrev pub IsLine : List LineForm → Text → LineIs → Type 0
-IsLine forms text (Message message) = IsMessageLine forms text message
-IsLine forms text Gone = is_whole_text text ≡ false
-IsLine forms text Other = AllByRecursion (λ form. has form text.octets ≡ false) forms
+abbrev pub IsSuchLine : List LineForm → Text → LineIs → Type 0
+IsSuchLine forms text (Message message) = IsMessageLine forms text message
+IsSuchLine forms text Gone = is_whole_text text ≡ false
+IsSuchLine forms text Other = AllByRecursion (λ form. has form text.octets ≡ false) forms
 
 -- what is told of such a line: of a message that message alone, and nothing beside it
 abbrev pub IsToldAs : LineIs → Kind → Reason → List (List ℕ) → Type 0
@@ -63,9 +63,9 @@ pub record ToldLine : Type 0 where
   pub frames : List (List ℕ)
 
 -- lines of a log, the next ones after a number of lines, are these by forms of one line
-abbrev pub AreLines : Texts → ℕ → List ToldLine → Type 0
-AreLines texts above [] = Unit {0}
-AreLines texts above (line ∷ lines) = AreOfOneLine line.forms × IsLine line.forms (texts (above + 1)) line.is × AreLines texts (above + 1) lines
+abbrev pub AreSuchLines : Texts → ℕ → List ToldLine → Type 0
+AreSuchLines texts above [] = Unit {0}
+AreSuchLines texts above (line ∷ lines) = AreOfOneLine line.forms × IsSuchLine line.forms (texts (above + 1)) line.is × AreSuchLines texts (above + 1) lines
 
 -- They are told one after another, below what is known above them; none is the last one of a log that has ended.
 abbrev pub AreToldInTurn : Texts → ℕ → Above → List ToldLine → Type 0

@@ -3,7 +3,7 @@ ghost use Rattle.std.specs.Prelude.{◌≡◌, ℕ, List, false};
 ghost use Rattle.fio_rows.specs.Lines.{is_message_open};
 ghost use Rattle.fio_log.specs.Blanks.{Texts};
 ghost use Rattle.fio_log.specs.Heard.{Above};
-ghost use Rattle.fio_log.specs.LineLogs.{AreLines, AreToldInTurn, AreToldRight, ToldLine};
+ghost use Rattle.fio_log.specs.LineLogs.{AreSuchLines, AreToldInTurn, AreToldRight, ToldLine};
 ghost use Rattle.fio_log.specs.Lines.{IsCutAnywhere, Lines};
 
 /// The lines of a log do not depend on where its octets are cut into pieces.
@@ -17,5 +17,5 @@ pub fn lines_are_cut_anywhere()
 #[tactic(auto, using(crate::proofs::LineLogLemmas::told_right))]
 pub fn lines_by_themselves_are_told()
     ensures { (texts : Texts) (told : ℕ) (above : Above) (lines : List ToldLine) → is_message_open above.state.pending ≡ false
-        → AreLines texts told lines → AreToldInTurn texts told above lines → AreToldRight lines }
+        → AreSuchLines texts told lines → AreToldInTurn texts told above lines → AreToldRight lines }
 {}
