@@ -8,7 +8,7 @@
  * access outside the arguments of a call, which the proof excludes, ends in FIO2070_TRAP(). FIO2070_UNCHECKED leaves
  * the tests of accesses out. FIO2070_FAST makes the code longer and faster.
  *
- * Sources: 2c6c45e0d20351891bcdbe2af8784e24eb1289904dba9d87d418758d903b96dc (SHA-256; packaging/release-files --sources)
+ * Sources: 37da1a670311014f2e4fa1242114f5ee34455817608ccc3c681ac25edc972f18 (SHA-256; packaging/release-files --sources)
  * Kit: rattle-kit-13f logic dac8208d650f15bf
  * Proof: logic=proved functions=231 target=wasm64-unknown-unknown sum=dac8208d650f15bf native=nat,char,string
  * Made by `make release-files`: do not edit.

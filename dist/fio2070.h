@@ -3,7 +3,7 @@
  *
  * The field I/O transition link of the Model 2070: the header of fio2070.c.
  *
- * Sources: 2c6c45e0d20351891bcdbe2af8784e24eb1289904dba9d87d418758d903b96dc (SHA-256; packaging/release-files --sources)
+ * Sources: 37da1a670311014f2e4fa1242114f5ee34455817608ccc3c681ac25edc972f18 (SHA-256; packaging/release-files --sources)
  * Kit: rattle-kit-13f logic dac8208d650f15bf
  * Proof: logic=proved functions=231 target=wasm64-unknown-unknown sum=dac8208d650f15bf native=nat,char,string
  * Made by `make release-files`: do not edit.
@@ -1302,8 +1302,9 @@ struct fio2070_log_judge {
 };
 
 /** Starts above the first line of a log of a module with these limits. `place` is one of enum fio2070_log_taken, where a greater
- * number is FIO2070_LOG_TAKEN_ON_BUS; `start` is one of enum fio2070_log_begins, or one of the first three
- * plus FIO2070_LOG_NEVER_LOADS; any other number is FIO2070_LOG_BEGINS_ANYWHERE. Returns 0; where a limit is out of its range 1, and nothing changes.
+ * number is FIO2070_LOG_TAKEN_ON_BUS; `start` is one of enum fio2070_log_begins, or one of the first three plus
+ * FIO2070_LOG_NEVER_LOADS; any other number is FIO2070_LOG_BEGINS_ANYWHERE. Returns 0; where a limit is out of its range 1,
+ * and nothing changes.
  *
  * FIO2070_LOG_TAKEN_AUTO finds the place of each frame: a frame whose line says no direction was logged on the bus; another one
  * at the CPU's end, if down to it at least four of five directions agree with the types of their messages; at the module, if at
