@@ -10,7 +10,7 @@ use Rattle.fio_check.specs.declared.log_judge.LogOutcome.TheVariants.{Link}
 use Rattle.fio_check.specs.declared.log_judge.LogStart.{LogStart}
 use Rattle.fio_check.specs.declared.log_judge.LogStart.TheVariants as starts
 use Rattle.fio_check.specs.declared.outcome.LogPlace.TheVariants.{Bus}
-use Rattle.fio_ends.specs.EventLogs.{AccusesNeitherInLog, AreLostWhereSaid, BeginsPart, FewAreUnderWayInParts, LogJudgeAccusesNone, MayHaveHeldFrame, Remarked, SaysMessage, Seen, SeenAbove, SeenStep, SpeaksOfLoss, Unseen, below_frames, events_seen, found_saying, is_begun, log_seen, lost_if, nothing_seen}
+use Rattle.fio_ends.specs.EventLogs.{AccusesNeitherInLog, AreLostWhereSaid, BeginsPart, FewAreUnderWayInParts, LogJudgeAccusesNone, MayHaveHeldFrame, Remarked, SaysMessage, Seen, SeenAbove, SeenStep, SpeaksOfLoss, Unseen, below_frames, events_seen, found_saying, starts_begun, log_seen, lost_if, nothing_seen}
 use Rattle.fio_ends.specs.LinkLogs.{AreMarked, JudgeAccusesNone, below_command, judging_at_start, loads_at_start}
 use Rattle.fio_ends.proofs.JudgedLogs.{judge_accuses_none}
 use Rattle.fio_ends.proofs.SeenAbove.{Agrees, Stays, agrees_framed, agrees_lost, one_frame, possible_marks, possible_none, stays_framed, stays_lost, stays_warned}
@@ -196,12 +196,12 @@ all_linked : (outcomes : List FrameOutcome) → AllByRecursion AccusesNeither ou
 all_linked [] all = tt
 all_linked (outcome ∷ outcomes) all = (all.0, all_linked outcomes all.1)
 
-starts_as : (limits : RuleLimits) (start : LogStart) → link_starting limits start ≡ judging_at_start (is_begun start) limits
+starts_as : (limits : RuleLimits) (start : LogStart) → link_starting limits start ≡ judging_at_start (starts_begun start) limits
 starts_as limits starts.Begun = refl
 starts_as limits starts.Anywhere = refl
 starts_as limits starts.LateAnswers = refl
 
-agrees_at_start : (limits : RuleLimits) (start : LogStart) → Agrees (is_begun start) (nothing_seen (is_begun start)) nothing_around (link_starting limits start)
+agrees_at_start : (limits : RuleLimits) (start : LogStart) → Agrees (starts_begun start) (nothing_seen (starts_begun start)) nothing_around (link_starting limits start)
 agrees_at_start limits starts.Begun = record { framed = refl; warned = λ is. absurd (cc is); each = λ none. refl; begins = λ is. absurd (cc is) }
 agrees_at_start limits starts.Anywhere = record { framed = refl; warned = λ is. absurd (cc is); each = λ none. refl; begins = λ is. absurd (cc is) }
 agrees_at_start limits starts.LateAnswers = record { framed = refl; warned = λ is. absurd (cc is); each = λ none. refl; begins = λ is. absurd (cc is) }
@@ -211,9 +211,9 @@ unfolding LogJudgeAccusesNone JudgeAccusesNone
 log_judge_accuses_none place start settings limits first before steps machine last none log =
     let events = log_seen settings first machine steps in
     let judges = as_link (log_starting limits place start) events none refl in
-    let is = lines_marked settings first (is_begun start) steps place (nothing_seen (is_begun start)) nothing_around (link_starting limits start) machine
-    (loads_at_start (is_begun start)) judges.lines (agrees_at_start limits start) (inl refl) log.lost log.few judges.are in
-    let accuses = judge_accuses_none (is_begun start) settings limits first before is.steps machine last (record {
+    let is = lines_marked settings first (starts_begun start) steps place (nothing_seen (starts_begun start)) nothing_around (link_starting limits start) machine
+    (loads_at_start (starts_begun start)) judges.lines (agrees_at_start limits start) (inl refl) log.lost log.few judges.are in
+    let accuses = judge_accuses_none (starts_begun start) settings limits first before is.steps machine last (record {
       in_range = log.in_range;
       suit = log.suit;
       run = rw is.events_are log.run;
@@ -224,7 +224,7 @@ log_judge_accuses_none place start settings limits first before steps machine la
       near = rw is.events_are log.near;
     }) in
     let same : outcomes_in_log (log_starting limits place start) events
-    ≡ map Link (outcomes_of (judging_at_start (is_begun start) limits) (log_from settings first machine is.steps)) =
+    ≡ map Link (outcomes_of (judging_at_start (starts_begun start) limits) (log_from settings first machine is.steps)) =
     judges.outcomes ∙ ap (map Link) (ap (λ (j : Judging). outcomes_of j judges.lines) (starts_as limits start)
-    ∙ ap (outcomes_of (judging_at_start (is_begun start) limits)) is.are) in
+    ∙ ap (outcomes_of (judging_at_start (starts_begun start) limits)) is.are) in
     subst (AllByRecursion AccusesNeitherInLog) (sym same) (all_linked _ accuses)

@@ -118,9 +118,9 @@ FewAreUnderWayInParts begun settings first above machine (Remarked remark ∷ st
     FewAreUnderWayInParts begun settings first (below_remark begun above remark) machine steps
 
 -- whether a log begins with both ends
-abbrev pub is_begun : LogStart → Bool
-is_begun Begun = true
-is_begun other = false
+abbrev pub starts_begun : LogStart → Bool
+starts_begun Begun = true
+starts_begun other = false
 
 -- What the CPU's end logs of a prompt run, from the start of both ends or from any event on, though any frames may be missing where
 -- the place is lost, and other lines may stand anywhere. The judge's limits suit the module; few loads of the counter are under way
@@ -148,5 +148,5 @@ unfoldable pub LogJudgeAccusesNone : Type 0
 LogJudgeAccusesNone =
     (place : Option LogPlace) (starts : LogStart) (settings : Settings) (limits : RuleLimits) (first : ℕ) (before : List Event)
     (steps : List SeenStep) (machine last : Machine) →
-    late_starting starts ≡ None → IsSeenLog (is_begun starts) settings limits first before steps machine last →
+    late_starting starts ≡ None → IsSeenLog (starts_begun starts) settings limits first before steps machine last →
     AllByRecursion AccusesNeitherInLog (outcomes_in_log (log_starting limits place starts) (log_seen settings first machine steps))
