@@ -15,13 +15,13 @@ OF_CONTENT = ('drops an entry', 'doubles an entry')
 TRIES = 16
 
 
-def found_in(log, place='cpu', excepted=()):
+def found_in(log, place='cpu'):
     """What `check --late-answers` finds in a log, the names of rules and of restarts, and how many answers are late, as it is judged
     there."""
     from fiolog.batch import made_of
     from fiolog.event import frame_of
     from fiolog.rules import Rules
-    rules = Rules(place, late_answers=True, excepted=excepted)
+    rules = Rules(place, late_answers=True)
     frames = [frame_of(number, octets, said=direction) for number, (direction, octets) in enumerate(log, 1)]
     return [found.rule for batch in made_of(frames) for _, found in rules.take(batch)], rules.unjudged['late_answers']
 
@@ -41,16 +41,19 @@ def fault_of_right_runs(runs):
 
 
 def fault_of_taps(runs):
-    """At a tap right ends are accused by `advance`, and by no other rule."""
+    """At a tap no right end is accused; taken for logs of the CPU's end, most of these logs break `advance`, and no other rule."""
     from support.late_runs import run_at_tap
     accused = 0
     for seed in range(runs):
         log = run_at_tap(seed)
-        found, _ = found_in(log, 'bus')
-        accused += bool(found)
-        if set(found) - {'advance'} or found_in(log, 'bus', ('advance',))[0]:
+        found = found_in(log, 'bus')[0] or found_in(log, 'module')[0]
+        if found:
             return seed, found
-    return None if accused > runs // 2 else 'only %d runs are accused by advance' % accused
+        found, _ = found_in(log)
+        accused += bool(found)
+        if set(found) - {'advance'}:
+            return seed, found
+    return None if accused > runs // 2 else 'only %d runs break advance' % accused
 
 
 def fault_of_planted(fault, least):
@@ -75,7 +78,7 @@ def main():
     check = Check(runs=(40, 400))
     use_library(check, 'fiolog check --late-answers')
     check.fault('right runs', fault_of_right_runs, check.given.runs)
-    check.fault('right runs at a tap, without advance', fault_of_taps, check.given.runs)
+    check.fault('right runs at a tap', fault_of_taps, check.given.runs)
     for fault in FAULTS:
         check.fault('an end that %s' % fault, fault_of_planted, fault, TRIES // 2)
     for fault in OF_CONTENT:

@@ -170,7 +170,7 @@ def hints(option, read, counts, judge, findings):
     if judge.rules.is_above_polls and counts.polls and not option.start_at_poll:
         yield 'the log begins in the middle of traffic: try --start-at-poll'
     if findings.has_late_answers and not option.late_answers:
-        yield 'answers came late or twice: try --late-answers' + ' --except advance' * (option.at == 'bus')
+        yield 'answers came late or twice: try --late-answers'
     if counts.damaged and (counts.seconds or 0) >= A_DAY and not counts.types[TYPE_LOAD_COUNTER] and not option.no_loads:
         yield 'a day without a load of the counter (50): if the CPU never sends one, try --no-loads'
 

@@ -156,12 +156,12 @@ module _ (log : LogJudging) (at : LogPlace) (from_cpu : Bool) (octets : List ℕ
 
   lateness_unloaded : (lateness : Lateness) (late : LateAnswers)
       → IsUnloaded (log_by_lateness lateness log late at from_cpu octets)
-      × (is_by_load (outcome_by_lateness lateness late (outcome_in_time log.link at from_cpu octets)) ≡ false)
+      × (is_by_load (outcome_by_lateness lateness late at (outcome_in_time log.link at from_cpu octets)) ≡ false)
   lateness_unloaded InTime late =
       let outcome = outcome_in_time log.link at from_cpu octets in
       let below : LogJudging = record log { link = judging_in_time log.link at from_cpu octets } in (
-        settled_unloaded (late_settled late outcome) below (record late { settled = true }) (unsettled late) (record { never = unloaded.never; none = timely_none }),
-        kept_late_by (is_excused_late (late_settled late outcome) outcome) outcome timely_outcome,
+        settled_unloaded (late_settled late at outcome) below (record late { settled = true }) (unsettled late) (record { never = unloaded.never; none = timely_none }),
+        kept_late_by (is_excused_late at (late_settled late at outcome) outcome) outcome timely_outcome,
       )
   lateness_unloaded LateOne late = (record { never = unloaded.never; none = unloaded.none }, refl)
   lateness_unloaded LateButTaken late = (record { never = unloaded.never; none = link_none log.never_loads log.link unloaded.never unloaded.none }, refl)
@@ -226,7 +226,7 @@ settled_never false log one other = refl
 lateness_never : (lateness : Lateness) (log : LogJudging) (late : LateAnswers) (at : LogPlace) (from_cpu : Bool) (octets : List ℕ)
     → (log_by_lateness lateness log late at from_cpu octets).never_loads ≡ log.never_loads
 lateness_never InTime log late at from_cpu octets =
-    settled_never (late_settled late (outcome_in_time log.link at from_cpu octets)) (record log { link = judging_in_time log.link at from_cpu octets })
+    settled_never (late_settled late at (outcome_in_time log.link at from_cpu octets)) (record log { link = judging_in_time log.link at from_cpu octets })
     (record late { settled = true }) (unsettled late)
 lateness_never LateOne log late at from_cpu octets = refl
 lateness_never LateButTaken log late at from_cpu octets = refl

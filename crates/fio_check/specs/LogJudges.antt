@@ -5,7 +5,7 @@
 use Rattle.std.specs.Prelude.{ℕ, ◌+◌, nat_le, ◌*◌, ◌&&◌, ◌||◌, Bool, List, [], ◌∷◌, ◌++◌, true, false, not, nat_lt, Option, Some, None, option_map, if◌then◌else◌}
 use Rattle.fio_check.specs.Checkers.{checker_with, found_by, passes_over}
 use Rattle.fio_check.specs.LateAnswers.{late_above, late_with, lateness_of}
-use Rattle.fio_check.specs.LinkJudges.{Judging, checker_below_lines, checking_again, judging_anywhere, judging_begun, judging_lost, judging_with, loads_left, outcome_found, outcome_in, unjudged_by}
+use Rattle.fio_check.specs.LinkJudges.{Judging, checker_below_lines, checking_again, is_at_cpu, judging_anywhere, judging_begun, judging_lost, judging_with, loads_left, outcome_found, outcome_in, unjudged_by}
 use Rattle.fio_check.specs.LinkKept.{judging}
 use Rattle.fio_check.specs.MissingFrames.{do_explain, missing_below}
 use Rattle.fio_check.specs.Observations.{observation_in, says_load}
@@ -33,7 +33,7 @@ use Rattle.fio_check.specs.declared.outcome.LogPlace.TheVariants.{Bus, Cpu}
 use Rattle.fio_check.specs.declared.outcome.FrameOutcome.{FrameOutcome}
 use Rattle.fio_check.specs.declared.outcome.FrameOutcome.TheVariants.{Broken, BrokenContent, Excused, Restarted, NotJudged}
 use Rattle.fio_check.specs.declared.rules.Rule.{Rule}
-use Rattle.fio_check.specs.declared.rules.Rule.TheVariants.{Same, Refusal}
+use Rattle.fio_check.specs.declared.rules.Rule.TheVariants.{Advance, Same, Refusal}
 
 -- what a judge of a log keeps
 pub record LogJudging : Type 0 where
@@ -224,57 +224,60 @@ judging_in_time judging at from_cpu octets = if has_content from_cpu (observatio
     then judging_with judging at from_cpu octets
     else record judging { checker = checker_with judging.checker false (observation_in from_cpu octets) }
 
--- late answers may break these rules between right ends
-abbrev pub is_rule_of_late : Rule → Bool
-is_rule_of_late Same = true
-is_rule_of_late Refusal = true
-is_rule_of_late rule = false
+-- Late answers may break these rules between right ends. At a tap that is also the rule on the numbers of polls: the CPU's end may
+-- hear an answer later than the tap, or not at all.
+abbrev pub is_rule_of_late : LogPlace → Rule → Bool
+is_rule_of_late at Same = true
+is_rule_of_late at Refusal = true
+is_rule_of_late at Advance = not (is_at_cpu at)
+is_rule_of_late at rule = false
 
--- a frame breaks a rule that late answers may break
-abbrev pub is_of_late : FrameOutcome → Bool
-is_of_late (Broken breach) = is_rule_of_late breach.rule
-is_of_late outcome = false
+-- a frame breaks a rule that late answers may break in a log of this place
+abbrev pub is_of_late : LogPlace → FrameOutcome → Bool
+is_of_late at (Broken breach) = is_rule_of_late at breach.rule
+is_of_late at outcome = false
 
 -- a frame with this outcome of the judge of the link is excused: content is judged only if no answer to a command above can
 -- still come
-abbrev pub is_excused_late : Bool → FrameOutcome → Bool
-is_excused_late settled (BrokenContent breach) = not settled
-is_excused_late settled Restarted = not settled
-is_excused_late settled (Excused Load) = not settled
-is_excused_late settled outcome = is_of_late outcome
+abbrev pub is_excused_late : LogPlace → Bool → FrameOutcome → Bool
+is_excused_late at settled (BrokenContent breach) = not settled
+is_excused_late at settled Restarted = not settled
+is_excused_late at settled (Excused Load) = not settled
+is_excused_late at settled outcome = is_of_late at outcome
 
 -- no answer to a command above can still come after a frame with this outcome
-abbrev pub late_settled : LateAnswers → FrameOutcome → Bool
-late_settled late outcome = late.settled && not (is_of_late outcome)
+abbrev pub late_settled : LateAnswers → LogPlace → FrameOutcome → Bool
+late_settled late at outcome = late.settled && not (is_of_late at outcome)
 
 -- the outcome of a frame that is not a late answer, by what is kept of the answers
-abbrev pub outcome_kept_late : LateAnswers → FrameOutcome → LogOutcome
-outcome_kept_late late outcome = if is_excused_late (late_settled late outcome) outcome then LateAbove else Link outcome
+abbrev pub outcome_kept_late : LateAnswers → LogPlace → FrameOutcome → LogOutcome
+outcome_kept_late late at outcome =
+    if is_excused_late at (late_settled late at outcome) outcome then LateAbove else Link outcome
 
 -- the judge after a late answer, or where one can still come
 abbrev pub log_forgetting : LogJudging → LateAnswers → LogJudging
 log_forgetting log late = record log { link = without_content log.link; late = Some late }
 
 -- the judge after a frame that is not a late answer, by what is kept of the answers
-abbrev pub log_kept_late : LogJudging → LateAnswers → FrameOutcome → LogJudging
-log_kept_late log late outcome = if late_settled late outcome
+abbrev pub log_kept_late : LogJudging → LateAnswers → LogPlace → FrameOutcome → LogJudging
+log_kept_late log late at outcome = if late_settled late at outcome
     then record log { late = Some (record late { settled = true }) }
     else log_forgetting log (unsettled late)
 
 -- the outcome of a frame, by whether it is late
-abbrev pub outcome_by_lateness : Lateness → LateAnswers → FrameOutcome → LogOutcome
-outcome_by_lateness InTime late outcome = outcome_kept_late late outcome
-outcome_by_lateness lateness late outcome = Late
+abbrev pub outcome_by_lateness : Lateness → LateAnswers → LogPlace → FrameOutcome → LogOutcome
+outcome_by_lateness InTime late at outcome = outcome_kept_late late at outcome
+outcome_by_lateness lateness late at outcome = Late
 
 -- the outcome of a frame in a log from which late answers are left out
 abbrev pub outcome_late : LogJudging → LateAnswers → LogPlace → Bool → List ℕ → LogOutcome
 outcome_late log late at from_cpu octets = outcome_by_lateness (lateness_of late (observation_in from_cpu octets))
-    (late_with late (observation_in from_cpu octets)) (outcome_in_time log.link at from_cpu octets)
+    (late_with late (observation_in from_cpu octets)) at (outcome_in_time log.link at from_cpu octets)
 
 -- the judge after a frame, by whether it is late: if the CPU's end may take a late answer, the place is lost
 abbrev pub log_by_lateness : Lateness → LogJudging → LateAnswers → LogPlace → Bool → List ℕ → LogJudging
 log_by_lateness InTime log late at from_cpu octets =
-    log_kept_late (record log { link = judging_in_time log.link at from_cpu octets }) late
+    log_kept_late (record log { link = judging_in_time log.link at from_cpu octets }) late at
     (outcome_in_time log.link at from_cpu octets)
 log_by_lateness LateOne log late at from_cpu octets = log_forgetting log late
 log_by_lateness LateButTaken log late at from_cpu octets =

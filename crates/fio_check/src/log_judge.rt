@@ -261,7 +261,7 @@ impl LogJudge {
         match lateness {
             Lateness::InTime => {
                 let outcome = self.judge_in_time(at, from_cpu, octets, observation);
-                self.keep_late(below, outcome)
+                self.keep_late(below, at, outcome)
             }
             Lateness::Late => self.leave_out(below),
             Lateness::LateButTaken => {
@@ -304,17 +304,17 @@ impl LogJudge {
 
     /// Goes on after a frame with this outcome of the judge of the link, with what is kept of the answers, and returns the
     /// outcome of the frame.
-    fn keep_late(&mut self, below: LateAnswers, outcome: FrameOutcome) -> LogOutcome
-        ensures outcome { result ≡ outcome_kept_late below outcome }
-        ensures next { log_judging self.new ≡ log_kept_late (log_judging self.old) below outcome }
+    fn keep_late(&mut self, below: LateAnswers, at: LogPlace, outcome: FrameOutcome) -> LogOutcome
+        ensures outcome { result ≡ outcome_kept_late below at outcome }
+        ensures next { log_judging self.new ≡ log_kept_late (log_judging self.old) below at outcome }
     {
         let mut below = below;
-        below.settled = below.settled && !is_of_late(outcome);
+        below.settled = below.settled && !is_of_late(at, outcome);
         if !below.settled {
             self.link.forget_content();
         }
         self.late = Some(below);
-        if is_excused_late(below.settled, outcome) {
+        if is_excused_late(at, below.settled, outcome) {
             LogOutcome::LateAbove
         } else {
             LogOutcome::Link(outcome)
@@ -322,25 +322,29 @@ impl LogJudge {
     }
 }
 
-/// Returns whether a frame breaks a rule that late answers may break.
-fn is_of_late(outcome: FrameOutcome) -> bool
-    ensures { result ≡ is_of_late outcome }
+/// Returns whether a frame breaks a rule that late answers may break in a log of this place.
+fn is_of_late(at: LogPlace, outcome: FrameOutcome) -> bool
+    ensures { result ≡ is_of_late at outcome }
 {
     match outcome {
-        FrameOutcome::Broken(breach) => matches!(breach.rule, Rule::Same | Rule::Refusal),
+        FrameOutcome::Broken(breach) => match breach.rule {
+            Rule::Same | Rule::Refusal => true,
+            Rule::Advance => !matches!(at, LogPlace::Cpu),
+            _ => false,
+        },
         _ => false,
     }
 }
 
-/// Returns whether a frame with this outcome of the judge of the link is excused. `settled` says that no answer to a command
-/// above can still come.
-fn is_excused_late(settled: bool, outcome: FrameOutcome) -> bool
-    ensures { result ≡ is_excused_late settled outcome }
+/// Returns whether a frame with this outcome of the judge of the link is excused in a log of this place. `settled` says that no
+/// answer to a command above can still come.
+fn is_excused_late(at: LogPlace, settled: bool, outcome: FrameOutcome) -> bool
+    ensures { result ≡ is_excused_late at settled outcome }
 {
     match outcome {
         FrameOutcome::BrokenContent(_)
         | FrameOutcome::Restarted
         | FrameOutcome::Excused(Excuse::Load) => !settled,
-        _ => is_of_late(outcome),
+        _ => is_of_late(at, outcome),
     }
 }
