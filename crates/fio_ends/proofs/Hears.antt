@@ -13,7 +13,7 @@ use Rattle.fio_ends.proofs.Following.{IsAsked, IsReceived, IsBlockFor, Answers, 
 -- ---- tests
 
 -- directly above is the command that an answer of this type answers
-is_asked : (awaited : Option ℕ) (code : ℕ) → awaited ≡ Some code
+pub is_asked : (awaited : Option ℕ) (code : ℕ) → awaited ≡ Some code
     → not (option_map_or (λ a. a == code) awaited false) ≡ false
 is_asked awaited code is = grind arith
 
@@ -24,14 +24,14 @@ answer_keeps facts code accepted asked fair limits tried.Pair = is_asked facts.a
 answer_keeps facts code accepted asked fair limits tried.Refusal = fair
 answer_keeps facts code accepted asked fair limits rule = refl
 
-has_number : (polled : Option ℕ) (number n : ℕ) → polled ≡ Some number → n ≡ number
+pub has_number : (polled : Option ℕ) (number n : ℕ) → polled ≡ Some number → n ≡ number
     → option_map_or (λ p. not (n == p)) polled false ≡ false
 has_number polled number n is same = grind arith
 
 not_both : (advanced again : Bool) → (advanced ≡ true → again ≡ false) → (again && advanced) ≡ false
 not_both advanced again apart = grind arith
 
-within_limits : (fewer lost more : Bool) (entries per_block : ℕ) → (fewer ≡ true → lost ≡ true → more ≡ true)
+pub within_limits : (fewer lost more : Bool) (entries per_block : ℕ) → (fewer ≡ true → lost ≡ true → more ≡ true)
     → (more ≡ true → entries ≡ per_block)
     → ((fewer && (lost && not more)) || (more && not (entries == per_block))) ≡ false
 within_limits fewer lost more entries per_block implied full = grind arith
@@ -40,12 +40,12 @@ never : (b : Bool) → (b && false) ≡ false
 never true = refl
 never false = refl
 
-has_rest : (more : Option Bool) (entries : ℕ) → (more ≡ Some true → 1 ≤ entries)
+pub has_rest : (more : Option Bool) (entries : ℕ) → (more ≡ Some true → 1 ≤ entries)
     → ((entries == 0) && option_map_or (λ m. m) more false) ≡ false
 has_rest more entries rest = grind (arith, never)
 
 -- a module's entries name no absent input
-none_absent : (transitions : List Transition) → AllByRecursion HasInput transitions
+pub none_absent : (transitions : List Transition) → AllByRecursion HasInput transitions
     → list_any (λ entry. is_absent entry.input) (map entry_of transitions) ≡ false
 none_absent [] there = refl
 none_absent (transition ∷ transitions) there =

@@ -121,3 +121,9 @@ pub mod JudgeExamples
 mod MakersAnswers
 mod SeenAbove
 mod EventLogs
+pub mod LateJudges
+pub mod LateKnown
+pub mod LateCommands
+pub mod LateHeard
+pub mod LateBlocks
+pub mod LateRuns

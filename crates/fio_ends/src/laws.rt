@@ -6,6 +6,7 @@ ghost use Rattle.fio_ends.specs.Calls.{CallsAreRuns};
 ghost use Rattle.fio_ends.specs.ContentPremises.{HasNearTimes};
 ghost use Rattle.fio_ends.specs.ContentRuns.{AccusesNone, Always, ContentNeverAccuses};
 ghost use Rattle.fio_ends.specs.EventLogs.{LogJudgeAccusesNone};
+ghost use Rattle.fio_ends.specs.LateLogs.{LateAnswersBreakNoRule};
 ghost use Rattle.fio_ends.specs.LineRuns.{EachFrameMayCome, EachStruckFrameMayCome, HeadlineOverLines, LinesAreRuns, LinesBringRecords};
 ghost use Rattle.fio_ends.specs.Lines.{AtCpu, AtModule};
 ghost use Rattle.fio_ends.specs.LinkLogs.{AccusesNoneBelowLoads, FramesMayBeMissing, JudgeAccusesNone, JudgeKeepsAll, LoadsMayBeUnderWay};
@@ -317,4 +318,12 @@ pub fn judge_accuses_no_maker()
 #[tactic(auto, using(crate::proofs::EventLogs::log_judge_accuses_none))]
 pub fn log_judge_accuses_no_right_link()
     ensures { LogJudgeAccusesNone }
+{}
+
+/// The law on late answers: a judge that leaves them out finds no breach of a rule of transcripts in the log of a right CPU's end,
+/// though frames may be lost, repeated at once and delayed, if they never overtake each other. The log may begin anywhere, and other
+/// lines may stand anywhere.
+#[tactic(auto, using(crate::proofs::LateRuns::late_answers_break_no_rule))]
+pub fn late_answers_break_no_rule()
+    ensures { LateAnswersBreakNoRule }
 {}

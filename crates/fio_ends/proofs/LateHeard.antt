@@ -1,0 +1,109 @@
+-- The CPU's end hears an answer that is no block answer, in time or late: the judge that leaves late answers out finds no breach.
+use Rattle.fio_ends.proofs.Names.{◌≡◌, ◌≢◌, ◌∙◌, ◌+◌, ◌%◌, ◌<◌, ◌≤◌, ◌&&◌, ◌||◌, ◌==◌, inl, inr, ℕ, Bool, true, false, not, List, [], ◌∷◌, length, Option, Some, None, refl, ap, sym, subst, arith, if◌then◌else◌, is_some, nat_lt, nat_tests, slice_get, list_any, same_Some, option_map_or, AreInRange, BLOCK_ANSWER, Block, CarriesBlockOf, Checker, Facts, HasBlock, IsKept, Machine, MadeBlock, Nothing, Observation, Rule, RuleLimits, SentFrame, Settings, Skips, SuitModule, ToCommand, ToPoll, after_delivered_block, after_delivery_to_cpu, after_taken, answer_in, block_in, blocks_of, breaks_within, carries_own, checker_below_breach, checker_below_lines, each-at, entry_of, facts_with, in_order, is_absent, is_some_and, length-map, life_of, next_round, no_facts, number_of, number_of-fits, number_of-next, observation_in, same_round, says_again, says_lost, says_more}
+use Rattle.fio_check.specs.Checkers.{skips_frame}
+use Rattle.fio_check.specs.LateAnswers.{awaits, late_below_answer, late_with, lateness_below, lateness_of, lateness_of_block, lateness_of_polled, unawaited_block}
+use Rattle.fio_check.specs.LogJudges.{is_rule_of_late}
+use Rattle.fio_check.specs.Rules.{is_overfull_within}
+use Rattle.fio_check.specs.declared.late_answers.LateAnswers.{LateAnswers}
+use Rattle.fio_check.specs.declared.late_answers.Lateness.{Lateness}
+use Rattle.fio_check.specs.declared.late_answers.Lateness.TheVariants.{InTime, Late, LateButTaken}
+use Rattle.fio_check.specs.declared.observation.Observation.TheVariants as seen
+use Rattle.fio_check.specs.declared.outcome.LogPlace.TheVariants.{Cpu}
+use Rattle.fio_check.specs.declared.rules.Rule.TheVariants as tried
+use Rattle.fio_ends.proofs.BlocksOfLives.{KeepsLimits, blocks_keep, blocks_leave}
+use Rattle.fio_ends.proofs.Following.{TookBlock}
+use Rattle.fio_ends.proofs.Hears.{block_said, has_number, has_rest, is_asked, no_block_said, none_absent, within_limits}
+use Rattle.fio_ends.proofs.LateJudges.{Holds, Takes, may_be_late}
+use Rattle.fio_ends.proofs.LateKnown.{AgreesLate, HasLatest, KnownLate, KnownOf, KnowsFacts, found_late, with_frame}
+
+-- ---- tests
+
+-- the latest command waits for an answer of a type
+pub awaits_is : (awaited : Option ℕ) (code : ℕ) → is_some_and awaited (λ a. a == code) ≡ true → awaited ≡ Some code
+awaits_is awaited code is = grind arith
+
+-- where an answer is passed over
+facts_passed : (skips : Skips) (facts : Facts) (awaited next polled : Option ℕ) (answered : Bool) → skips_frame skips false ≡ true
+    → KnowsFacts skips facts awaited polled answered → KnowsFacts skips facts next polled answered
+facts_passed Nothing facts awaited next polled answered over k = absurd (cc over)
+facts_passed ToCommand facts awaited next polled answered over k = k
+facts_passed ToPoll facts awaited next polled answered over k = k
+
+-- a checker that takes one judges each frame
+pub facts_agree : (skips : Skips) (facts : Facts) (awaited polled : Option ℕ) (answered : Bool) → skips_frame skips false ≡ false
+    → KnowsFacts skips facts awaited polled answered → AgreesLate facts awaited polled answered
+facts_agree Nothing facts awaited polled answered over k = k
+facts_agree ToCommand facts awaited polled answered over k = absurd (cc over)
+facts_agree ToPoll facts awaited polled answered over k = absurd (cc over)
+
+-- ---- an answer that is no block answer
+
+-- it keeps each rule but that on refusals
+answer_keeps : (limits : RuleLimits) (facts : Facts) (code : ℕ) (accepted : Bool) → facts.awaited ≡ Some code
+    → (rule : Rule) → is_rule_of_late Cpu rule ≡ false → breaks_within limits facts (seen.Answer code accepted) rule ≡ false
+answer_keeps limits facts code accepted asked tried.Pair other = is_asked facts.awaited code asked
+answer_keeps limits facts code accepted asked tried.Refusal other = absurd (cc other)
+answer_keeps limits facts code accepted asked rule other = refl
+
+module _ (limits : RuleLimits) (first : ℕ) (frames : List SentFrame) (polls : List ℕ) (now : ℕ) (blocks : List MadeBlock) where
+  abbrev Known : Checker → Option ℕ → Option ℕ → Bool → Type 0
+  Known = KnownLate limits first frames polls now blocks
+
+  module _ (checker : Checker) (late : LateAnswers) (k : Holds Known checker late) (code : ℕ) (accepted : Bool) where
+    -- no answer is awaited below it
+    answer_lost : Known (checker_below_breach checker.limits) None late.polled late.answered
+    answer_lost = record { limited = k.limited; facts = refl; latest = k.latest; waits = λ is. absurd (cc is); more = λ m is. absurd (cc is) }
+
+    by_awaits : (waits : Bool) → awaits late code ≡ waits → Takes Known checker late false (seen.Answer code accepted)
+    by_awaits true is =
+        let said = seen.Answer code accepted in
+        let timely : lateness_of late said ≡ InTime = ap (λ (b : Bool). if b then InTime else Late) is in
+        let asked : late.awaited ≡ Some code = awaits_is late.awaited code is in
+        let below : (c : Checker) → Known c None late.polled late.answered → Holds Known c (late_with late said) =
+        λ c q. subst (λ (l : Lateness). Holds Known c (late_below_answer late l false)) (sym timely) q in
+        inl (record {
+          timely = timely;
+          found = found_late checker false said
+              (λ over. may_be_late checker.limits checker.facts said
+              (answer_keeps checker.limits checker.facts code accepted
+              ((facts_agree checker.skips checker.facts late.awaited late.polled late.answered over k.facts).awaits ∙ asked)));
+          lost = below (checker_below_breach checker.limits) answer_lost;
+          kept = with_frame (λ c. Holds Known c (late_with late said)) checker false said
+              (λ over. below checker (record {
+                limited = k.limited;
+                facts = facts_passed checker.skips checker.facts late.awaited None late.polled late.answered over k.facts;
+                latest = k.latest;
+                waits = λ is. absurd (cc is);
+                more = k.more;
+              }))
+              (below (checker_below_breach checker.limits) answer_lost)
+              (λ over.
+              let agrees = facts_agree checker.skips checker.facts late.awaited late.polled late.answered over k.facts in
+              below (record checker { facts = facts_with checker.facts said; skips = Nothing }) (record {
+                limited = k.limited;
+                facts = record { awaits = refl; polls = agrees.polls; answers = agrees.answers; none = agrees.none };
+                latest = k.latest;
+                waits = λ is. absurd (cc is);
+                more = k.more;
+              }));
+          anew = λ is. absurd (cc is);
+        })
+    by_awaits false is =
+        let said = seen.Answer code accepted in
+        let is_late : lateness_of late said ≡ Late = ap (λ (b : Bool). if b then InTime else Late) is in
+        inr (inl (is_late, subst (λ (l : Lateness). Holds Known checker (late_below_answer late l false)) (sym is_late) k))
+
+    pub takes_answer : Takes Known checker late false (seen.Answer code accepted)
+    takes_answer = by_awaits (awaits late code) refl
+
+-- it is heard
+pub heard_answer : (settings : Settings) (limits : RuleLimits) (first : ℕ) (machine : Machine) (checker : Checker) (late : LateAnswers)
+    → Holds (KnownOf settings limits first machine) checker late
+    → (place : ℕ) (frame : SentFrame) (code : ℕ) (accepted : Bool) → observation_in false frame.octets ≡ seen.Answer code accepted
+    → Takes (KnownOf settings limits first (after_delivery_to_cpu first machine (place + 1) (Some frame))) checker late false (observation_in false frame.octets)
+heard_answer settings limits first machine checker late k place frame code accepted is =
+    let none : block_in frame.octets ≡ None = no_block_said (answer_in frame.octets) code accepted is in
+    subst (λ found. Takes (KnownOf settings limits first (after_delivered_block first (record machine { last_to_cpu = place + 1 }) found)) checker late false (observation_in false frame.octets))
+    (sym none)
+    (subst (Takes (KnownOf settings limits first machine) checker late false) (sym is)
+    (takes_answer limits first machine.to_module machine.polls machine.round (blocks_of settings (life_of machine.history)) checker late k code accepted))
