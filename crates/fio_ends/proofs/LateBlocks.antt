@@ -138,8 +138,11 @@ module _ (settings : Settings) (range : AreInRange settings) (limits : RuleLimit
           → Takes (At machine.round) checker late false said
       again_late answered was now of =
           let is : lateness_of_block late b.number ≡ Late = lateness_by (Some polled) Late polls of in
-          inr (inl (is, below (At machine.round) checker Late is
-          (subst (λ (a : Bool). At machine.round checker late.awaited late.polled a) (was ∙ sym now) k)))
+          inr (inl (
+            is,
+            below (At machine.round) checker Late is
+                (subst (λ (a : Bool). At machine.round checker late.awaited late.polled a) (was ∙ sym now) k),
+          ))
 
       -- below a poll that is answered
       not_waits : (waits : Bool) → awaits late BLOCK_ANSWER ≡ waits → late.answered ≡ true → waits ≡ false
@@ -311,9 +314,12 @@ module _ (settings : Settings) (range : AreInRange settings) (limits : RuleLimit
             lateness_by (Some polled) LateButTaken polls
             (unawaited late polled b.number numbered low waits ∙ ap (λ (a : Bool). if a then Late else LateButTaken) was) in
             let other : late.awaited ≡ Some BLOCK_ANSWER → ⊥ = λ asked. cc (sym waits ∙ awaits_same late.awaited BLOCK_ANSWER asked) in
-            inr (inr (is, below (At (machine.round + 1)) (checker_below_lines checker checker.skips) LateButTaken is
-            (subst (λ (a : Bool). At (machine.round + 1) (checker_below_lines checker checker.skips) late.awaited late.polled a) (sym now_answered)
-            (by_skips checker.skips k.facts other))))
+            inr (inr (
+              is,
+              below (At (machine.round + 1)) (checker_below_lines checker checker.skips) LateButTaken is
+                  (subst (λ (a : Bool). At (machine.round + 1) (checker_below_lines checker checker.skips) late.awaited late.polled a) (sym now_answered)
+                  (by_skips checker.skips k.facts other)),
+            ))
           where
             by_skips : (skips : Skips) → KnowsFacts skips checker.facts late.awaited late.polled late.answered → (late.awaited ≡ Some BLOCK_ANSWER → ⊥)
                 → At (machine.round + 1) (checker_below_lines checker skips) late.awaited late.polled true

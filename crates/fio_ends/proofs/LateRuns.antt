@@ -221,6 +221,7 @@ module _ (settings : Settings) (range : AreInRange settings) (limits : RuleLimit
 
 -- the law on late answers
 pub late_answers_break_no_rule : LateAnswersBreakNoRule
+unfolding LateAnswersBreakNoRule
 late_answers_break_no_rule place settings limits first before steps machine last log =
     let none : AreAnswers [] = λ place frame at. absurd (cc at) in
     let r = reaches settings log.in_range limits log.suit first before (events_seen steps) start machine last

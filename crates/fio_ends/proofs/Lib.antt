@@ -127,3 +127,4 @@ pub mod LateCommands
 pub mod LateHeard
 pub mod LateBlocks
 pub mod LateRuns
+pub mod LateExamples

@@ -1,14 +1,16 @@
 -- Logs of a right link whose answers may be late: frames may be lost, repeated at once and delayed, but never overtake each other.
-use Rattle.std.specs.Prelude.{◌≡◌, ℕ, List, ◌++◌, Option}
+use Rattle.std.specs.Prelude.{◌≡◌, ℕ, List, [], ◌∷◌, ◌++◌, Option, Some}
 use Rattle.std.specs.List.{AllByRecursion}
-use Rattle.fio_module.specs.Settings.{Settings, AreInRange}
+use Rattle.fio_module.specs.Settings.{Settings, AreInRange, standard_settings}
 use Rattle.fio_check.specs.LogJudges.{log_starting, outcomes_in_log}
+use Rattle.fio_check.specs.Rules.{standard_rule_limits}
 use Rattle.fio_check.specs.declared.limits.RuleLimits.{RuleLimits}
 use Rattle.fio_check.specs.declared.log_judge.LogOutcome.{LogOutcome}
-use Rattle.fio_check.specs.declared.log_judge.LogOutcome.TheVariants.{Link}
+use Rattle.fio_check.specs.declared.log_judge.LogOutcome.TheVariants.{Late, Link}
 use Rattle.fio_check.specs.declared.log_judge.LogStart.TheVariants.{LateAnswers as StartLate}
-use Rattle.fio_check.specs.declared.outcome.FrameOutcome.TheVariants.{Broken}
+use Rattle.fio_check.specs.declared.outcome.FrameOutcome.TheVariants.{Broken, Kept}
 use Rattle.fio_check.specs.declared.outcome.LogPlace.{LogPlace}
+use Rattle.fio_check.specs.declared.outcome.LogPlace.TheVariants.{Cpu}
 use Rattle.fio_link.specs.declared.event.Event.{Event}
 use Rattle.fio_link.specs.Headline.{HaveNoRestart}
 use Rattle.fio_link.specs.Link.{IsRun, Leads, Machine, start}
@@ -45,3 +47,10 @@ LateAnswersBreakNoRule =
     (machine last : Machine) →
     IsLateLog settings limits first before steps machine last →
     AllByRecursion IsNoBreach (outcomes_in_log (log_starting limits place StartLate) (log_seen settings first machine steps))
+
+-- There is such a log in which an answer comes again and is late, and in which each frame above it keeps all rules.
+unfoldable pub AnswersMayBeLate : Type 0
+AnswersMayBeLate =
+    (steps : List SeenStep) × (last : Machine) × IsLateLog (standard_settings 2) standard_rule_limits 0 [] steps start last
+    × (outcomes_in_log (log_starting standard_rule_limits (Some Cpu) StartLate) (log_seen (standard_settings 2) 0 start steps)
+    ≡ Link Kept ∷ Link Kept ∷ Link Kept ∷ Late ∷ [])

@@ -6,7 +6,7 @@ ghost use Rattle.fio_ends.specs.Calls.{CallsAreRuns};
 ghost use Rattle.fio_ends.specs.ContentPremises.{HasNearTimes};
 ghost use Rattle.fio_ends.specs.ContentRuns.{AccusesNone, Always, ContentNeverAccuses};
 ghost use Rattle.fio_ends.specs.EventLogs.{LogJudgeAccusesNone};
-ghost use Rattle.fio_ends.specs.LateLogs.{LateAnswersBreakNoRule};
+ghost use Rattle.fio_ends.specs.LateLogs.{AnswersMayBeLate, LateAnswersBreakNoRule};
 ghost use Rattle.fio_ends.specs.LineRuns.{EachFrameMayCome, EachStruckFrameMayCome, HeadlineOverLines, LinesAreRuns, LinesBringRecords};
 ghost use Rattle.fio_ends.specs.Lines.{AtCpu, AtModule};
 ghost use Rattle.fio_ends.specs.LinkLogs.{AccusesNoneBelowLoads, FramesMayBeMissing, JudgeAccusesNone, JudgeKeepsAll, LoadsMayBeUnderWay};
@@ -326,4 +326,10 @@ pub fn log_judge_accuses_no_right_link()
 #[tactic(auto, using(crate::proofs::LateRuns::late_answers_break_no_rule))]
 pub fn late_answers_break_no_rule()
     ensures { LateAnswersBreakNoRule }
+{}
+
+/// Such a log exists: one in which an answer is heard twice, and is late the second time.
+#[tactic(auto, using(crate::proofs::LateExamples::answers_may_be_late))]
+pub fn answers_may_be_late()
+    ensures { AnswersMayBeLate }
 {}
