@@ -1,7 +1,7 @@
 -- The CPU's end hears a block answer, in time or late: the judge that leaves late answers out finds no breach.
-use Rattle.fio_ends.proofs.Names.{◌≡◌, ◌≢◌, ◌∙◌, ◌+◌, ◌%◌, ◌<◌, ◌≤◌, ◌&&◌, ◌||◌, ◌==◌, inl, inr, ℕ, Bool, true, false, not, List, [], ◌∷◌, length, Option, Some, None, refl, ap, sym, subst, arith, if◌then◌else◌, is_some, nat_lt, nat_tests, slice_get, list_any, same_Some, option_map_or, AreInRange, BLOCK_ANSWER, Block, CarriesBlockOf, Checker, Facts, HasBlock, IsKept, Machine, MadeBlock, Nothing, Observation, Rule, RuleLimits, SentFrame, Settings, Skips, SuitModule, ToCommand, ToPoll, after_delivered_block, after_delivery_to_cpu, after_taken, answer_in, block_in, blocks_of, breaks_within, carries_own, checker_below_breach, checker_below_lines, each-at, entry_of, facts_with, in_order, is_absent, is_some_and, length-map, life_of, next_round, no_facts, number_of, number_of-fits, number_of-next, observation_in, same_round, says_again, says_lost, says_more}
+use Rattle.fio_ends.proofs.Names.{◌≡◌, ◌≢◌, ◌∙◌, ◌+◌, ◌%◌, ◌<◌, ◌≤◌, ◌&&◌, ◌||◌, ◌==◌, inl, inr, ℕ, Bool, true, false, not, List, length, Option, Some, None, refl, ap, sym, subst, arith, if◌then◌else◌, is_some, nat_lt, nat_tests, slice_get, list_any, same_Some, AreInRange, BLOCK_ANSWER, Block, CarriesBlockOf, Checker, Facts, HasBlock, IsKept, Machine, MadeBlock, Nothing, Observation, Rule, RuleLimits, SentFrame, Settings, Skips, SuitModule, ToCommand, ToPoll, after_delivered_block, after_delivery_to_cpu, after_taken, answer_in, block_in, blocks_of, breaks_within, carries_own, checker_below_breach, checker_below_lines, each-at, entry_of, facts_with, in_order, is_absent, is_some_and, length-map, life_of, next_round, no_facts, number_of, number_of-fits, number_of-next, observation_in, same_round, says_again, says_lost, says_more}
 use Rattle.fio_check.specs.Checkers.{skips_frame}
-use Rattle.fio_check.specs.LateAnswers.{awaits, late_below_answer, late_with, lateness_below, lateness_of, lateness_of_block, lateness_of_polled, unawaited_block}
+use Rattle.fio_check.specs.LateAnswers.{awaits, late_below_answer, late_with, lateness_below, lateness_of_block, lateness_of_polled, unawaited_block}
 use Rattle.fio_check.specs.LogJudges.{is_rule_of_late}
 use Rattle.fio_check.specs.Rules.{is_overfull_within}
 use Rattle.fio_check.specs.declared.late_answers.LateAnswers.{LateAnswers}
@@ -11,8 +11,7 @@ use Rattle.fio_check.specs.declared.observation.Observation.TheVariants as seen
 use Rattle.fio_check.specs.declared.outcome.LogPlace.TheVariants.{Cpu}
 use Rattle.fio_check.specs.declared.rules.Rule.TheVariants as tried
 use Rattle.fio_ends.proofs.BlocksOfLives.{KeepsLimits, blocks_keep, blocks_leave}
-use Rattle.fio_ends.proofs.Following.{TookBlock}
-use Rattle.fio_ends.proofs.Hears.{block_said, has_number, has_rest, is_asked, no_block_said, none_absent, within_limits}
+use Rattle.fio_ends.proofs.Hears.{block_said, has_number, has_rest, is_asked, none_absent, within_limits}
 use Rattle.fio_ends.proofs.LateJudges.{Holds, Takes, may_be_late}
 use Rattle.fio_ends.proofs.LateKnown.{AgreesLate, HasLatest, KnownLate, KnownOf, KnowsFacts, found_late, with_frame}
 use Rattle.fio_ends.proofs.LateHeard.{awaits_is, facts_agree}

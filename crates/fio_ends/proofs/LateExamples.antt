@@ -1,5 +1,5 @@
 -- A worked log with a late answer, by computation.
-use Rattle.fio_ends.proofs.Names.{◌≡◌, List, [], ◌∷◌, Option, None, Some, refl, arith, AreInRange, Event, Kept, Machine, SuitModule, ToCpu, ToModule, after, standard_rule_limits, standard_settings, start}
+use Rattle.fio_ends.proofs.Names.{◌≡◌, List, [], ◌∷◌, None, Some, refl, arith, Event, Kept, Machine, ToCpu, ToModule, after, standard_rule_limits, standard_settings, start}
 use Rattle.fio_message.specs.Bits.{is_set}
 use Rattle.fio_message.specs.Decoding.{message_in}
 use Rattle.fio_check.specs.ContentRules.{first_differing, is_excused}

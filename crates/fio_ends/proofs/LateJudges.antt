@@ -1,17 +1,16 @@
 -- What the judge that leaves late answers out does with a frame, by its checker and by what it keeps of the answers.
-use Rattle.fio_ends.proofs.Names.{◌≡◌, ◌∙◌, ◌⊎◌, ◌||◌, inl, inr, ℕ, Bool, true, false, List, [], ◌∷◌, Option, Some, None, refl, ap, sym, subst, arith, if◌then◌else◌, is_some, option_map, Breach, Checker, ContentRule, Excused, FrameOutcome, Judging, Kept, Load, LogPlace, NotJudged, Observation, Restarted, Rule, RuleLimits, checker_below_breach, checker_below_lines, checker_with, found_by, find, found_in_frame, content_here, is_set_back, is_unheard, judging_at, judging_below_outcome, judging_kept, judging_passed, judging_taken, judging_with, may_be_anew, number_polled, observation_in, outcome_anew, outcome_found, outcome_in, outcome_judged, outcome_set_back, passes_over, place_lost, stamp_in, unjudged_by, breach_of, breaks_within, first_broken_within, Facts, Skips}
+use Rattle.fio_ends.proofs.Names.{◌≡◌, ◌∙◌, ◌⊎◌, ◌||◌, inl, inr, ℕ, Bool, true, false, List, [], ◌∷◌, Option, Some, None, refl, ap, sym, subst, arith, if◌then◌else◌, is_some, option_map, Breach, Checker, ContentRule, Excused, FrameOutcome, Judging, Kept, Load, LogPlace, NotJudged, Observation, Restarted, Rule, RuleLimits, checker_below_breach, checker_below_lines, checker_with, found_by, find, found_in_frame, content_here, is_set_back, is_unheard, judging_at, judging_below_outcome, judging_passed, judging_taken, judging_with, may_be_anew, number_polled, observation_in, outcome_anew, outcome_found, outcome_in, outcome_judged, outcome_set_back, passes_over, stamp_in, unjudged_by, breach_of, breaks_within, first_broken_within, Facts}
 use Rattle.fio_check.proofs.Excuses.{excuses_what_is_shown}
 use Rattle.fio_check.specs.Checkers.{checker_within, due_in}
 use Rattle.fio_check.specs.LateAnswers.{late_with, lateness_of}
 use Rattle.fio_check.specs.LinkJudges.{outcome_of_content}
-use Rattle.fio_check.specs.LogJudges.{LogJudging, has_content, is_excused_late, is_explained, is_of_late, is_rule_of_late, is_same_end, judges_each, judging_in_time, late_settled, link_lost, log_below, log_by_lateness, log_counting, log_forgetting, log_kept_late, log_lost, log_reached, log_reaching, log_with, log_with_event, one_more, outcome_by_lateness, outcome_here, outcome_in_log, outcome_in_time, outcome_kept_late, outcome_reached, outcome_without_content, place_of, unsettled}
+use Rattle.fio_check.specs.LogJudges.{LogJudging, has_content, is_excused_late, is_explained, is_rule_of_late, is_same_end, judges_each, judging_in_time, late_settled, link_lost, log_below, log_by_lateness, log_counting, log_forgetting, log_lost, log_reaching, log_with, log_with_event, one_more, outcome_by_lateness, outcome_here, outcome_in_log, outcome_in_time, outcome_without_content, place_of, unsettled}
 use Rattle.fio_check.specs.Rules.{rules}
 use Rattle.fio_check.specs.declared.content.ContentBreach.{ContentBreach}
 use Rattle.fio_check.specs.declared.late_answers.LateAnswers.{LateAnswers}
 use Rattle.fio_check.specs.declared.late_answers.Lateness.{Lateness}
 use Rattle.fio_check.specs.declared.late_answers.Lateness.TheVariants.{InTime, LateButTaken}
 use Rattle.fio_check.specs.declared.late_answers.Lateness.TheVariants.{Late as LateOne}
-use Rattle.fio_check.specs.declared.log_judge.LogOutcome.{LogOutcome}
 use Rattle.fio_check.specs.declared.log_judge.LogOutcome.TheVariants.{LateAbove, Link}
 use Rattle.fio_check.specs.declared.outcome.Excuse.TheVariants.{Unheard}
 use Rattle.fio_check.specs.declared.outcome.FrameOutcome.TheVariants.{Broken, BrokenContent}

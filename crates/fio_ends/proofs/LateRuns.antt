@@ -1,5 +1,5 @@
 -- The judge that leaves late answers out finds no breach in the log of a right CPU's end, along a run whose frames may be late.
-use Rattle.fio_ends.proofs.Names.{◌≡◌, ◌∙◌, ◌⊎◌, ◌+◌, ◌≤◌, inl, inr, ℕ, Bool, true, false, List, [], ◌∷◌, ◌++◌, map, Option, Some, None, refl, ap, sym, subst, arith, append-nil, if◌then◌else◌, option_map, same_Some, slice_get, AllByRecursion, Answer, AreInRange, Block, Checker, Command, CpuFrame, Event, HaveNoRestart, IsKept, IsNotRestart, IsWithinRanges, Leads, Machine, RuleLimits, SentFrame, Settings, SuitModule, after, after_delivered_block, after_delivery, after_delivery_to_cpu, after_delivery_to_module, answer_frames, answer_if, answer_octets, answer_of_sending, answer_to, answer_type_to, block_in, command_in, frame_heard, frames_at, get_after_push, in_order, kept, kept_all, life_of, observation_in, poll_in, polls_with, refusal, reply_to, said, start, next_round, ◌==◌, number_of, after_taken, HasPoll, blocks_of, MadeBlock, item_numbered, IsCommand}
+use Rattle.fio_ends.proofs.Names.{◌≡◌, ◌∙◌, ◌⊎◌, ◌+◌, ◌≤◌, inl, inr, ℕ, Bool, true, false, List, [], ◌∷◌, ◌++◌, map, Option, Some, None, refl, ap, sym, subst, arith, append-nil, if◌then◌else◌, option_map, same_Some, slice_get, AllByRecursion, Answer, AreInRange, Block, Checker, Command, CpuFrame, Event, HaveNoRestart, IsKept, IsNotRestart, IsWithinRanges, Leads, Machine, RuleLimits, SentFrame, Settings, SuitModule, after, after_delivered_block, after_delivery, after_delivery_to_cpu, after_delivery_to_module, answer_frames, answer_if, answer_octets, answer_of_sending, answer_type_to, block_in, command_in, frame_heard, frames_at, get_after_push, in_order, kept, kept_all, life_of, observation_in, poll_in, polls_with, refusal, reply_to, said, start, next_round, ◌==◌, number_of, after_taken, HasPoll, blocks_of}
 use Rattle.fio_message.specs.declared.commands.Command.TheVariants as commands
 use Rattle.fio_link.specs.declared.event.Event.TheVariants as events
 use Rattle.fio_link.proofs.CpuOrder.{answered}
@@ -11,15 +11,14 @@ use Rattle.fio_check.specs.declared.log_judge.LogStart.TheVariants.{LateAnswers 
 use Rattle.fio_check.specs.declared.observation.Observation.TheVariants as seen
 use Rattle.fio_check.specs.declared.outcome.LogPlace.{LogPlace}
 use Rattle.fio_ends.specs.EventLogs.{BeginsPart, MayHaveHeldFrame, Remark, Remarked, SaysMessage, Seen, SeenStep, SpeaksOfLoss, Unseen, event_of_remark, events_seen, found_saying, log_seen}
-use Rattle.fio_ends.specs.LateLogs.{IsInLog, IsLateLog, IsNoBreach, LateAnswersBreakNoRule}
+use Rattle.fio_ends.specs.LateLogs.{IsInLog, IsNoBreach, LateAnswersBreakNoRule}
 use Rattle.fio_ends.proofs.BlocksOfLives.{blocks_stay}
-use Rattle.fio_ends.proofs.Following.{TookBlock}
 use Rattle.fio_ends.proofs.Heard.{heard_as}
 use Rattle.fio_ends.proofs.LateCommands.{sent_other, sent_poll}
 use Rattle.fio_ends.proofs.LateBlocks.{heard_block}
 use Rattle.fio_ends.proofs.LateHeard.{heard_answer}
 use Rattle.fio_ends.proofs.LateJudges.{Holds, IsJudged, IsKnownLost, Takes, frame_judged, remark_judged}
-use Rattle.fio_ends.proofs.LateKnown.{HasLatest, KnownLate, KnownOf, known_above, known_lost}
+use Rattle.fio_ends.proofs.LateKnown.{KnownOf, known_above, known_lost}
 
 -- ---- the frames sent to the CPU are answers
 

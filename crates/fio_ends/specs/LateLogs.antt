@@ -14,7 +14,7 @@ use Rattle.fio_check.specs.declared.outcome.LogPlace.TheVariants.{Cpu}
 use Rattle.fio_link.specs.declared.event.Event.{Event}
 use Rattle.fio_link.specs.Headline.{HaveNoRestart}
 use Rattle.fio_link.specs.Link.{IsRun, Leads, Machine, start}
-use Rattle.fio_ends.specs.EventLogs.{Remarked, Seen, SeenStep, Unseen, events_seen, log_seen}
+use Rattle.fio_ends.specs.EventLogs.{SeenStep, Unseen, events_seen, log_seen}
 use Rattle.fio_ends.specs.PromptRuns.{IsWithinRanges, SuitModule}
 
 -- the frames of an event, if it has any, are in the log; other lines may be anywhere
