@@ -12,7 +12,7 @@ use Rattle.fio_check.specs.declared.outcome.LogPlace.TheVariants.{Cpu}
 use Rattle.fio_check.specs.declared.rules.Rule.TheVariants as tried
 use Rattle.fio_ends.proofs.BlocksOfLives.{KeepsLimits, blocks_keep, blocks_leave}
 use Rattle.fio_ends.proofs.Hears.{block_said, has_number, has_rest, is_asked, none_absent, within_limits}
-use Rattle.fio_ends.proofs.LateJudges.{Holds, Takes, may_be_late}
+use Rattle.fio_ends.proofs.LateRules.{Holds, Takes, may_be_late}
 use Rattle.fio_ends.proofs.LateKnown.{AgreesLate, HasLatest, KnownLate, KnownOf, KnowsFacts, found_late, with_frame}
 use Rattle.fio_ends.proofs.LateHeard.{awaits_is, facts_agree}
 
@@ -113,7 +113,7 @@ module _ (settings : Settings) (range : AreInRange settings) (limits : RuleLimit
 
     -- ---- no poll is above
 
-    first_late : late.polled ≡ None → (now : ℕ) → Takes (At now) checker late false said
+    first_late : late.polled ≡ None → (now : ℕ) → Takes Cpu (At now) checker late false said
     first_late none now =
         let is : lateness_of_block late b.number ≡ Late = lateness_by None Late none refl in
         let same : answered_now ≡ late.answered = answered_by None none ∙ or_false late.answered in
@@ -134,7 +134,7 @@ module _ (settings : Settings) (range : AreInRange settings) (limits : RuleLimit
       latest = k.latest polled polls
 
       again_late : (answered : Bool) → late.answered ≡ answered → answered_now ≡ answered → lateness_below late polled b.number ≡ Late
-          → Takes (At machine.round) checker late false said
+          → Takes Cpu (At machine.round) checker late false said
       again_late answered was now of =
           let is : lateness_of_block late b.number ≡ Late = lateness_by (Some polled) Late polls of in
           inr (inl (
@@ -155,7 +155,7 @@ module _ (settings : Settings) (range : AreInRange settings) (limits : RuleLimit
       round_by : (answered : Bool) → late.answered ≡ answered → machine.round ≡ (if answered then latest.round + 1 else latest.round)
       round_by answered was = latest.reached ∙ ap (λ (a : Bool). if a then latest.round + 1 else latest.round) was
 
-      heard_other : b.number ≢ number_of first machine.round → (answered : Bool) → late.answered ≡ answered → Takes (At machine.round) checker late false said
+      heard_other : b.number ≢ number_of first machine.round → (answered : Bool) → late.answered ≡ answered → Takes Cpu (At machine.round) checker late false said
       heard_other apart false was =
           let named : b.number ≡ number_of first frame.round = carries.number in
           let reached : machine.round ≡ latest.round = round_by false was in
@@ -280,7 +280,7 @@ module _ (settings : Settings) (range : AreInRange settings) (limits : RuleLimit
         }
 
         -- by whether its poll still waits for it
-        heard_taken : (waits : Bool) → awaits late BLOCK_ANSWER ≡ waits → Takes (At (machine.round + 1)) checker late false said
+        heard_taken : (waits : Bool) → awaits late BLOCK_ANSWER ≡ waits → Takes Cpu (At (machine.round + 1)) checker late false said
         heard_taken true waits =
             let is : lateness_of_block late b.number ≡ InTime = lateness_by (Some polled) InTime polls (timely_block late polled b.number numbered low waits) in
             let asked : late.awaited ≡ Some BLOCK_ANSWER = awaits_is late.awaited BLOCK_ANSWER waits in
@@ -288,8 +288,8 @@ module _ (settings : Settings) (range : AreInRange settings) (limits : RuleLimit
             λ c q. below (At (machine.round + 1)) c InTime is (subst (λ (a : Bool). At (machine.round + 1) c None late.polled a) (sym now_answered) q) in
             inl (record {
               timely = is;
-              found = found_late checker false said
-                  (λ over. may_be_late checker.limits checker.facts said
+              found = found_late Cpu checker false said
+                  (λ over. may_be_late Cpu checker.limits checker.facts said
                   (block_keeps asked (subst (SuitModule settings) (sym k.limited) suit)
                   (facts_agree checker.skips checker.facts late.awaited late.polled late.answered over k.facts)));
               lost = under (checker_below_breach checker.limits) (block_lost None (λ is. cc is));
@@ -329,7 +329,7 @@ module _ (settings : Settings) (range : AreInRange settings) (limits : RuleLimit
     -- ---- any block answer
 
     by_polled : (polled : Option ℕ) → late.polled ≡ polled → (same : Bool) → (b.number == number_of first machine.round) ≡ same
-        → Takes (KnownOf settings limits first (if same then after_taken machine place b else record machine { last_to_cpu = place + 1 })) checker late false said
+        → Takes Cpu (KnownOf settings limits first (if same then after_taken machine place b else record machine { last_to_cpu = place + 1 })) checker late false said
     by_polled None is true same = first_late is (machine.round + 1)
     by_polled None is false same = first_late is machine.round
     by_polled (Some polled) is true same =
@@ -339,10 +339,10 @@ module _ (settings : Settings) (range : AreInRange settings) (limits : RuleLimit
         let apart : b.number ≢ number_of first machine.round = grind (arith, nat_tests) in
         heard_other polled is apart late.answered refl
 
-    pub heard_block : Takes (KnownOf settings limits first (after_delivery_to_cpu first machine (place + 1) (Some frame))) checker late false (observation_in false frame.octets)
+    pub heard_block : Takes Cpu (KnownOf settings limits first (after_delivery_to_cpu first machine (place + 1) (Some frame))) checker late false (observation_in false frame.octets)
     heard_block =
-        subst (λ found. Takes (KnownOf settings limits first (after_delivered_block first (record machine { last_to_cpu = place + 1 }) found)) checker late false (observation_in false frame.octets))
+        subst (λ found. Takes Cpu (KnownOf settings limits first (after_delivered_block first (record machine { last_to_cpu = place + 1 }) found)) checker late false (observation_in false frame.octets))
         (sym spells)
-        (subst (λ o. Takes (KnownOf settings limits first (after_delivered_block first (record machine { last_to_cpu = place + 1 }) (Some b))) checker late false o)
+        (subst (λ o. Takes Cpu (KnownOf settings limits first (after_delivered_block first (record machine { last_to_cpu = place + 1 }) (Some b))) checker late false o)
         (sym (block_said (answer_in frame.octets) b spells))
         (by_polled late.polled refl (b.number == number_of first machine.round) refl))

@@ -5,7 +5,8 @@ use Rattle.fio_check.specs.Checkers.{checker_within, skips_frame}
 use Rattle.fio_check.specs.declared.late_answers.LateAnswers.{LateAnswers}
 use Rattle.fio_check.specs.declared.observation.Observation.TheVariants as seen
 use Rattle.fio_ends.proofs.Following.{TookBlock}
-use Rattle.fio_ends.proofs.LateJudges.{Holds, Takes, may_be_late}
+use Rattle.fio_check.specs.declared.outcome.LogPlace.TheVariants.{Cpu}
+use Rattle.fio_ends.proofs.LateRules.{Holds, Takes, may_be_late}
 use Rattle.fio_ends.proofs.LateKnown.{AgreesLate, HasLatest, KnownOf, KnowsFacts, found_late, with_frame}
 use Rattle.fio_ends.proofs.Sends.{other_said, poll_keeps, said_of}
 
@@ -113,12 +114,12 @@ module _ (settings : Settings) (limits : RuleLimits) (first : ℕ) (machine : Ma
   }
 
   takes_poll : (checker : Checker) (late : LateAnswers) → Holds (KnownOf settings limits first machine) checker late
-      → Takes (Below poll) checker late true (seen.Poll number)
+      → Takes Cpu (Below poll) checker late true (seen.Poll number)
   takes_poll checker late k =
       let lost = poll_lost checker k.limited in
       inl (record {
         timely = refl;
-        found = may_be_late checker.limits checker.facts (seen.Poll number)
+        found = may_be_late Cpu checker.limits checker.facts (seen.Poll number)
             (λ rule other. poll_keeps checker.facts number
             (due_by first machine.to_module machine.polls machine.round checker.skips checker.facts late.awaited late.polled late.answered k.facts k.latest) checker.limits rule);
         lost = lost;
@@ -131,10 +132,10 @@ module _ (settings : Settings) (limits : RuleLimits) (first : ℕ) (machine : Ma
 
   -- what the frame says
   pub sent_poll : (checker : Checker) (late : LateAnswers) → Holds (KnownOf settings limits first machine) checker late
-      → Takes (Below poll) checker late true (observation_in true (command_octets poll))
+      → Takes Cpu (Below poll) checker late true (observation_in true (command_octets poll))
   sent_poll checker late k =
       let fits : number ≤ 255 = number_of-fits first machine.round in
-      subst (Takes (Below poll) checker late true) (sym (said_of poll (omega arith))) (takes_poll checker late k)
+      subst (Takes Cpu (Below poll) checker late true) (sym (said_of poll (omega arith))) (takes_poll checker late k)
 
   -- ---- another command
 
@@ -153,7 +154,7 @@ module _ (settings : Settings) (limits : RuleLimits) (first : ℕ) (machine : Ma
     other_waits answered is = absurd (no_block_type command fine (same_Some _ _ is))
 
     takes_other : (checker : Checker) (late : LateAnswers) → Holds (KnownOf settings limits first machine) checker late
-        → Takes (Below command) checker late true (seen.Command (answer_type_to command) (names_absent command))
+        → Takes Cpu (Below command) checker late true (seen.Command (answer_type_to command) (names_absent command))
     takes_other checker late k =
         let code = answer_type_to command in
         let said = seen.Command code (names_absent command) in
@@ -162,8 +163,8 @@ module _ (settings : Settings) (limits : RuleLimits) (first : ℕ) (machine : Ma
         record { limited = k.limited; facts = refl; latest = latest; waits = other_waits late.answered; more = λ m is. absurd (cc is) } in
         inl (record {
           timely = refl;
-          found = found_late checker true said
-              (λ over. may_be_late checker.limits checker.facts said (λ rule other. command_keeps checker.limits checker.facts code (names_absent command) rule));
+          found = found_late Cpu checker true said
+              (λ over. may_be_late Cpu checker.limits checker.facts said (λ rule other. command_keeps checker.limits checker.facts code (names_absent command) rule));
           lost = lost;
           kept = with_frame (λ c. Below command c (Some code) late.polled late.answered) checker true said
               (λ over. record {
@@ -185,6 +186,6 @@ module _ (settings : Settings) (limits : RuleLimits) (first : ℕ) (machine : Ma
         })
 
     pub sent_other : (checker : Checker) (late : LateAnswers) → Holds (KnownOf settings limits first machine) checker late
-        → Takes (Below command) checker late true (observation_in true (command_octets command))
+        → Takes Cpu (Below command) checker late true (observation_in true (command_octets command))
     sent_other checker late k =
-        subst (Takes (Below command) checker late true) (sym (said_of command within ∙ other_said command fine)) (takes_other checker late k)
+        subst (Takes Cpu (Below command) checker late true) (sym (said_of command within ∙ other_said command fine)) (takes_other checker late k)

@@ -10,7 +10,7 @@ use Rattle.fio_check.specs.declared.observation.Observation.TheVariants as seen
 use Rattle.fio_check.specs.declared.outcome.LogPlace.TheVariants.{Cpu}
 use Rattle.fio_check.specs.declared.rules.Rule.TheVariants as tried
 use Rattle.fio_ends.proofs.Hears.{is_asked, no_block_said}
-use Rattle.fio_ends.proofs.LateJudges.{Holds, Takes, may_be_late}
+use Rattle.fio_ends.proofs.LateRules.{Holds, Takes, may_be_late}
 use Rattle.fio_ends.proofs.LateKnown.{AgreesLate, KnownLate, KnownOf, KnowsFacts, found_late, with_frame}
 
 -- ---- tests
@@ -51,7 +51,7 @@ module _ (limits : RuleLimits) (first : ℕ) (frames : List SentFrame) (polls : 
     answer_lost : Known (checker_below_breach checker.limits) None late.polled late.answered
     answer_lost = record { limited = k.limited; facts = refl; latest = k.latest; waits = λ is. absurd (cc is); more = λ m is. absurd (cc is) }
 
-    by_awaits : (waits : Bool) → awaits late code ≡ waits → Takes Known checker late false (seen.Answer code accepted)
+    by_awaits : (waits : Bool) → awaits late code ≡ waits → Takes Cpu Known checker late false (seen.Answer code accepted)
     by_awaits true is =
         let said = seen.Answer code accepted in
         let timely : lateness_of late said ≡ InTime = ap (λ (b : Bool). if b then InTime else Late) is in
@@ -60,8 +60,8 @@ module _ (limits : RuleLimits) (first : ℕ) (frames : List SentFrame) (polls : 
         λ c q. subst (λ (l : Lateness). Holds Known c (late_below_answer late l false)) (sym timely) q in
         inl (record {
           timely = timely;
-          found = found_late checker false said
-              (λ over. may_be_late checker.limits checker.facts said
+          found = found_late Cpu checker false said
+              (λ over. may_be_late Cpu checker.limits checker.facts said
               (answer_keeps checker.limits checker.facts code accepted
               ((facts_agree checker.skips checker.facts late.awaited late.polled late.answered over k.facts).awaits ∙ asked)));
           lost = below (checker_below_breach checker.limits) answer_lost;
@@ -90,17 +90,17 @@ module _ (limits : RuleLimits) (first : ℕ) (frames : List SentFrame) (polls : 
         let is_late : lateness_of late said ≡ Late = ap (λ (b : Bool). if b then InTime else Late) is in
         inr (inl (is_late, subst (λ (l : Lateness). Holds Known checker (late_below_answer late l false)) (sym is_late) k))
 
-    pub takes_answer : Takes Known checker late false (seen.Answer code accepted)
+    pub takes_answer : Takes Cpu Known checker late false (seen.Answer code accepted)
     takes_answer = by_awaits (awaits late code) refl
 
 -- it is heard
 pub heard_answer : (settings : Settings) (limits : RuleLimits) (first : ℕ) (machine : Machine) (checker : Checker) (late : LateAnswers)
     → Holds (KnownOf settings limits first machine) checker late
     → (place : ℕ) (frame : SentFrame) (code : ℕ) (accepted : Bool) → observation_in false frame.octets ≡ seen.Answer code accepted
-    → Takes (KnownOf settings limits first (after_delivery_to_cpu first machine (place + 1) (Some frame))) checker late false (observation_in false frame.octets)
+    → Takes Cpu (KnownOf settings limits first (after_delivery_to_cpu first machine (place + 1) (Some frame))) checker late false (observation_in false frame.octets)
 heard_answer settings limits first machine checker late k place frame code accepted is =
     let none : block_in frame.octets ≡ None = no_block_said (answer_in frame.octets) code accepted is in
-    subst (λ found. Takes (KnownOf settings limits first (after_delivered_block first (record machine { last_to_cpu = place + 1 }) found)) checker late false (observation_in false frame.octets))
+    subst (λ found. Takes Cpu (KnownOf settings limits first (after_delivered_block first (record machine { last_to_cpu = place + 1 }) found)) checker late false (observation_in false frame.octets))
     (sym none)
-    (subst (Takes (KnownOf settings limits first machine) checker late false) (sym is)
+    (subst (Takes Cpu (KnownOf settings limits first machine) checker late false) (sym is)
     (takes_answer limits first machine.to_module machine.polls machine.round (blocks_of settings (life_of machine.history)) checker late k code accepted))

@@ -1,8 +1,9 @@
 -- What is known of the judge that leaves late answers out, along a right link: of its checker and of what it keeps of the answers.
-use Rattle.fio_ends.proofs.Names.{◌≡◌, ◌+◌, ◌≤◌, ℕ, Bool, true, false, List, Option, Some, None, refl, if◌then◌else◌, Breach, Checker, Facts, HasPoll, Nothing, Observation, RuleLimits, SentFrame, Skips, ToCommand, ToPoll, checker_below_breach, checker_below_lines, checker_with, found_by, MadeBlock, next_round, no_facts, number_of, passes_over, facts_with, breach_of, is_some, BLOCK_ANSWER, Settings, Machine, blocks_of, life_of}
+use Rattle.fio_ends.proofs.Names.{◌≡◌, ◌+◌, ◌≤◌, ℕ, Bool, true, false, List, Option, Some, None, refl, if◌then◌else◌, Breach, Checker, Facts, HasPoll, LogPlace, Nothing, Observation, RuleLimits, SentFrame, Skips, ToCommand, ToPoll, checker_below_breach, checker_below_lines, checker_with, found_by, MadeBlock, next_round, no_facts, number_of, passes_over, facts_with, breach_of, is_some, BLOCK_ANSWER, Settings, Machine, blocks_of, life_of}
 use Rattle.fio_check.specs.Checkers.{checker_anywhere}
 use Rattle.fio_ends.proofs.Following.{TookBlock}
-use Rattle.fio_ends.proofs.LateJudges.{IsKnownLost, MayBeLate}
+use Rattle.fio_ends.proofs.LateJudges.{IsKnownLost}
+use Rattle.fio_ends.proofs.LateRules.{MayBeLate}
 
 -- The latest poll has this number: it was sent in a round that the CPU's end is in still, or that was over with an answer to that
 -- poll. No poll of a round after it was sent or received.
@@ -91,11 +92,12 @@ with_frame Q checker from_cpu said passed lost taken =
     choose Q (passes_over checker from_cpu said) (is_some (breach_of checker.limits checker.facts said)) checker (checker_below_breach checker.limits)
     (record checker { facts = facts_with checker.facts said; skips = Nothing }) passed lost taken
 
-choose_found : (passes : Bool) (found : Option Breach) → (passes ≡ false → MayBeLate found) → MayBeLate (if passes then None else found)
-choose_found true found late = tt
-choose_found false found late = late refl
+choose_found : (place : LogPlace) (passes : Bool) (found : Option Breach) → (passes ≡ false → MayBeLate place found) → MayBeLate place (if passes then None else found)
+choose_found place true found late = tt
+choose_found place false found late = late refl
 
 -- what it finds may be explained, if that is so where it does not pass the frame over
-pub found_late : (checker : Checker) (from_cpu : Bool) (said : Observation)
-    → (passes_over checker from_cpu said ≡ false → MayBeLate (breach_of checker.limits checker.facts said)) → MayBeLate (found_by checker from_cpu said)
-found_late checker from_cpu said late = choose_found (passes_over checker from_cpu said) (breach_of checker.limits checker.facts said) late
+pub found_late : (place : LogPlace) (checker : Checker) (from_cpu : Bool) (said : Observation)
+    → (passes_over checker from_cpu said ≡ false → MayBeLate place (breach_of checker.limits checker.facts said)) → MayBeLate place (found_by checker from_cpu said)
+found_late place checker from_cpu said late =
+    choose_found place (passes_over checker from_cpu said) (breach_of checker.limits checker.facts said) late

@@ -10,6 +10,7 @@ use Rattle.fio_check.specs.declared.log_judge.LogOutcome.{LogOutcome}
 use Rattle.fio_check.specs.declared.log_judge.LogStart.TheVariants.{LateAnswers as StartLate}
 use Rattle.fio_check.specs.declared.observation.Observation.TheVariants as seen
 use Rattle.fio_check.specs.declared.outcome.LogPlace.{LogPlace}
+use Rattle.fio_check.specs.declared.outcome.LogPlace.TheVariants.{Cpu}
 use Rattle.fio_ends.specs.EventLogs.{BeginsPart, MayHaveHeldFrame, Remark, Remarked, SaysMessage, Seen, SeenStep, SpeaksOfLoss, Unseen, event_of_remark, events_seen, found_saying, log_seen}
 use Rattle.fio_ends.specs.LateLogs.{IsInLog, IsNoBreach, LateAnswersBreakNoRule}
 use Rattle.fio_ends.proofs.BlocksOfLives.{blocks_stay}
@@ -17,7 +18,8 @@ use Rattle.fio_ends.proofs.Heard.{heard_as}
 use Rattle.fio_ends.proofs.LateCommands.{sent_other, sent_poll}
 use Rattle.fio_ends.proofs.LateBlocks.{heard_block}
 use Rattle.fio_ends.proofs.LateHeard.{heard_answer}
-use Rattle.fio_ends.proofs.LateJudges.{Holds, IsJudged, IsKnownLost, Takes, frame_judged, remark_judged}
+use Rattle.fio_ends.proofs.LateJudges.{IsJudged, IsKnownLost, frame_judged, remark_judged}
+use Rattle.fio_ends.proofs.LateRules.{Holds, Takes}
 use Rattle.fio_ends.proofs.LateKnown.{KnownOf, known_above, known_lost}
 
 -- ---- the frames sent to the CPU are answers
@@ -96,7 +98,7 @@ module _ (settings : Settings) (range : AreInRange settings) (first : ℕ) (mach
 abbrev pub Goes : (P Q : Checker → Option ℕ → Option ℕ → Bool → Type 0) → List CpuFrame → Type 0
 Goes P Q [] = (checker : Checker) (awaited polled : Option ℕ) (answered : Bool) → P checker awaited polled answered → Q checker awaited polled answered
 Goes P Q (frame ∷ []) = (checker : Checker) (late : LateAnswers) → Holds P checker late
-    → Takes Q checker late frame.from_cpu (observation_in frame.from_cpu frame.octets)
+    → Takes Cpu Q checker late frame.from_cpu (observation_in frame.from_cpu frame.octets)
 Goes P Q (frame ∷ more) = ⊥
 
 same_frames_if : (first : ℕ) (machine : Machine) (place : ℕ) (block : Block) (same : Bool)
@@ -124,7 +126,7 @@ module _ (settings : Settings) (range : AreInRange settings) (limits : RuleLimit
         (λ checker late k. by checker late k answer, subst AreAnswers (sym (same_frames first machine place (block_in frame.octets))) all)
       where
         by : (checker : Checker) (late : LateAnswers) → Holds (Of machine) checker late → IsAnswer frame.octets
-            → Takes (Of (after_delivery_to_cpu first machine (place + 1) (Some frame))) checker late false (observation_in false frame.octets)
+            → Takes Cpu (Of (after_delivery_to_cpu first machine (place + 1) (Some frame))) checker late false (observation_in false frame.octets)
         by checker late k (inl other) = heard_answer settings limits first machine checker late k place frame other.0 other.1 other.2
         by checker late k (inr block) = heard_block settings range limits suit first machine kept checker late k place frame at le block.0 block.1
 
@@ -158,12 +160,12 @@ module _ (settings : Settings) (range : AreInRange settings) (limits : RuleLimit
 
   -- below the frames of an event the rest is judged on
   frames_judged : (P Q : Checker → Option ℕ → Option ℕ → Bool → Type 0) → IsKnownLost P → (said : Option Bool) (frames : List CpuFrame) (rest : List LogEvent) (log : LogJudging)
-      → Goes P Q frames → IsJudged P log → ((next : LogJudging) → IsJudged Q next → AllByRecursion IsNoBreach (outcomes_in_log next rest))
+      → Goes P Q frames → IsJudged Cpu P log → ((next : LogJudging) → IsJudged Cpu Q next → AllByRecursion IsNoBreach (outcomes_in_log next rest))
       → AllByRecursion IsNoBreach (outcomes_in_log log (map (found_saying said) frames ++ rest))
   frames_judged P Q known said [] rest log goes j more =
-      more log (record { late = j.late; is = j.is; holds = goes log.link.checker j.late.awaited j.late.polled j.late.answered j.holds })
+      more log (record { placed = tt; late = j.late; is = j.is; holds = goes log.link.checker j.late.awaited j.late.polled j.late.answered j.holds })
   frames_judged P Q known said (frame ∷ []) rest log goes j more =
-      let here = frame_judged P known Q log frame.from_cpu said frame.octets j goes in
+      let here = frame_judged Cpu P known Q log frame.from_cpu said frame.octets j goes in
       (here.1, more (log_with log frame.from_cpu said frame.octets) here.0)
   frames_judged P Q known said (frame ∷ other ∷ frames) rest log goes j more = absurd goes
 
@@ -178,7 +180,7 @@ module _ (settings : Settings) (range : AreInRange settings) (limits : RuleLimit
 
   all_judged : (steps : List SeenStep) (machine last : Machine) → IsKept settings first machine → AreAnswers machine.to_cpu
       → Leads settings first machine (events_seen steps) last → HaveNoRestart (events_seen steps) → AllByRecursion IsWithinRanges (events_seen steps)
-      → AllByRecursion IsInLog steps → (log : LogJudging) → IsJudged (Of machine) log
+      → AllByRecursion IsInLog steps → (log : LogJudging) → IsJudged Cpu (Of machine) log
       → AllByRecursion IsNoBreach (outcomes_in_log log (log_seen settings first machine steps))
   all_judged [] machine last kept all leads none within whole log j = tt
   all_judged (Seen said event ∷ steps) machine last kept all leads none within whole log j =
@@ -190,7 +192,7 @@ module _ (settings : Settings) (range : AreInRange settings) (limits : RuleLimit
   all_judged (Remarked remark ∷ steps) machine last kept all leads none within whole log j =
       let next = log_with_event log (event_of_remark remark) in
       subst (λ (outcomes : List LogOutcome). AllByRecursion IsNoBreach (outcomes ++ outcomes_in_log next (log_seen settings first machine steps))) (sym (no_outcome log remark))
-      (all_judged steps machine last kept all leads none within whole.1 next (remark_judged (Of machine) (known_of_lost machine) log remark j))
+      (all_judged steps machine last kept all leads none within whole.1 next (remark_judged Cpu (Of machine) (known_of_lost machine) log remark j))
 
   -- ---- where the log begins
 
@@ -211,8 +213,9 @@ module _ (settings : Settings) (range : AreInRange settings) (limits : RuleLimit
       (event_goes machine kept all event leads.0 none.0 within.0).1 here.1 leads.1 none.1 within.1
 
   -- the judge above the first line
-  begins : (machine : Machine) (place : Option LogPlace) → IsJudged (Of machine) (log_starting limits place StartLate)
+  begins : (machine : Machine) (place : Option LogPlace) → IsJudged Cpu (Of machine) (log_starting limits place StartLate)
   begins machine place = record {
+    placed = tt;
     late = late_above;
     is = refl;
     holds = known_above limits first machine.to_module machine.polls machine.round (blocks_of settings (life_of machine.history));

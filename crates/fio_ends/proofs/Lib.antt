@@ -121,6 +121,7 @@ pub mod JudgeExamples
 mod MakersAnswers
 mod SeenAbove
 mod EventLogs
+pub mod LateRules
 pub mod LateJudges
 pub mod LateKnown
 pub mod LateCommands
