@@ -1,7 +1,7 @@
 -- The CPU's end hears a block answer, in time or late: the judge that leaves late answers out finds no breach.
-use Rattle.fio_ends.proofs.Names.{◌≡◌, ◌≢◌, ◌∙◌, ◌+◌, ◌%◌, ◌<◌, ◌≤◌, ◌&&◌, ◌||◌, ◌==◌, inl, inr, ℕ, Bool, true, false, not, List, length, Option, Some, None, refl, ap, sym, subst, arith, if◌then◌else◌, is_some, nat_lt, nat_tests, slice_get, list_any, same_Some, AreInRange, BLOCK_ANSWER, Block, CarriesBlockOf, Checker, Facts, HasBlock, IsKept, Machine, MadeBlock, Nothing, Observation, Rule, RuleLimits, SentFrame, Settings, Skips, SuitModule, ToCommand, ToPoll, after_delivered_block, after_delivery_to_cpu, after_taken, answer_in, block_in, blocks_of, breaks_within, carries_own, checker_below_breach, checker_below_lines, each-at, entry_of, facts_with, in_order, is_absent, is_some_and, length-map, life_of, next_round, no_facts, number_of, number_of-fits, number_of-next, observation_in, same_round, says_again, says_lost, says_more}
+use Rattle.fio_ends.proofs.Names.{◌≡◌, ◌≢◌, ◌∙◌, ◌+◌, ◌%◌, ◌<◌, ◌≤◌, ◌&&◌, ◌||◌, ◌==◌, inl, inr, ℕ, Bool, true, false, List, length, Option, Some, None, refl, ap, sym, subst, arith, if◌then◌else◌, is_some, nat_lt, nat_tests, slice_get, list_any, same_Some, AreInRange, BLOCK_ANSWER, Block, CarriesBlockOf, Checker, Facts, HasBlock, IsKept, Machine, MadeBlock, Nothing, Observation, Rule, RuleLimits, SentFrame, Settings, Skips, SuitModule, ToCommand, ToPoll, after_delivered_block, after_delivery_to_cpu, after_taken, answer_in, block_in, blocks_of, breaks_within, carries_own, checker_below_breach, checker_below_lines, each-at, entry_of, facts_with, in_order, is_absent, is_some_and, length-map, life_of, next_round, no_facts, number_of, number_of-fits, number_of-next, observation_in, same_round, says_again, says_lost, says_more}
 use Rattle.fio_check.specs.Checkers.{skips_frame}
-use Rattle.fio_check.specs.LateAnswers.{awaits, late_below_answer, late_with, lateness_below, lateness_of_block, lateness_of_polled, unawaited_block}
+use Rattle.fio_check.specs.LateAnswers.{awaits, late_below_answer, late_with, lateness_below, lateness_of_block, lateness_of_polled}
 use Rattle.fio_check.specs.LogJudges.{is_rule_of_late}
 use Rattle.fio_check.specs.Rules.{is_overfull_within}
 use Rattle.fio_check.specs.declared.late_answers.LateAnswers.{LateAnswers}
@@ -14,51 +14,7 @@ use Rattle.fio_ends.proofs.BlocksOfLives.{KeepsLimits, blocks_keep, blocks_leave
 use Rattle.fio_ends.proofs.Hears.{block_said, has_number, has_rest, is_asked, none_absent, within_limits}
 use Rattle.fio_ends.proofs.LateRules.{Holds, Takes, may_be_late}
 use Rattle.fio_ends.proofs.LateKnown.{AgreesLate, HasLatest, KnownLate, KnownOf, KnowsFacts, found_late, with_frame}
-use Rattle.fio_ends.proofs.LateHeard.{awaits_is, facts_agree}
-
--- ---- tests
-
-awaits_same : (awaited : Option ℕ) (code : ℕ) → awaited ≡ Some code → is_some_and awaited (λ a. a == code) ≡ true
-awaits_same awaited code is = grind arith
-
-or_false : (answered : Bool) → (answered || false) ≡ answered
-or_false true = refl
-or_false false = refl
-
--- no block is above where no poll is
-none_above : (skips : Skips) (facts : Facts) (awaited polled : Option ℕ) (answered : Bool) → polled ≡ None
-    → KnowsFacts skips facts awaited polled answered → facts.more ≡ None
-none_above Nothing facts awaited polled answered none k = k.none none
-none_above ToCommand facts awaited polled answered none k = ap (λ (f : Facts). f.more) k.0
-none_above ToPoll facts awaited polled answered none k = ap (λ (f : Facts). f.more) k
-
--- ---- how late one is
-
--- how late one with a number is
-late_before : (late : LateAnswers) (polled number : ℕ) → polled ≡ (number + 1) % 256 → lateness_below late polled number ≡ Late
-late_before late polled number is = grind (arith, nat_tests)
-
-module _ (late : LateAnswers) (polled number : ℕ) (same : polled ≡ number) (low : number < 256) where
-  not_before : (polled == (number + 1) % 256) ≡ false
-  not_before = let apart : polled ≢ (number + 1) % 256 = omega arith in grind (arith, nat_tests)
-
-  is_latest : (polled == number) ≡ true
-  is_latest = grind (arith, nat_tests)
-
-  abbrev by : Bool → Bool → Bool → Lateness
-  by before latest waits = if before then Late else if latest && not waits then unawaited_block late else InTime
-
-  timely_block : awaits late BLOCK_ANSWER ≡ true → lateness_below late polled number ≡ InTime
-  timely_block waits =
-      ap (λ (b : Bool). by b (polled == number) (awaits late BLOCK_ANSWER)) not_before
-      ∙ ap (λ (b : Bool). by false b (awaits late BLOCK_ANSWER)) is_latest
-      ∙ ap (λ (b : Bool). by false true b) waits
-
-  unawaited : awaits late BLOCK_ANSWER ≡ false → lateness_below late polled number ≡ unawaited_block late
-  unawaited waits =
-      ap (λ (b : Bool). by b (polled == number) (awaits late BLOCK_ANSWER)) not_before
-      ∙ ap (λ (b : Bool). by false b (awaits late BLOCK_ANSWER)) is_latest
-      ∙ ap (λ (b : Bool). by false true b) waits
+use Rattle.fio_ends.proofs.LateTests.{awaits_is, awaits_same, facts_agree, is_latest, late_before, none_above, or_false, timely_block, unawaited}
 
 module _ (settings : Settings) (range : AreInRange settings) (limits : RuleLimits) (suit : SuitModule settings limits) (first : ℕ) (machine : Machine)
     (kept : IsKept settings first machine) (checker : Checker) (late : LateAnswers) (k : Holds (KnownOf settings limits first machine) checker late) where

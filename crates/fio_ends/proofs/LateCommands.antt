@@ -36,26 +36,26 @@ due_by first frames polls now ToCommand facts awaited polled answered k latest d
 due_by first frames polls now ToPoll facts awaited polled answered k latest due is = absurd (cc (sym (ap number_due k) ∙ is))
 
 -- no other command has the answer of a poll
-no_block_type : (command : Command) → sending_refusal command ≡ None → answer_type_to command ≡ BLOCK_ANSWER → ⊥
+pub no_block_type : (command : Command) → sending_refusal command ≡ None → answer_type_to command ≡ BLOCK_ANSWER → ⊥
 no_block_type (commands.Poll number) fine is = cc fine
 no_block_type (commands.Other kind body) fine is = grind arith
 no_block_type command fine is = omega (arith, is)
 
 -- a command breaks no rule but of polls
-command_keeps : (limits : RuleLimits) (facts : Facts) (code : ℕ) (absent : Bool) (rule : Rule) → breaks_within limits facts (seen.Command code absent) rule ≡ false
+pub command_keeps : (limits : RuleLimits) (facts : Facts) (code : ℕ) (absent : Bool) (rule : Rule) → breaks_within limits facts (seen.Command code absent) rule ≡ false
 command_keeps limits facts code absent rule = refl
 
 -- ---- what is known below it
 
 -- where another command is passed over
-facts_passed : (skips : Skips) (facts : Facts) (awaited next polled : Option ℕ) (answered : Bool) → skips_frame skips true ≡ true
+pub facts_passed : (skips : Skips) (facts : Facts) (awaited next polled : Option ℕ) (answered : Bool) → skips_frame skips true ≡ true
     → KnowsFacts skips facts awaited polled answered → KnowsFacts skips facts next polled answered
 facts_passed Nothing facts awaited next polled answered over k = absurd (cc over)
 facts_passed ToCommand facts awaited next polled answered over k = absurd (cc over)
 facts_passed ToPoll facts awaited next polled answered over k = k
 
 -- and where it is taken
-facts_taken : (skips : Skips) (facts : Facts) (awaited polled : Option ℕ) (answered : Bool) (code : ℕ) (absent : Bool) → skips_frame skips true ≡ false
+pub facts_taken : (skips : Skips) (facts : Facts) (awaited polled : Option ℕ) (answered : Bool) (code : ℕ) (absent : Bool) → skips_frame skips true ≡ false
     → KnowsFacts skips facts awaited polled answered → AgreesLate (facts_with facts (seen.Command code absent)) (Some code) polled answered
 facts_taken Nothing facts awaited polled answered code absent over k = record { awaits = refl; polls = k.polls; answers = k.answers; none = k.none }
 facts_taken ToCommand facts awaited polled answered code absent over k = record {

@@ -1,6 +1,5 @@
 -- The CPU's end hears an answer that is no block answer, in time or late: the judge that leaves late answers out finds no breach.
-use Rattle.fio_ends.proofs.Names.{◌≡◌, ◌∙◌, ◌+◌, ◌==◌, inl, inr, ℕ, Bool, true, false, List, Option, Some, None, refl, ap, sym, subst, arith, if◌then◌else◌, Checker, Facts, Machine, MadeBlock, Nothing, Rule, RuleLimits, SentFrame, Settings, Skips, ToCommand, ToPoll, after_delivered_block, after_delivery_to_cpu, answer_in, block_in, blocks_of, breaks_within, checker_below_breach, facts_with, is_some_and, life_of, observation_in}
-use Rattle.fio_check.specs.Checkers.{skips_frame}
+use Rattle.fio_ends.proofs.Names.{◌≡◌, ◌∙◌, ◌+◌, inl, inr, ℕ, Bool, true, false, List, Option, Some, None, refl, ap, sym, subst, if◌then◌else◌, Checker, Facts, Machine, MadeBlock, Nothing, Rule, RuleLimits, SentFrame, Settings, after_delivered_block, after_delivery_to_cpu, answer_in, block_in, blocks_of, breaks_within, checker_below_breach, facts_with, life_of, observation_in}
 use Rattle.fio_check.specs.LateAnswers.{awaits, late_below_answer, late_with, lateness_of}
 use Rattle.fio_check.specs.LogJudges.{is_rule_of_late}
 use Rattle.fio_check.specs.declared.late_answers.LateAnswers.{LateAnswers}
@@ -11,27 +10,8 @@ use Rattle.fio_check.specs.declared.outcome.LogPlace.TheVariants.{Cpu}
 use Rattle.fio_check.specs.declared.rules.Rule.TheVariants as tried
 use Rattle.fio_ends.proofs.Hears.{is_asked, no_block_said}
 use Rattle.fio_ends.proofs.LateRules.{Holds, Takes, may_be_late}
-use Rattle.fio_ends.proofs.LateKnown.{AgreesLate, KnownLate, KnownOf, KnowsFacts, found_late, with_frame}
-
--- ---- tests
-
--- the latest command waits for an answer of a type
-pub awaits_is : (awaited : Option ℕ) (code : ℕ) → is_some_and awaited (λ a. a == code) ≡ true → awaited ≡ Some code
-awaits_is awaited code is = grind arith
-
--- where an answer is passed over
-facts_passed : (skips : Skips) (facts : Facts) (awaited next polled : Option ℕ) (answered : Bool) → skips_frame skips false ≡ true
-    → KnowsFacts skips facts awaited polled answered → KnowsFacts skips facts next polled answered
-facts_passed Nothing facts awaited next polled answered over k = absurd (cc over)
-facts_passed ToCommand facts awaited next polled answered over k = k
-facts_passed ToPoll facts awaited next polled answered over k = k
-
--- a checker that takes one judges each frame
-pub facts_agree : (skips : Skips) (facts : Facts) (awaited polled : Option ℕ) (answered : Bool) → skips_frame skips false ≡ false
-    → KnowsFacts skips facts awaited polled answered → AgreesLate facts awaited polled answered
-facts_agree Nothing facts awaited polled answered over k = k
-facts_agree ToCommand facts awaited polled answered over k = absurd (cc over)
-facts_agree ToPoll facts awaited polled answered over k = absurd (cc over)
+use Rattle.fio_ends.proofs.LateKnown.{KnownLate, KnownOf, found_late, with_frame}
+use Rattle.fio_ends.proofs.LateTests.{awaits_is, facts_agree, facts_passed}
 
 -- ---- an answer that is no block answer
 
