@@ -1,1 +1,0 @@
--- What the reader of answers reports of octets, as what the CPU hears in them.
