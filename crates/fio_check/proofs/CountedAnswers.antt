@@ -122,28 +122,34 @@ next-status events place time octets flags receive transmit stamp here isnt is =
     (refl)
     ∙ sym (after-answer (counts_at events place) time octets (answers.Status flags receive transmit stamp) isnt is)
 
-next-block_again : (events : List CountedEvent) (place : ℕ) (time : Option ℕ) (octets : List ℕ) (answer : Answer) (block : Block)
-    → slice_get events place ≡ Some (Timed time octets)
-    → command_in octets ≡ None
-    → answer_in octets ≡ Some (answer)
-    → block_heard (Heard answer) ≡ Some block
-    → poll_waiting (Heard answer) ≡ Some false
-    → reset_heard (Heard answer) ≡ None
-    → ((counts : LogCounts) → counted_answer_of counts answer ≡ counted_block counts block.number block.entries block.status)
-    → is_sent_again (latest_counted block_heard events place) block ≡ true
-    → counts_at events (suc place) ≡ counts_with (counts_at events place) time octets
-next-block_again events place time octets answer block here isnt is heard ends no-reset does again =
-    counts-same (counts_at events (suc place)) (record (after (counts_at events place) (answer_code answer)) { waits = 0; block = block.number; has_block = 1 })
+-- the counts after a block answer, but for what it has beyond one that is sent again
+next-block_with : (events : List CountedEvent) (place : ℕ) (time : Option ℕ) (octets : List ℕ) (answer : Answer) (block : Block)
+    → slice_get events place ≡ Some (Timed time octets) → command_in octets ≡ None → answer_in octets ≡ Some answer
+    → block_heard (Heard answer) ≡ Some block → poll_waiting (Heard answer) ≡ Some false → reset_heard (Heard answer) ≡ None
+    → (next : LogCounts) → (counts_at events (suc place)).marks ≡ next.marks → (counts_at events (suc place)).entries ≡ next.entries
+    → (counts_at events (suc place)).inputs ≡ next.inputs → (counts_at events (suc place)).fills ≡ next.fills
+    → counts_at events (suc place)
+    ≡ record (after (counts_at events place) (answer_code answer)) {
+      waits = 0;
+      block = block.number;
+      has_block = 1;
+      marks = next.marks;
+      entries = next.entries;
+      inputs = next.inputs;
+      fills = next.fills;
+    }
+next-block_with events place time octets answer block here isnt is heard ends no-reset next marks entries inputs fills =
+    counts-same (counts_at events (suc place)) (record (after (counts_at events place) (answer_code answer)) { waits = 0; block = block.number; has_block = 1; marks = next.marks; entries = next.entries; inputs = next.inputs; fills = next.fills })
     (rw (here, isnt, is) (sym (more-counted _)))
     (rw (here, isnt, is) (ap counted (same _)))
     (rw (here, isnt, is) (ap counted (same _)))
     (rw (here, isnt, is) (ap counted (same _)))
-    (rw (here, isnt, is, heard, again) (ap counted (same _)))
-    (rw (here, isnt, is, heard, again) (ap counted (same _)))
+    marks
+    entries
     (rw (here, isnt, is, no-reset) (ap counted (same _)))
     (rw (here, isnt, is) (sym (raised-table 256 (answer_code answer) _)))
-    (rw (here, isnt, is, heard, again) (table-same 128 _ _ (λ i. same _)))
-    (rw (here, isnt, is, heard, again) (table-same 256 _ _ (λ i. same _)))
+    inputs
+    fills
     (rw (here, isnt, is) refl)
     (rw (here, isnt, is) refl)
     (rw (here, isnt, is) refl)
@@ -157,46 +163,6 @@ next-block_again events place time octets answer block here isnt is heard ends n
     (rw (here, isnt, is, no-reset) (ap (λ first. bit_of (unwrap_or first false)) (or-none (earliest_above (said_at reset_heard events) place))))
     (rw (here, isnt, is, no-reset) refl)
     (refl)
-    ∙ sym (after-answer (counts_at events place) time octets answer isnt is ∙ does (after (counts_at events place) (answer_code answer))
-    ∙ rw (again-same block.status block.number (latest_counted block_heard events place) ∙ again) refl)
-
-next-block_new : (events : List CountedEvent) (place : ℕ) (time : Option ℕ) (octets : List ℕ) (answer : Answer) (block : Block)
-    → slice_get events place ≡ Some (Timed time octets)
-    → command_in octets ≡ None
-    → answer_in octets ≡ Some (answer)
-    → block_heard (Heard answer) ≡ Some block
-    → poll_waiting (Heard answer) ≡ Some false
-    → reset_heard (Heard answer) ≡ None
-    → ((counts : LogCounts) → counted_answer_of counts answer ≡ counted_block counts block.number block.entries block.status)
-    → is_sent_again (latest_counted block_heard events place) block ≡ false
-    → counts_at events (suc place) ≡ counts_with (counts_at events place) time octets
-next-block_new events place time octets answer block here isnt is heard ends no-reset does again =
-    counts-same (counts_at events (suc place)) (counted_entries (record (after (counts_at events place) (answer_code answer)) { waits = 0; block = block.number; has_block = 1 }) block.entries block.status)
-    (rw (here, isnt, is) (sym (more-counted _)))
-    (rw (here, isnt, is) (ap counted (same _)))
-    (rw (here, isnt, is) (ap counted (same _)))
-    (rw (here, isnt, is) (ap counted (same _)))
-    (rw (here, isnt, is, heard, again) (sym (marks-next _ (says_lost block.status))))
-    (rw (here, isnt, is, heard, again) (sym (mod-add-mod _ (2 ^ 64) (length block.entries))))
-    (rw (here, isnt, is, no-reset) (ap counted (same _)))
-    (rw (here, isnt, is) (sym (raised-table 256 (answer_code answer) _)))
-    (rw (here, isnt, is, heard, again) (sym (raised_by-table 128 _ block.entries)))
-    (rw (here, isnt, is, heard, again) (sym (raised-table 256 (length block.entries % 256) _)))
-    (rw (here, isnt, is) refl)
-    (rw (here, isnt, is) refl)
-    (rw (here, isnt, is) refl)
-    (rw (here, isnt, is) (awaited-next place (answer_code answer) (latest_above (said_at code_sent events) place) (latest_above (λ above. said_at (command_waiting (latest_counted code_sent events above)) events above) place) (waiting-found events place)))
-    (rw (here, isnt, is) refl)
-    (rw (here, isnt, is) refl)
-    (rw (here, isnt, is, ends) refl)
-    (rw (here, isnt, is, heard) refl)
-    (rw (here, isnt, is, heard) refl)
-    (rw (here, isnt, is, no-reset) refl)
-    (rw (here, isnt, is, no-reset) (ap (λ first. bit_of (unwrap_or first false)) (or-none (earliest_above (said_at reset_heard events) place))))
-    (rw (here, isnt, is, no-reset) refl)
-    (refl)
-    ∙ sym (after-answer (counts_at events place) time octets answer isnt is ∙ does (after (counts_at events place) (answer_code answer))
-    ∙ rw (again-same block.status block.number (latest_counted block_heard events place) ∙ again) refl)
 
 pub next-block : (events : List CountedEvent) (place : ℕ) (time : Option ℕ) (octets : List ℕ) (answer : Answer) (block : Block)
     → slice_get events place ≡ Some (Timed time octets) → command_in octets ≡ None → answer_in octets ≡ Some answer
@@ -205,9 +171,21 @@ pub next-block : (events : List CountedEvent) (place : ℕ) (time : Option ℕ) 
     → (again : Bool) → is_sent_again (latest_counted block_heard events place) block ≡ again
     → counts_at events (suc place) ≡ counts_with (counts_at events place) time octets
 next-block events place time octets answer block here isnt is heard ends no-reset does true again =
-    next-block_again events place time octets answer block here isnt is heard ends no-reset does again
+    next-block_with events place time octets answer block here isnt is heard ends no-reset (record (after (counts_at events place) (answer_code answer)) { waits = 0; block = block.number; has_block = 1 })
+    (rw (here, isnt, is, heard, again) (ap counted (same _)))
+    (rw (here, isnt, is, heard, again) (ap counted (same _)))
+    (rw (here, isnt, is, heard, again) (table-same 128 _ _ (λ i. same _)))
+    (rw (here, isnt, is, heard, again) (table-same 256 _ _ (λ i. same _)))
+    ∙ sym (after-answer (counts_at events place) time octets answer isnt is ∙ does (after (counts_at events place) (answer_code answer))
+    ∙ rw (again-same block.status block.number (latest_counted block_heard events place) ∙ again) refl)
 next-block events place time octets answer block here isnt is heard ends no-reset does false again =
-    next-block_new events place time octets answer block here isnt is heard ends no-reset does again
+    next-block_with events place time octets answer block here isnt is heard ends no-reset (counted_entries (record (after (counts_at events place) (answer_code answer)) { waits = 0; block = block.number; has_block = 1 }) block.entries block.status)
+    (rw (here, isnt, is, heard, again) (sym (marks-next _ (says_lost block.status))))
+    (rw (here, isnt, is, heard, again) (sym (mod-add-mod _ (2 ^ 64) (length block.entries))))
+    (rw (here, isnt, is, heard, again) (sym (raised_by-table 128 _ block.entries)))
+    (rw (here, isnt, is, heard, again) (sym (raised-table 256 (length block.entries % 256) _)))
+    ∙ sym (after-answer (counts_at events place) time octets answer isnt is ∙ does (after (counts_at events place) (answer_code answer))
+    ∙ rw (again-same block.status block.number (latest_counted block_heard events place) ∙ again) refl)
 
 pub next-answer : (events : List CountedEvent) (place : ℕ) (time : Option ℕ) (octets : List ℕ) (answer : Answer)
     → slice_get events place ≡ Some (Timed time octets)
