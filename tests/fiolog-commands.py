@@ -351,7 +351,7 @@ def fault_of_following():
 
 
 def fault_of_answers(above, *words):
-    """The same below so many rounds."""
+    """The same below this many rounds."""
     command = started('decode', '-q', *words, stderr=None)
     try:
         for number in range(256 - above, 256):

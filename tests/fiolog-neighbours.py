@@ -20,7 +20,7 @@ LINKS = {
     'ids and counts': ('{0}  can0  {1}   [{4}]  {2}', '{0}  can0  6F2   [{4}]  {2}', '1A0 1A1'),
 }
 
-# Identifiers that are hexadecimal numbers tell lines apart only if the forms are learnt from lines of both: below the first looks the
+# Identifiers that are hexadecimal numbers distinguish lines only if the forms are learnt from lines of both: below the first looks the
 # frames of a neighbour are read as those of the link.
 NOT_TOLD = 'two ids of a bus', 'ids and counts'
 
@@ -88,7 +88,7 @@ def fault_of_not_told(own, neighbour):
 
 
 def fault_of(own, neighbour, allowed):
-    """A log of a link and its neighbour gives the frames of the link, but for as many as are allowed, and accuses nobody."""
+    """A log of a link and its neighbour has the frames of the link, but for the number allowed, and accuses nobody."""
     lines, frames = log_of(own, neighbour, allowed)
     found, _, broken = read(lines)
     strange = [octets.hex() for octets in found if octets not in frames]
@@ -145,7 +145,7 @@ def check_types(check):
 
 
 def sized(draw, count, size):
-    """What a link says whose module has so many octets of inputs, and of outputs: each message, and whether it is read. Those of eight are
+    """What a link says whose module has this many octets of inputs, and of outputs: each message, and whether it is read. Those of eight are
     of the proved ends."""
     from fio2070 import Module, Poller
     module, poller = Module(), Poller(draw.randrange(256))

@@ -1,6 +1,6 @@
 #!/usr/bin/env -S python3 -B
 """What the reader of logs finds in logs of other tools, by `fio2070.LogReader`: each form of tests/support/loggers.py, with
-frames of the protocol's tables and with random ones; logs of strangers; who sent what, and why lines give no frame; damage, noise and
+frames of the protocol's tables and with random ones; logs of strangers; who sent what, and why lines have no frame; damage, noise and
 other text; and a reader that has read other logs says the same. Last line: `N passed, M failed`."""
 
 import random
@@ -14,7 +14,7 @@ from support.other_text import BY_CHANCE, other_text
 from support.sessions import SESSION, random_session, timed
 from support.strangers import PASSED, READ
 
-# Lines that give no frame, and the reasons of their verdicts.
+# Lines without a frame, and the reasons of their verdicts.
 REASONS = {
     'words of loss': ('07:15:02 3 frames lost\nRX buffer OVERRUN\nrx_dropped: 9\n[warn] Overflow, octets missing\nmissed an answer\nTX FIFO full\n'
                       'truncated\n* loss *\nsuppressed by a filter\n', ['loss'] * 9),

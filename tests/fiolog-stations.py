@@ -1,7 +1,7 @@
 #!/usr/bin/env -S python3 -B
-"""Logs of several stations on one line: what is said of each is what is said of a log with its frames alone, whatever stands between
-them. The stations are proved modules, of which some get planted faults; support/mixes.py mixes their lines, and cuts some. So many mixes are
-made, from a first seed on. Last line: `N passed, M failed`."""
+"""Logs of several stations on one line: what is said of each is what is said of a log with its frames alone, whatever is between
+them. The stations are proved modules, of which some get planted faults; support/mixes.py mixes their lines, and cuts some. Options: how many
+mixes are made, and the first seed. Last line: `N passed, M failed`."""
 
 from support.check import Check
 from support.fiolog import use_library

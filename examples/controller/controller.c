@@ -32,7 +32,7 @@ static const char help[] =
     "  -o, --on 0|1            the state of an input that is a detector's on\n"
     "  -c, --channel IN=CH     the detector's channel of an input, else none; without any, input 0 is channel 1, and so on\n"
     "  -s, --seconds N         end after this time\n"
-    "  -w, --wait N            at the end, wait so many seconds for the last answer, 2 by default\n"
+    "  -w, --wait N            at the end, wait N seconds for the last answer, 2 by default\n"
     "A serial device has the speed that `stty` has set.\n"
     "FILE.csv has a row for each transition: the time, the input, its state and the module's millisecond; and a row where some\n"
     "are missing (`gap`) or where the module was started anew (`restart`).\n";

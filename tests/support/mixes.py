@@ -5,7 +5,7 @@ from typing import List, NamedTuple
 
 from support.line_model import line_of, with_check
 
-# How a frame is written: with its flags, its check or neither, behind its header.
+# How a frame is written: with its flags, its check or neither, after its header.
 FORMS = {
     'flags': lambda header, octets: line_of(octets, *header).hex(' ').upper(),
     'flags, without blanks': lambda header, octets: line_of(octets, *header).hex(),

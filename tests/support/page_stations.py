@@ -58,7 +58,7 @@ def check_stations(check, browser, _):
 
 
 def of_size(size):
-    """A log of a module with so many octets of inputs, and of outputs."""
+    """A log of a module with this many octets of inputs, and of outputs."""
     return ''.join('> 36%02x\n< b6%02x0000%08x\n> 35\n< b5%s%08x\n> 37%s\n< b700\n' % (number, number, number, 'f0' * size, number, '00' * 2 * size)
                    for number in range(6))
 

@@ -43,7 +43,7 @@ below-own below none (suc n) (frame ∷ frames) = below-own below none n frames
 
 -- ---- what is said of items
 
--- Of blank lines nothing is said; of a damaged line what is said of each one; of a line the same wherever it stands; and of other
+-- Of blank lines nothing is said; of a damaged line what is said of each one; of a line the same wherever it is; and of other
 -- items the same above items of which the same is said.
 pub record Hears {S R : Type 0} (says : S → List BatchItem → R) : Type 0 where
   pub blank : (verdict : LogVerdict) (state : S) (items : List BatchItem)

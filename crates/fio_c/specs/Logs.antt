@@ -149,8 +149,8 @@ pub record HasForms (before : Telling) (count : ℕ) (after : Telling) : Type 0 
   pub same : after ≡ before
   pub few : count ≤ 16
 
--- A reader has learnt so many forms of sample lines. It learns none once a line of a log is read, or if a log is one of the
--- program's own texts; whatever it learns, nothing changes of what it has read and told.
+-- A reader has learnt this many forms of sample lines. It learns none once a line of a log is read, or if a log is one of the
+-- program's own texts; whatever it learns, nothing changes of what it has read and returned.
 pub record HasLearnt (before : Telling) (count : ℕ) (after : Telling) : Type 0 where
   pub same : HasReadAsBefore before after
   pub log : (texts : Texts) → HasReadOf texts before → HasReadOf texts after

@@ -13,7 +13,7 @@ use Rattle.fio_c.specs.Logs.{Content, content_of, flat_told}
 use Rattle.fio_c.specs.TakenLines.{taken_items, taken_of}
 use Rattle.fio_c.specs.Told.{Told}
 
--- what it takes of lines that a reader told, each of them with its number in the mask: nothing of those that it does not take
+-- what it takes of lines that a reader returned, each of them with its number in the mask: nothing of those that it does not take
 abbrev pub JoinsTaken : Type 0
 JoinsTaken = (lines : List (ℕ × Told))
     → taken_items (map (λ line. line.0) lines) (content_of (map (λ line. line.1) lines))

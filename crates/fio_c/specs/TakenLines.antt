@@ -4,7 +4,7 @@ use Rattle.fio_c.specs.BatchItems.{BatchItem, frame_items}
 use Rattle.fio_c.specs.Logs.{Content}
 use Rattle.fio_c.specs.declared.log_batch.LogVerdict.{LogVerdict}
 
--- a line wherever it stands, as it is without its number
+-- a line wherever it is, as it is without its number
 abbrev pub anywhere : LogVerdict → LogVerdict
 anywhere verdict = record verdict { line = 0; places = 0 }
 

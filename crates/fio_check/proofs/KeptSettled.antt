@@ -140,7 +140,3 @@ pub with_items_more : (facts : ContentFacts) (item : InputItem) (rest : List Inp
     → ((input : ℕ) → inputs input ≡ input_with_earlier ((with_items facts rest).inputs input) (item_for input (item ∷ [])))
     → (record facts { inputs = inputs }) ≡ with_items facts (item ∷ rest)
 with_items_more facts item rest inputs unnamed added = grind (arith, fun_ext, item-more)
-
--- without items
-pub no_items : (facts : ContentFacts) → facts ≡ with_items facts []
-no_items facts = grind (arith, fun_ext)

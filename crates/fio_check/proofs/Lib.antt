@@ -41,6 +41,7 @@ pub mod BothFind
 pub mod EventByEvent
 pub mod CountedTables
 pub mod CountedWaits
+pub mod CountedAnswers
 pub mod CountedLogs
 pub mod LateFrames
 pub mod SignsOfLogs

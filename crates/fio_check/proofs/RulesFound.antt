@@ -1,8 +1,8 @@
 -- Which rule an event breaks: an entry that does not come after the one above it, an entry with the state that its input
 -- had, and states that differ from the record.
-use Rattle.fio_check.proofs.Names.{ap₂, ◌≡◌, ◌<◌, ◌∙◌, ℕ, Bool, true, false, [], ◌∷◌, Option, Some, None, refl, ap, arith, find, if◌then◌else◌, is_some, nat_lt, not, eqb_tells, option_map, option_or, ◌==◌, nat_tests, Entry, ContentFacts, Seen, is_set, ContentEvent, Recorded, is_some_and, ContentRule, INPUTS, Order, TimedState, beq, breaks_entry, comes_after, comes_to, differing, differs, rule_broken_by, tells_of, ◌&&◌, ◌^◌, ◌||◌}
+use Rattle.fio_check.proofs.Names.{ap₂, ◌≡◌, ◌<◌, ◌∙◌, ℕ, Bool, true, false, Option, Some, None, refl, ap, arith, if◌then◌else◌, is_some, nat_lt, not, eqb_tells, option_map, option_or, ◌==◌, nat_tests, Entry, ContentFacts, Seen, is_set, ContentEvent, Recorded, is_some_and, ContentRule, INPUTS, Order, TimedState, beq, breaks_entry, comes_after, comes_to, differing, differs, rule_broken_by, tells_of, ◌&&◌, ◌^◌, ◌||◌}
 use Rattle.fio_check.specs.ContentRules.{broken_state, first_differing, state_breach}
-use Rattle.fio_check.specs.declared.content_rules.ContentRule.TheVariants.{Fresh, Alternate, Apart, Ignored, State}
+use Rattle.fio_check.specs.declared.content_rules.ContentRule.TheVariants.{Fresh, Alternate}
 use Rattle.fio_check.proofs.Verdicts.{none_said, some_said}
 
 -- ---- the first of the rules of entries
@@ -17,10 +17,6 @@ alternate-first order fresh alternate rest broken = grind arith
 none-first : (order fresh alternate : Bool) (rest : Option ContentRule) → (if order then Some Order else (if fresh then Some Fresh else (if alternate then Some Alternate else rest))) ≡ None
     → (order ≡ false) × (alternate ≡ false)
 none-first order fresh alternate rest none = grind arith
-
--- the rules that are tried after alternate
-abbrev further : ContentFacts → ℕ → TimedState → Option ContentRule
-further facts input entry = find (breaks_entry facts input entry) (Apart ∷ Ignored ∷ State ∷ [])
 
 or-some : {A : Type 0} (one other : Option A) → is_some other ≡ true → is_some (option_or one other) ≡ true
 or-some (Some x) other is = refl

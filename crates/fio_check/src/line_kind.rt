@@ -14,15 +14,15 @@ pub enum LogLineKind {
     Frames,
     /// The line has frames, and something that may be of others, or the message above breaks off at it.
     FramesAndMore,
-    /// A form has the line, and it gives no frame.
+    /// A form has the line, which has no frame.
     Damaged,
     /// The line is longer than what is kept.
     TooLong,
-    /// The line gives no frame, and the message above breaks off at it.
+    /// The line has no frame, and the message above breaks off at it.
     BreakingOff,
     /// No form has the line, and it may have held a frame.
     Possible,
-    /// The line has no octets, and its words speak of loss.
+    /// The line has no octets, and its text speaks of loss.
     Loss,
     /// The line is the heading of a log or of a part of one.
     Heading,

@@ -34,7 +34,7 @@ module _ (bus : Bus) (is : IsBus bus) where
       written_noise (bus.station station).framing.own (bus.station anothers.sender).framing (is.framing anothers.sender anothers.is_on_bus)
       (is.apart anothers.sender station anothers.is_on_bus within anothers.is_other) sender.0 sender.1 (line anothers.sender) anothers.number part sender.2 anothers.is_written
 
-  -- what a line may bring to a station, it may bring if the station is alone
+  -- what a line may carry to a station, it may carry if the station is alone
   bring_alone : (line : ℕ → WireLine) (station : ℕ) → HasFrames line → station < bus.count → (brought : Brought)
       → MayBringTo bus line station brought → MayBring (bus.station station).framing.own (line station) brought
   bring_alone line station has within (Arrives (Octet octet)) may =

@@ -1,4 +1,4 @@
--- A worked run of two stations over lines that bring the same to all, by computation: each is configured and polled, and answers.
+-- A worked run of two stations over lines that carry the same to all, by computation: each is configured and polled, and answers.
 use Rattle.fio_ends.proofs.Names.{◌≡◌, ◌∙◌, ◌-◌, ◌^◌, ◌<◌, ◌≤◌, ℕ, false, List, [], ◌∷◌, ◌++◌, Some, None, refl, ap, sym, subst, arith, Polling, Event, Entry, FLAG, Octet, Scan, Send, frame_of, stuffed}
 use Rattle.fio_message.specs.declared.commands.Command.TheVariants as commands
 use Rattle.fio_message.specs.Bits.{is_set}

@@ -1,4 +1,4 @@
--- Lines that bring the same to all make a bus.
+-- Lines that carry the same to all make a bus.
 use Rattle.fio_ends.proofs.Names.{◌≡◌, ◌∙◌, ◌<◌, inl, inr, ℕ, Bool, true, false, List, [], ◌∷◌, ◌++◌, map, Option, Some, None, refl, sym, subst, same_Some, if◌then◌else◌, ◌==◌, eqb_tells, Event, Arrives, AtCpu, AtModule, ComesWhole, EndOf, FLAG, Happens, HasNoFlag, LeadOverLines, Loss, Octet, WireLine, WiredEnds, frame_of, item_numbered, part_brought, stuffed}
 use Rattle.fio_wire.proofs.Sent.{free_of_flags}
 use Rattle.fio_ends.specs.Lines.{MayHappen}
@@ -13,7 +13,7 @@ same_part common mine part (inl none) is = let no : None ≡ Some part = sym non
 same_part common mine part (inr same) is = sym same ∙ is
 
 module _ (bus : Bus) where
-  -- what a line brings to all, it may bring to each
+  -- what a line carries to all, it may carry to each
   brings : (line : ℕ → WireLine) → IsShared line → (station : ℕ) → station < bus.count → (brought : BroughtToAll)
       → MayBringToAll bus line brought → MayBringTo bus line station (brought_to station brought)
   brings line is station within (ArrivesAtAll (Octet octet)) may = λ flag part same. inl (may flag station within part same)

@@ -1,4 +1,4 @@
--- What the receivers of a line that brings the same to all have of the present part: the same octets, or nothing.
+-- What the receivers of a line that carries the same to all have of the present part: the same octets, or nothing.
 use Rattle.fio_ends.proofs.Names.{◌≡◌, ◌∙◌, ◌⊎◌, inl, inr, ℕ, Bool, true, false, List, [], ◌∷◌, ◌++◌, Option, Some, None, refl, ap, if◌then◌else◌, ◌==◌, option_map, Answer, Event, Restart, Framing, Settings, Arrives, EndOf, FLAG, Happens, Octet, Loss, WireLine, WiredEnds, after_message, after_receipt, message_heard, line_after, part_after, reply_to, with_answer_written}
 use Rattle.fio_wire.specs.Laws.{Arrival}
 use Rattle.fio_ends.specs.Lines.{after_happening, arrival_of}

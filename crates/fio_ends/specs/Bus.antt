@@ -73,7 +73,7 @@ pub record IsAnothers (bus : Bus) (line : ℕ → WireLine) (station : ℕ) (par
   pub number : ℕ
   pub is_written : item_numbered (line sender).written number ≡ Some (FLAG ∷ part ++ FLAG ∷ [])
 
--- What a line may bring to a station: any octets, if between two flags they are its own frame, whole and in order, or another
+-- What a line may carry to a station: any octets, if between two flags they are its own frame, whole and in order, or another
 -- station's, whole, or noise. That another's frame is noise is not asked.
 abbrev pub MayBringTo : Bus → (ℕ → WireLine) → ℕ → Brought → Type 0
 MayBringTo bus line station (Arrives (Octet octet)) =

@@ -67,7 +67,7 @@ pub record SeenAbove : Type 0 where
   pub lost : Bool
   -- a line above speaks of loss
   pub warned : Bool
-  -- so many loads of the counter may be under way at the first command that is logged in this part, if it has not begun above
+  -- this many loads of the counter may be under way at the first command that is logged in this part, if it has not begun above
   pub begins : Option ℕ
 
 -- above the first line
@@ -123,7 +123,7 @@ starts_begun Begun = true
 starts_begun other = false
 
 -- What the CPU's end logs of a prompt run, from the start of both ends or from any event on, though any frames may be missing where
--- the place is lost, and other lines may stand anywhere. The judge's limits suit the module; few loads of the counter are under way
+-- the place is lost, and other lines may be anywhere. The judge's limits suit the module; few loads of the counter are under way
 -- where a part of the log begins, and below a line that speaks of loss; and all that is compared is near.
 pub record IsSeenLog (begun : Bool) (settings : Settings) (limits : RuleLimits) (first : ℕ) (before : List Event)
     (steps : List SeenStep) (machine last : Machine) : Type 0 where

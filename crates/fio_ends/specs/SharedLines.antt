@@ -1,4 +1,4 @@
--- A bus of two lines, one from the CPU to all modules and one from all modules to the CPU: each brings the same to all its
+-- A bus of two lines, one from the CPU to all modules and one from all modules to the CPU: each carries the same to all its
 -- receivers.
 use Rattle.std.specs.Prelude.{◌≡◌, ◌≢◌, ℕ, ◌<◌, ◌≤◌, ◌==◌, if◌then◌else◌, List, [], ◌∷◌, map, Some, None}
 use Rattle.fio_link.specs.declared.event.Event.{Event}
@@ -14,19 +14,19 @@ use Rattle.fio_ends.specs.BusRuns.{bus_of}
 
 -- ---- What happens
 
--- what a line brings to all its receivers: an octet or the report that one was lost; or the flag that ends the frame with this
+-- what a line carries to all its receivers: an octet or the report that one was lost; or the flag that ends the frame with this
 -- number of a station, which has come whole
 pub data BroughtToAll : Type 0 where
   ArrivesAtAll : (arrival : Arrival) → BroughtToAll
   EndOfFrame : (sender number : ℕ) → BroughtToAll
 
--- something happens at the ends of one station, or a line brings something to all modules, or to all decoders of the CPU
+-- something happens at the ends of one station, or a line carries something to all modules, or to all decoders of the CPU
 pub data SharedEvent : Type 0 where
   HappensAt : (station : ℕ) (event : Event) → SharedEvent
   AtModules : (brought : BroughtToAll) → SharedEvent
   AtDecoders : (brought : BroughtToAll) → SharedEvent
 
--- what a line brings to one station: for the others the end of a frame is a flag as any
+-- what a line carries to one station: for the others the end of a frame is a flag as any
 abbrev pub brought_to : ℕ → BroughtToAll → Brought
 brought_to station (ArrivesAtAll arrival) = Arrives arrival
 brought_to station (EndOfFrame sender number) = if station == sender then EndOf number else Arrives (Octet FLAG)
@@ -39,7 +39,7 @@ at_each (AtDecoders brought) = λ station. Some (AtCpu (brought_to station broug
 
 -- ---- What may come
 
--- What a line may bring to all: any octets, if between two flags they are a frame of some station, whole and in order, or noise
+-- What a line may carry to all: any octets, if between two flags they are a frame of some station, whole and in order, or noise
 -- to each. Nothing is asked of the other stations where a frame ends.
 abbrev pub MayBringToAll : Bus → (ℕ → WireLine) → BroughtToAll → Type 0
 MayBringToAll bus line (ArrivesAtAll (Octet octet)) =
@@ -79,12 +79,12 @@ HeadlineOverSharedLines =
 
 -- ---- What the premise leaves open
 
--- what a line brings for a part: its octets one by one, and what ends it
+-- what a line carries for a part: its octets one by one, and what ends it
 abbrev pub part_to_all : (BroughtToAll → SharedEvent) → List ℕ → BroughtToAll → List SharedEvent
 part_to_all at [] ending = at ending ∷ []
 part_to_all at (octet ∷ part) ending = at (ArrivesAtAll (Octet octet)) ∷ part_to_all at part ending
 
--- Directly after a flag a line may bring to all each frame of each station that was written to it whole, if none of that station
+-- Directly after a flag a line may carry to all each frame of each station that was written to it whole, if none of that station
 -- after it came before.
 abbrev pub EachFrameMayComeToAll : (WiredEnds → WireLine) → (BroughtToAll → SharedEvent) → Type 0
 EachFrameMayComeToAll line_of at =

@@ -274,7 +274,7 @@ pub fn buses_exist()
     ensures { BusesExist }
 {}
 
-/// Two lines that bring the same to all are a bus, though nothing is asked of the other stations where a frame of one ends.
+/// Two lines that carry the same to all are a bus, though nothing is asked of the other stations where a frame of one ends.
 #[tactic(auto, using(crate::proofs::SharedLines::shared_lines_are_a_bus))]
 pub fn shared_lines_are_a_bus()
     ensures { SharedLinesAreABus }
@@ -286,7 +286,7 @@ pub fn headline_holds_over_shared_lines()
     ensures { HeadlineOverSharedLines }
 {}
 
-/// Directly after a flag such a line may bring each frame of each station that was written to it whole, if none of that station
+/// Directly after a flag such a line may carry each frame of each station that was written to it whole, if none of that station
 /// after it came before.
 #[tactic(auto, using(crate::proofs::SharedLines::frames_to_all_modules, crate::proofs::SharedLines::frames_to_all_decoders))]
 pub fn shared_lines_may_bring_each_frame()
@@ -314,7 +314,7 @@ pub fn judge_accuses_no_maker()
 {}
 
 /// So the judge of a log accuses no right link, wherever the log was taken and whatever its lines say of senders, if it leaves no
-/// late answers out: any frames may be missing directly below lines at which the place is lost, and other lines may stand anywhere.
+/// late answers out: any frames may be missing directly below lines at which the place is lost, and other lines may be anywhere.
 #[tactic(auto, using(crate::proofs::EventLogs::log_judge_accuses_none))]
 pub fn log_judge_accuses_no_right_link()
     ensures { LogJudgeAccusesNone }

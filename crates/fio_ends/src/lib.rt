@@ -7,8 +7,8 @@
 //! transcripts (`RunRecords`), their logs and the rules on content (`ContentRuns`), what a log must fulfil for these
 //! (`ContentPremises`), logs in which lines are lost (`LinkLogs`), logs that a right link explains (`Explainable`), logs of polls,
 //! of which exactly those are accused that no right link explains (`PollLogs`), what a caller in C does with one module and one
-//! poller (`Calls`), what lines bring and both ends do (`Lines`), that this is a run (`LineRuns`), what comes at the stations of
-//! a bus (`Bus`), that each is a run (`BusRuns`), lines that bring the same to all (`SharedLines`), and logs with late answers
+//! poller (`Calls`), what lines carry and both ends do (`Lines`), that this is a run (`LineRuns`), what comes at the stations of
+//! a bus (`Bus`), that each is a run (`BusRuns`), lines that carry the same to all (`SharedLines`), and logs with late answers
 //! (`LateLogs`). The laws are the contracts of the module `laws`.
 //!
 //! # What is proved

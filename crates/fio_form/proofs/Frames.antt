@@ -10,7 +10,7 @@ use Rattle.fio_form.specs.declared.octets.TheConstants.{OCTETS}
 not_few : (octets : List ℕ) → OCTETS < length octets → nat_le (length octets) OCTETS ≡ false
 not_few octets many = grind (arith, nat_tests)
 
--- octets of which there are too many are no more if others are behind them
+-- octets of which there are too many are no more if others are after them
 pub too_many_plain : (escape : Bool) (plain octets : List ℕ) → OCTETS < length plain → option_and_then few_of (plain_from escape plain octets) ≡ None
 too_many_plain escape plain [] many = rw (not_few plain many) refl
 too_many_plain escape plain (octet ∷ octets) many = elim (cases_Bool (is_flag octet)) [

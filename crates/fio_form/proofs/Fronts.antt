@@ -136,13 +136,6 @@ taken_past piece (x ∷ text) = elim (cases_Bool (is_part piece x)) [
   | inr h ↦ rw h refl
 ]
 
-pub past_ends : (piece : Piece) (text : List ℕ) → begins_part piece (past piece text) ≡ false
-past_ends piece [] = refl
-past_ends piece (x ∷ text) = elim (cases_Bool (is_part piece x)) [
-  | inl h ↦ rw h (past_ends piece text)
-  | inr h ↦ rw h h
-]
-
 -- a piece that a text begins with
 record PieceOf (values : List ℕ) (piece : Piece) (line : List ℕ) : Type 0 where
   text : List ℕ

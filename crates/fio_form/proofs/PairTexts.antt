@@ -61,7 +61,7 @@ one_rest cycle steps rest high = elim (cases_Bool (nat_le 16 (hex_value high))) 
   | inr fits ↦ rw fits (rw (few_first (hex_value high) fits) refl)
 ]
 
--- where two characters are an octet, what is read goes on behind it
+-- where two characters are an octet, what is read goes on after it
 pub some_read : (cycle steps : List Step) (octets text : List ℕ) (high low octet : ℕ) (all : List ℕ) → octet_of_pair high low ≡ Some octet
     → octets_from Pairs cycle (Octet ∷ steps) Nothing octets (high ∷ (low ∷ text)) ≡ all
     → octets_from Pairs cycle (steps_at cycle steps text) Nothing (octets ++ octet ∷ []) text ≡ all

@@ -104,7 +104,7 @@ none_at digits a b tail is none one = none (subst (λ (gap : List ℕ). BeginsOc
 three : (a b c tail : List ℕ) → (a ++ (b ++ c)) ++ tail ≡ a ++ (b ++ (c ++ tail))
 three a b c tail = append_assoc a (b ++ c) tail ∙ ap (λ t. a ++ t) (append_assoc b c tail)
 
--- what is read of a text behind an octet, by the gaps that are left
+-- what is read of a text after an octet, by the gaps that are left
 abbrev pub read_after : Digits → List ℕ → List (List ℕ) → List (List ℕ) → List ℕ → List ℕ → List ℕ
 read_after digits first others gaps done text =
     octets_from digits (cycle_of (first ∷ others)) (steps_at (cycle_of (first ∷ others)) (steps_of first others gaps) text) Nothing done text

@@ -14,7 +14,7 @@ use Rattle.fio_form.specs.declared.message.Size.TheVariants as sizes
 abbrev Fits : (List ℕ → Option ℕ) → ℕ → List ℕ → Type 0
 Fits length_of code fields = is_length (length_of (code ∷ fields)) (1 + length fields) ≡ true
 
--- octets that begin with a message tell how long it is, or its type may have any length
+-- octets that begin with a message say how long it is, or its type may have any length
 abbrev pub Sized : List ℕ → List ℕ → Type 0
 Sized message check = (size_of (message ++ check) ≡ sizes.Any) ⊎ (size_of (message ++ check) ≡ sizes.Known (length message))
 

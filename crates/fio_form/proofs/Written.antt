@@ -1,4 +1,4 @@
--- The octets of a text stand in it from its first character to the last one of the last octet.
+-- The octets of a text are in it from its first character to the last one of the last octet.
 use Rattle.std.proofs.Common.{ℕ, ◌≡◌, ◌≢◌, Bool, true, false, List, [], ◌∷◌, ◌++◌, refl, sym, ap, subst, ◌∙◌, inl, inr}
 use Rattle.std.specs.Prelude.{◌+◌, ◌-◌, ◌*◌, ◌%◌, ◌&&◌, ◌||◌, if◌then◌else◌, nat_le, nat_lt, ◌==◌, ◌⊎◌}
 use Rattle.std.proofs.lemmas.Bool.{cases_Bool}
@@ -209,7 +209,7 @@ steps_same cycle (MaybeBlank ∷ steps) x s t =
 steps_same cycle (Octet ∷ steps) x s t = refl
 steps_same cycle (Mark mark ∷ steps) x s t = refl
 
--- there are more octets in a text: they are in a part of it, and the rest is behind that
+-- there are more octets in a text: they are in a part of it, and the rest is after that
 pub record Has (written : Digits) (cycle steps : List Step) (begun : Begun) (octets text : List ℕ) : Type 0 where
   pub first : ℕ
   pub more : List ℕ
@@ -369,7 +369,7 @@ splits written cycle (Octet ∷ steps) begun octets (x ∷ text) =
     (λ value. splits written cycle (steps_at cycle steps text) Nothing (octets ++ value ∷ []) text)
     (λ value more. splits written cycle (Octet ∷ steps) more (octets ++ value ∷ []) text)
 
--- the octets that a text begins with are those of a part of it, and nothing is left there; the rest is behind that
+-- the octets that a text begins with are those of a part of it, and nothing is left there; the rest is after that
 pub record IsSplit (written : Digits) (cycle : List Step) (text : List ℕ) : Type 0 where
   pub part : List ℕ
   pub whole : text ≡ part ++ rest_in written cycle text

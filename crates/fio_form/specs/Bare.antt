@@ -1,4 +1,4 @@
--- Lines that are nothing but octets, and what is behind octets.
+-- Lines that are nothing but octets, and what is after octets.
 use Rattle.std.specs.Prelude.{ℕ, ◌&&◌, ◌||◌, ◌==◌, nat_le, if◌then◌else◌, Bool, true, false, List, [], ◌∷◌, ◌++◌, Option, Some, None, length}
 use Rattle.fio_form.specs.Forms.{is_quotation, is_quoted, is_space_or_tab}
 use Rattle.fio_form.specs.Fronts.{past}
@@ -80,7 +80,7 @@ marks_from known marks (Octet ∷ steps) = marks_from false [] steps
 marks_from known marks (MaybeBlank ∷ steps) = marks_from true [] steps
 marks_from known marks (Mark mark ∷ steps) = if separates mark then marks_from true [] steps else marks_from known (marks ++ mark ∷ []) steps
 
--- the marks before an octet that a cycle ends with, behind a separator, as the `0x` of `, 0x`
+-- the marks before an octet that a cycle ends with, after a separator, as the `0x` of `, 0x`
 abbrev pub last_marks : List Step → List ℕ
 last_marks cycle = marks_from false [] cycle
 
@@ -95,7 +95,7 @@ abbrev pub text_or : Option (List ℕ) → List ℕ → List ℕ
 text_or None other = other
 text_or (Some text) other = text
 
--- the text of a line behind the blanks at its beginning, and the marks before an octet
+-- the text of a line after the blanks at its beginning, and the marks before an octet
 abbrev pub bare_text : List Step → List ℕ → List ℕ
 bare_text cycle line = text_or (after_marks (last_marks cycle) (past Blanks line)) (past Blanks line)
 
@@ -109,11 +109,11 @@ abbrev pub begins_quote : List ℕ → Bool
 begins_quote [] = false
 begins_quote (character ∷ text) = is_quotation character
 
--- octets, if what is behind them closes the line
+-- octets, if what is after them closes the line
 abbrev pub closed : List ℕ → List ℕ → List ℕ
 closed octets tail = if is_closing tail then octets else []
 
--- what is behind octets that a text begins with; the text itself, if they are more than there is room for
+-- what is after octets that a text begins with; the text itself, if they are more than there is room for
 abbrev pub tail_in : Digits → List Step → List ℕ → List ℕ
 tail_in digits cycle text = if nat_le (length (run_in digits cycle text)) OCTETS then rest_in digits cycle text else text
 
@@ -126,7 +126,7 @@ abbrev pub octets_quoted : List Step → List ℕ → List ℕ
 octets_quoted cycle [] = []
 octets_quoted cycle (quote ∷ text) = if is_quotation quote then octets_closed (digits.Text quote) cycle text else []
 
--- The octets of a line that has nothing else: behind blanks, marks and the quote of a text; before an end of a list, or two
+-- The octets of a line that has nothing else: after blanks, marks and the quote of a text; before an end of a list, or two
 -- blanks and any text.
 unfoldable pub bare_octets : LineForm → List ℕ → List ℕ
 bare_octets form line =
@@ -136,7 +136,7 @@ bare_octets form line =
 
 -- ---- Where they begin, and how they are written
 
--- the text behind a quote
+-- the text after a quote
 abbrev pub past_quote : List ℕ → List ℕ
 past_quote [] = []
 past_quote (quote ∷ text) = text

@@ -31,7 +31,7 @@ is_space_or_tab character = character == 32 || character == 9
 abbrev pub is_quotation : ℕ → Bool
 is_quotation character = character == 34 || character == 39
 
--- whether a character can be one of several of a piece; of a padded number: behind its blanks
+-- whether a character can be one of several of a piece; of a padded number: after its blanks
 abbrev pub is_part : Piece → ℕ → Bool
 is_part (Character mark) character = false
 is_part Decimal character = is_decimal character
@@ -67,7 +67,7 @@ is_padded (digits.Text quote) = false
 is_padded digits.Cells = false
 is_padded digits.Sextets = false
 
--- whether octets are a text up to the quote that stands before the first one
+-- whether octets are a text up to the quote before the first one
 abbrev pub is_quoted : Digits → Bool
 is_quoted digits.Pairs = false
 is_quoted digits.Short = false
@@ -150,7 +150,7 @@ are_apart inside (Octet ∷ steps) = inside && are_apart false steps
 are_apart inside (Mark mark ∷ steps) = (inside || not (is_decimal mark)) && are_apart true steps
 are_apart inside (MaybeBlank ∷ steps) = false
 
--- whether octets can be told apart: always, if each has a fixed number of digits
+-- whether octets can be distinguished: always, if each has a fixed number of digits
 abbrev pub are_separate : Digits → List Step → Bool
 are_separate digits cycle = is_fixed digits || are_apart true cycle
 

@@ -64,7 +64,7 @@ IsFew (Known size) = size ≤ 773
 IsFew Any = Unit {0}
 IsFew None = Unit {0}
 
--- whether octets of which so many begin a message of this size are not all of it
+-- whether octets of which this many begin a message of this size are not all of it
 abbrev pub is_short : Size → ℕ → Bool
 is_short Unknown count = nat_lt 0 count
 is_short (Known size) count = nat_lt count size

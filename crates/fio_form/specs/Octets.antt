@@ -37,12 +37,12 @@ abbrev pub fixed_value : Begun → ℕ
 fixed_value (Fixed value left) = value
 fixed_value other = 0
 
--- how many digits are left of so many
+-- how many digits are left of this many
 abbrev pub fixed_left : ℕ → Begun → ℕ
 fixed_left width (Fixed value left) = left
 fixed_left width other = width
 
--- what a character makes of an octet that has so many digits in a base
+-- an octet that has this many digits in a base, after one more character
 abbrev pub next_fixed : ℕ → ℕ → Begun → ℕ → NextDigit
 next_fixed base width begun character =
     if nat_le base (hex_value character) then Stop
@@ -59,7 +59,7 @@ octet_of_pair high low =
 abbrev pub number_by : Bool → ℕ → NextDigit
 number_by longer value = if longer then More (Number value) else Last value
 
--- what a character makes of a decimal number with this value
+-- a decimal number with this value, after one more character
 abbrev pub next_unsigned : ℕ → ℕ → Bool → NextDigit
 next_unsigned value character longer =
     if is_decimal character then (if nat_lt 255 (10 * value + (character - 48)) then Stop else number_by longer (10 * value + (character - 48)))
@@ -69,26 +69,26 @@ next_unsigned value character longer =
 abbrev pub negative_by : Bool → ℕ → NextDigit
 negative_by longer value = if longer || value == 0 then More (Negative value) else Last (256 - value)
 
--- what a character makes of a decimal number below 0
+-- a decimal number below 0, after one more character
 abbrev pub next_negative : ℕ → ℕ → Bool → NextDigit
 next_negative value character longer =
     if is_decimal character then (if nat_lt 128 (10 * value + (character - 48)) then Stop else negative_by longer (10 * value + (character - 48)))
     else Stop
 
--- what a character makes of an octet that is a decimal number
+-- an octet that is a decimal number, after one more character
 abbrev pub next_decimal : Begun → ℕ → Bool → NextDigit
 next_decimal Nothing character longer = if character == 45 then More (Negative 0) else next_unsigned 0 character longer
 next_decimal (Number value) character longer = next_unsigned value character longer
 next_decimal (Negative value) character longer = next_negative value character longer
 next_decimal other character longer = Stop
 
--- what a character makes of an octet that is a decimal number in a column
+-- an octet that is a decimal number in a column, after one more character
 abbrev pub next_column : Begun → ℕ → Bool → NextDigit
 next_column Nothing character longer = if character == 32 then More Nothing else next_unsigned 0 character longer
 next_column (Number value) character longer = next_unsigned value character longer
 next_column other character longer = Stop
 
--- what a character makes of an octet that is a character of a literal or an escape, up to a quote
+-- an octet that is a character of a literal or an escape, up to a quote, after one more character
 abbrev pub next_text : ℕ → Begun → ℕ → Bool → NextDigit
 next_text quote Nothing character longer = next_plain quote character
 next_text quote Escape character longer = next_escape character longer
@@ -98,7 +98,7 @@ next_text quote (Lead upper) character longer = next_lead upper character
 next_text quote (Fixed value left) character longer = next_fixed 16 4 (Fixed value left) character
 next_text quote other character longer = Stop
 
--- what a character makes of an octet that is begun; `longer`: a digit comes after it that makes the octet another one
+-- an octet that is begun, after one more character; `longer`: a digit comes after that which makes the octet another one
 abbrev pub next_in : Digits → Begun → ℕ → Bool → NextDigit
 next_in digits.Pairs begun character longer = next_fixed 16 2 begun character
 next_in digits.Octal begun character longer = next_fixed 8 3 begun character
@@ -126,7 +126,7 @@ steps_at cycle (MaybeBlank ∷ steps) text = if begins_blank text then MaybeBlan
 steps_at cycle (Octet ∷ steps) text = Octet ∷ steps
 steps_at cycle (Mark mark ∷ steps) text = Mark mark ∷ steps
 
--- what is read, by what a character makes of an octet
+-- what is read, by what an octet is after one more character
 abbrev pub by_next : NextDigit → List ℕ → (Begun → List ℕ) → (ℕ → List ℕ) → (ℕ → Begun → List ℕ) → List ℕ
 by_next (More begun) octets more last emit = more begun
 by_next (Last value) octets more last emit = last value

@@ -27,7 +27,7 @@ pub data LineSaid : Type 0 where
 abbrev pub octets_between : ℕ → ℕ → List ℕ → List ℕ
 octets_between start end octets = drop start (take end octets)
 
--- what octets say of which so many before and after the message are no part of it
+-- what octets say of which this many before and after the message are no part of it
 abbrev pub said_by_octets : ℕ → ℕ → List ℕ → LineSaid
 said_by_octets before after octets =
     if nat_lt (before + after) (length octets) && is_message (octets_between before (length octets - after) octets)
@@ -54,7 +54,7 @@ said_in_octets form octets = if is_bare form then said_by_octets form.before for
 
 -- ---- The octets
 
--- a text up to the character that stands before a place of a line
+-- a text up to the character before a place of a line
 abbrev pub text_up_to : ℕ → List ℕ → Digits
 text_up_to zero line = digits.Text 0
 text_up_to (suc place) line = digits.Text (slice_index line place)

@@ -12,7 +12,7 @@ is_word character = is_decimal character || ((nat_le 65 character && nat_le char
 
 -- ---- A hexadecimal number without zeros before it
 
--- What so many digits are, of which the last two have this value: an octet if they are one or two, or eight from `ffffff80`
+-- What this many digits are, of which the last two have this value: an octet if they are one or two, or eight from `ffffff80`
 -- on; the beginning of one if they are one, or all are `f` but the seventh.
 abbrev pub short_by : Bool → ℕ → ℕ → NextDigit
 short_by longer value count =
@@ -20,7 +20,7 @@ short_by longer value count =
     else if nat_lt count 8 && (count == 1 || (count == 7 || value == 255)) then More (Short value count)
     else Stop
 
--- what a character makes of an octet that is such a number
+-- an octet that is such a number, after one more character
 abbrev pub next_short : Begun → ℕ → Bool → NextDigit
 next_short (Short value count) character longer =
     if is_hex character then (if nat_lt 7 count then Stop else short_by longer ((16 * value + hex_value character) % 256) (count + 1)) else Stop
@@ -38,15 +38,15 @@ escaped letter =
     if letter == 110 then 10 else if letter == 114 then 13 else if letter == 116 then 9 else if letter == 98 then 8
     else if letter == 102 then 12 else if letter == 118 then 11 else if letter == 97 then 7 else if letter == 101 then 27 else letter
 
--- Whether a character makes the octet of an escape another one or none: a decimal digit behind one octal digit, of which 8 and
--- 9 make it none; an octal digit behind two.
+-- Whether a character makes the octet of an escape another one or none: a decimal digit after one octal digit, of which 8 and
+-- 9 make it none; an octal digit after two.
 abbrev pub text_longer : Begun → ℕ → Bool
 text_longer Escape character = is_decimal character
 text_longer (OctalEscape value left) character = is_octal character
 text_longer HexEscape character = is_hex character
 text_longer other character = false
 
--- what a character makes of an octet of which nothing is read
+-- an octet of which nothing is read, after one more character
 abbrev pub next_plain : ℕ → ℕ → NextDigit
 next_plain quote character =
     if character == quote then Stop
@@ -56,11 +56,11 @@ next_plain quote character =
     else if nat_lt character 32 || nat_lt 126 character then Stop
     else Last character
 
--- what octal digits with this value are, of which so many more may come
+-- what octal digits with this value are, of which this many more may come
 abbrev pub octal_by : Bool → ℕ → ℕ → NextDigit
 octal_by longer value left = if longer && (nat_lt value 32 && nat_lt 0 left) then More (OctalEscape value left) else Last value
 
--- what a character makes of an escape
+-- an escape, after one more character
 abbrev pub next_escape : ℕ → Bool → NextDigit
 next_escape character longer =
     if character == 120 then More HexEscape
@@ -69,17 +69,17 @@ next_escape character longer =
     else if nat_le 32 character && nat_le character 126 then Last (escaped character)
     else Stop
 
--- what a character makes of a hexadecimal escape without a digit
+-- a hexadecimal escape without a digit, after one more character
 abbrev pub next_hex_escape : ℕ → Bool → NextDigit
 next_hex_escape character longer =
     if is_hex character then (if longer then More (Fixed (hex_value character) 1) else Last (hex_value character)) else Stop
 
--- what a character makes of the first digit, with this value, of a hexadecimal number of at most two digits
+-- the first digit, with this value, of a hexadecimal number of at most two digits, after one more character
 abbrev pub next_second : ℕ → ℕ → Bool → NextDigit
 next_second value character longer =
     if is_hex character && (not longer && nat_le value 15) then Last (16 * value + hex_value character) else Stop
 
--- what a character makes of an octet that is a hexadecimal number behind `0x`, or `0` alone
+-- an octet that is a hexadecimal number after `0x`, or `0` alone, after one more character
 abbrev pub next_prefixed : Begun → ℕ → Bool → NextDigit
 next_prefixed Nothing character longer = if character == 48 then (if longer then More Zero else Last 0) else Stop
 next_prefixed Zero character longer = if character == 120 then More HexEscape else Stop
@@ -87,14 +87,14 @@ next_prefixed HexEscape character longer = next_hex_escape character longer
 next_prefixed (Fixed value left) character longer = next_second value character longer
 next_prefixed other character longer = Stop
 
--- what a character makes of an octal escape with this value, of which so many digits may come
+-- an octal escape with this value, of which this many digits may come, after one more character
 abbrev pub next_octal : ℕ → ℕ → ℕ → Bool → NextDigit
 next_octal value left character longer =
     if is_octal character && nat_lt 0 left
     then (if nat_lt 255 (8 * value + (character - 48)) then Stop else octal_by longer (8 * value + (character - 48)) (left - 1))
     else Stop
 
--- what a character makes of the first octet of a character above 127 in UTF-8
+-- the first octet of a character above 127 in UTF-8, after one more character
 abbrev pub next_lead : Bool → ℕ → NextDigit
 next_lead upper character =
     if nat_le 128 character && nat_le character 191 then (if upper then Last (character + 64) else Last character) else Stop
@@ -106,7 +106,7 @@ abbrev pub is_alphabetic : ℕ → Bool
 is_alphabetic letter =
     letter == 97 || (letter == 98 || (letter == 102 || (letter == 110 || (letter == 114 || (letter == 116 || letter == 118)))))
 
--- what the three characters of a cell are behind its blank
+-- what the three characters of a cell are after its blank
 abbrev pub cell_by : ℕ → ℕ → ℕ → NextDigit
 cell_by first second third =
     if first == 32 && (second == 32 && (nat_le 32 third && nat_le third 126)) then Last third
@@ -115,7 +115,7 @@ cell_by first second third =
     then Last (64 * (first - 48) + 8 * (second - 48) + (third - 48))
     else Stop
 
--- what a character makes of an octet that is a cell
+-- an octet that is a cell, after one more character
 abbrev pub next_cell : Begun → ℕ → NextDigit
 next_cell Nothing character = if character == 32 then More Cell else Stop
 next_cell Cell character = More (CellFirst character)
@@ -135,7 +135,7 @@ sextet character =
     else if character == 47 then 63
     else 64
 
--- what six bits make of the bits of so many characters that are no octet yet
+-- the bits of this many characters that are no octet yet, after six more bits
 abbrev pub sextet_by : ℕ → ℕ → ℕ → NextDigit
 sextet_by value count bits =
     if count == 0 then More (Sextets bits 1)
@@ -143,14 +143,14 @@ sextet_by value count bits =
     else if count == 2 then Emit ((64 * value + bits) / 4 % 256) (Sextets ((64 * value + bits) % 4) 3)
     else Emit ((64 * value + bits) % 256) Nothing
 
--- what a character makes of octets of which so many characters have these bits, that are no octet yet
+-- octets of which this many characters have these bits, that are no octet yet, after one more character
 abbrev pub sextets_by : ℕ → ℕ → ℕ → NextDigit
 sextets_by value count character =
     if nat_lt (sextet character) 64 then sextet_by value count (sextet character)
     else if character == 61 && nat_le 2 count then More Padding
     else Stop
 
--- what a character makes of octets that are base64
+-- octets that are base64, after one more character
 abbrev pub next_sextet : Begun → ℕ → NextDigit
 next_sextet (Sextets value count) character = sextets_by value count character
 next_sextet Padding character = Stop

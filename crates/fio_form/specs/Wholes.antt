@@ -9,7 +9,7 @@ use Rattle.fio_form.specs.declared.octets.TheConstants.{OCTETS}
 use Rattle.fio_form.specs.declared.reading.Whole.{Whole}
 use Rattle.fio_form.specs.declared.reading.Whole.TheVariants.{Message, Any, Lacking, Idle, Damaged}
 
--- the places of a message are in order, and within so many octets
+-- the places of a message are in order, and within this many octets
 abbrev pub IsWithinOctets : ℕ → Whole → Type 0
 IsWithinOctets count (Message start end) = (start ≤ end) × (end ≤ count)
 IsWithinOctets count (Any start end) = (start ≤ end) × (end ≤ count)
@@ -33,7 +33,7 @@ has_check octets =
     nat_le 4 (length octets)
     && are_check (slice_index octets (length octets - 2)) (slice_index octets (length octets - 1)) (frame_check_of (take (length octets - 2) octets))
 
--- what stands between the header and the check of a frame
+-- what is between the header and the check of a frame
 abbrev pub content : List ℕ → List ℕ
 content octets = take (length octets - 2 - 2) (drop 2 octets)
 
@@ -41,12 +41,12 @@ content octets = take (length octets - 2 - 2) (drop 2 octets)
 abbrev pub held_in : List ℕ → Option (List ℕ)
 held_in octets = if has_check octets then Some (content octets) else None
 
--- an octet, with its sixth bit exchanged if it is behind an escape
+-- an octet, with its sixth bit exchanged if it is after an escape
 abbrev pub unescaped : Bool → ℕ → ℕ
 unescaped false octet = octet
 unescaped true octet = if octet / 32 % 2 == 0 then octet + 32 else octet - 32
 
--- octets without escapes, behind others: none if there is a flag among them
+-- octets without escapes, after others: none if there is a flag among them
 abbrev pub plain_from : Bool → List ℕ → List ℕ → Option (List ℕ)
 plain_from escape plain [] = Some plain
 plain_from escape plain (octet ∷ octets) =
@@ -58,7 +58,7 @@ plain_from escape plain (octet ∷ octets) =
 abbrev pub few_of : List ℕ → Option (List ℕ)
 few_of octets = if nat_le (length octets) OCTETS then Some octets else None
 
--- What a frame holds that stands between flags: if the check is right of the octets as they are, as a logger writes them that
+-- What a frame holds between flags: if the check is right of the octets as they are, as a logger writes them that
 -- does not escape, these; else those without escapes.
 abbrev pub held_inside : List ℕ → Option (List ℕ)
 held_inside octets =
@@ -92,12 +92,12 @@ kept_of (Some held) = take OCTETS held
 
 -- ---- The octets of a form
 
--- what octets are behind those before the message, if they are a frame of the wire, by what it holds
+-- what octets are after those before the message, if they are a frame of the wire, by what it holds
 abbrev pub whole_held : Option (List ℕ) → Whole
 whole_held None = Damaged
 whole_held (Some held) = if is_message (take OCTETS held) then Message 0 (length (take OCTETS held)) else Idle
 
--- what octets are behind those before the message, if they are a frame of the wire
+-- what octets are after those before the message, if they are a frame of the wire
 abbrev pub whole_frame : List ℕ → Whole
 whole_frame octets = if is_open_frame octets then Lacking else whole_held (framed_in octets)
 
@@ -105,7 +105,7 @@ whole_frame octets = if is_open_frame octets then Lacking else whole_held (frame
 abbrev pub is_longer : Bool → ℕ → List ℕ → Bool
 is_longer swapped size octets = swapped && (length octets == size + 1 && slice_index octets (length octets - 1) == 0)
 
--- what octets are, of which so many are before a message of this size, and so many after it
+-- what octets are, of which this many are before a message of this size, and this many after it
 abbrev pub whole_known : Bool → ℕ → ℕ → ℕ → List ℕ → Whole
 whole_known swapped before after size octets =
     if nat_lt (length octets) (before + size + after) then Lacking
@@ -113,7 +113,7 @@ whole_known swapped before after size octets =
     then Message before (before + size)
     else Damaged
 
--- what octets are, of which so many before and after are no part of a message whose length nothing tells
+-- what octets are, of which this many before and after are no part of a message of unknown length
 abbrev pub whole_any : Bool → ℕ → ℕ → List ℕ → Whole
 whole_any swapped before after octets =
     if is_message (take (length octets - after - before) (drop before octets)) && not (swapped && slice_index octets (length octets - 1) == 0)

@@ -68,7 +68,7 @@ abbrev pub value_in_base : ℕ → ℕ → List ℕ → ℕ
 value_in_base base value [] = value
 value_in_base base value (digit ∷ digits) = value_in_base base (base * value + hex_value digit) digits
 
--- so many digits in a base, which are an octet
+-- this many digits in a base, which are an octet
 abbrev pub IsFixedText : ℕ → ℕ → ℕ → List ℕ → Type 0
 IsFixedText base width octet text = (length text ≡ width) × AllByRecursion (λ digit. nat_lt (hex_value digit) base ≡ true) text
     × (octet ≡ value_in_base base 0 text) × (octet < 256)

@@ -1,4 +1,4 @@
-//! Lines that are nothing but octets, and what is behind octets.
+//! Lines that are nothing but octets, and what is after octets.
 ghost use Rattle.std.specs.Prelude.{◌≡◌, ◌≢◌, ◌≤◌, ◌<◌, ◌-◌, ◌∷◌, Some, None, IfSome, IfNone, true, false, [], drop, take, length, slice_index};
 ghost use Rattle.fio_form.specs.Forms.{is_quotation};
 ghost use Rattle.fio_form.specs.Bare.{after_marks, bare_begin, bare_digits, bare_octets, bare_text, begins_quote, is_closing, is_cut_short, last_marks, octets_closed, past_blank, past_end, past_letter, tail_in};
@@ -11,7 +11,7 @@ use crate::octets::Octets;
 use crate::reading::{Found, octets_in, swap};
 use arrayvec::ArrayVec;
 
-/// Writes the marks before an octet that a cycle ends with, behind a separator, as the `0x` of `, 0x`.
+/// Writes the marks before an octet that a cycle ends with, after a separator, as the `0x` of `, 0x`.
 fn marks_of(cycle: &[Step], marks: &mut ArrayVec<u8, CYCLE_STEPS>)
     requires { length cycle.now ≤ CYCLE_STEPS }
     ensures { marks.new.items ≡ last_marks cycle.now }
@@ -64,7 +64,7 @@ fn marks_in(marks: &[u8], text: &[u8]) -> Option<usize>
     Some(at)
 }
 
-/// Returns where the text of a line begins behind the blanks at its beginning, and the marks before an octet.
+/// Returns where the text of a line begins after the blanks at its beginning, and the marks before an octet.
 fn bare_start(cycle: &[Step], line: &[u8]) -> usize
     requires { length cycle.now ≤ CYCLE_STEPS }
     ensures text { drop result line.now ≡ bare_text cycle.now line.now }
@@ -121,7 +121,7 @@ fn closed_in(
     Some(end)
 }
 
-/// Returns where the text behind the quote begins of a line that is a literal from a place on.
+/// Returns where the text after the quote begins of a line that is a literal from a place on.
 fn quoted_start(line: &[u8], start: usize) -> Option<usize>
     requires { start ≤ length line.now }
     ensures some { IfSome result (λ place. (start < place) × (place ≤ length line.now)
@@ -141,7 +141,7 @@ fn quoted_start(line: &[u8], start: usize) -> Option<usize>
     }
 }
 
-/// Reads the octets that a line is from a place on, and has nothing else behind them.
+/// Reads the octets that a line is from a place on, and has nothing else after them.
 #[tactic(auto, unfolding(crate::specs::Reading::swapped))]
 fn bare_in(
     form: &LineForm,

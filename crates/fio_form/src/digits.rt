@@ -7,7 +7,7 @@ use crate::front::{hex_value, is_decimal};
 use crate::octets::{Begun, NextDigit};
 use crate::texts::next_hex_escape;
 
-/// Returns what a character makes of an octet that has so many digits in a base.
+/// Returns an octet that has this many digits in a base, after one more character.
 pub(crate) fn next_fixed(base: u8, width: u8, begun: Begun, character: u8) -> NextDigit
     requires { base ≤ 16 }
     ensures { result ≡ next_fixed base width begun character }
@@ -33,7 +33,7 @@ pub(crate) fn next_fixed(base: u8, width: u8, begun: Begun, character: u8) -> Ne
     }
 }
 
-/// Returns what a character makes of a decimal number with this value.
+/// Returns a decimal number with this value, after one more character.
 fn next_unsigned(value: u8, character: u8, longer: bool) -> NextDigit
     ensures { result ≡ next_unsigned value character longer }
 {
@@ -50,7 +50,7 @@ fn next_unsigned(value: u8, character: u8, longer: bool) -> NextDigit
     }
 }
 
-/// Returns what a character makes of a decimal number below 0.
+/// Returns a decimal number below 0, after one more character.
 fn next_negative(value: u8, character: u8, longer: bool) -> NextDigit
     ensures { result ≡ next_negative value character longer }
 {
@@ -67,7 +67,7 @@ fn next_negative(value: u8, character: u8, longer: bool) -> NextDigit
     }
 }
 
-/// Returns what a character makes of an octet that is a decimal number.
+/// Returns an octet that is a decimal number, after one more character.
 pub(crate) fn next_decimal(begun: Begun, character: u8, longer: bool) -> NextDigit
     ensures { result ≡ next_decimal begun character longer }
 {
@@ -85,7 +85,7 @@ pub(crate) fn next_decimal(begun: Begun, character: u8, longer: bool) -> NextDig
     }
 }
 
-/// Returns what a character makes of an octet that is a decimal number in a column.
+/// Returns an octet that is a decimal number in a column, after one more character.
 pub(crate) fn next_column(begun: Begun, character: u8, longer: bool) -> NextDigit
     ensures { result ≡ next_column begun character longer }
 {
@@ -115,7 +115,7 @@ fn short_by(longer: bool, value: u8, count: u8) -> NextDigit
     }
 }
 
-/// Returns what a character makes of an octet that is a hexadecimal number without zeros before it.
+/// Returns an octet that is a hexadecimal number without zeros before it, after one more character.
 pub(crate) fn next_short(begun: Begun, character: u8, longer: bool) -> NextDigit
     ensures { result ≡ next_short begun character longer }
 {
@@ -135,7 +135,7 @@ pub(crate) fn next_short(begun: Begun, character: u8, longer: bool) -> NextDigit
     }
 }
 
-/// Returns what a character makes of the first digit, with this value, of a hexadecimal number of at most two digits.
+/// Returns the first digit, with this value, of a hexadecimal number of at most two digits, after one more character.
 fn next_second(value: u8, character: u8, longer: bool) -> NextDigit
     ensures { result ≡ next_second value character longer }
 {
@@ -147,7 +147,7 @@ fn next_second(value: u8, character: u8, longer: bool) -> NextDigit
     }
 }
 
-/// Returns what a character makes of an octet that is a hexadecimal number behind `0x`, or `0` alone.
+/// Returns an octet that is a hexadecimal number after `0x`, or `0` alone, after one more character.
 pub(crate) fn next_prefixed(begun: Begun, character: u8, longer: bool) -> NextDigit
     ensures { result ≡ next_prefixed begun character longer }
 {

@@ -25,7 +25,7 @@ pub enum Piece {
     Hexadecimal,
     /// Some blanks: spaces and tabs.
     Blanks,
-    /// A number of hexadecimal digits, with blanks before it or not: it stands at the right end of its column.
+    /// A number of hexadecimal digits, with blanks before it or not: it is at the right end of its column.
     Padded,
     /// A quote, single or double.
     Quote,
@@ -40,10 +40,10 @@ pub enum Digits {
     #[default]
     Pairs,
     /// A hexadecimal number without zeros before it, as `printf("%x")` has it: `c`; an octet above 127 may have 32 bits with a
-    /// sign: `ffffffb6`. No letter or digit stands behind it.
+    /// sign: `ffffffb6`. No letter or digit follows it.
     Short,
     /// `0x` and a hexadecimal number of one or two digits, or `0` alone, as `printf("%#x")` has it: `0xc`. No letter or digit
-    /// stands behind it.
+    /// is after it.
     Prefixed,
     /// A decimal number: `12`; an octet above 127 may be one below 0: `-74`.
     Decimal,
@@ -54,7 +54,7 @@ pub enum Digits {
     /// Eight binary digits: `00001100`.
     Binary,
     /// A character of a literal or an escape: `<`, `\x0c`, `\f`, `\14`, `\u000c`, up to this quote; a line feed: to the end of the
-    /// line; 0: to the quote that stands before the first one. An octal escape of one digit has no 8 or 9 behind it, as
+    /// line; 0: to the quote before the first one. An octal escape of one digit has no 8 or 9 after it, as
     /// the decimal number of `\182` would.
     Text(u8),
     /// A character, an escape of one letter, or three octal digits, at the right end of four columns, as `od -c` has them.
@@ -123,13 +123,13 @@ pub struct LineForm {
     pub(crate) cycle: ArrayVec<Step, CYCLE_STEPS>,
     /// The values of each `Piece::Value` of the front.
     pub values: ArrayVec<u32, FRONT_VALUES>,
-    /// Whether the front may begin anywhere in the line: then the first place counts behind which an octet is.
+    /// Whether the front may begin anywhere in the line: then the first place counts after which an octet is.
     pub is_anywhere: bool,
     /// The number of octets before the message: an address, a packet's header.
     pub before: u8,
     /// The number of octets after the message: a check.
     pub after: u8,
-    /// Whether the octets behind those before the message are a frame of the wire, with its flags or without.
+    /// Whether the octets after those before the message are a frame of the wire, with its flags or without.
     pub is_framed: bool,
     /// How a message continues in further lines.
     pub rows: LineRows,

@@ -127,7 +127,7 @@ impl Piece {
         count
     }
 
-    /// Returns whether all characters of a text are of this piece, behind the blanks of a padded number.
+    /// Returns whether all characters of a text are of this piece, after the blanks of a padded number.
     pub(crate) fn is_all(self, text: &[u8]) -> bool
         ensures { result ≡ is_empty (past_piece self text.now) }
     {

@@ -1,7 +1,7 @@
 //! Lines of logs, read by the forms that they are written in.
 //!
 //! A *form* says how some lines write octets: the *front*, which is the text before them with its numbers masked; the digits of
-//! an octet (hexadecimal, decimal, octal or binary ones, which may stand in a column), or characters of a literal, of cells or of
+//! an octet (hexadecimal, decimal, octal or binary ones, which may be in a column), or characters of a literal, of cells or of
 //! base64; what is between two octets; and how many octets are before and after the message. `find` reads the octets that a form
 //! has in a line, `whole_of` says what they are, and `read_line` reads a line by several forms. The crates above join rows of one
 //! message (`fio_rows`), and find forms in a log (`fio_guess`, `fio_sniff`).

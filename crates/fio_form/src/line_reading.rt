@@ -21,7 +21,7 @@ pub enum Read {
     Other,
 }
 
-/// Returns what octets say of which so many before and after the message are no part of it.
+/// Returns what octets say of which this many before and after the message are no part of it.
 fn message_in(before: u8, after: u8, octets: &[u8]) -> Read
     ensures { said_as result octets.now ≡ said_by_octets before after octets.now }
 {

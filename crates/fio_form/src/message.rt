@@ -9,9 +9,9 @@ use fio_message::{read_answer, read_command};
 pub enum Size {
     /// More octets are needed to say.
     Unknown,
-    /// So many octets.
+    /// This many octets.
     Known(usize),
-    /// Nothing tells it.
+    /// It is unknown.
     Any,
     /// They begin none.
     None,

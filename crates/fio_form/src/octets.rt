@@ -22,13 +22,13 @@ pub type Octets = ArrayVec<u8, OCTETS>;
 pub(crate) enum Begun {
     /// Nothing, or the blanks before it in its column.
     Nothing,
-    /// Digits with this value, and so many are left.
+    /// Digits with this value, and this many are left.
     Fixed { value: u8, left: u8 },
     /// Decimal digits with this value.
     Number(u8),
     /// The sign of a number below 0, and decimal digits with this value.
     Negative(u8),
-    /// So many hexadecimal digits, of which the last two have this value.
+    /// This many hexadecimal digits, of which the last two have this value.
     Short { value: u8, count: u8 },
     /// The `0` of a number with a prefix.
     Zero,
@@ -36,23 +36,23 @@ pub(crate) enum Begun {
     Escape,
     /// `\x`, or the `0x` of a number with a prefix.
     HexEscape,
-    /// Digits of an octal escape with this value, and so many may come.
+    /// Digits of an octal escape with this value, and this many may come.
     OctalEscape { value: u8, left: u8 },
     /// The first octet in UTF-8 of a character from 128 to 191, or above.
     Lead { is_upper: bool },
     /// The blank of a cell.
     Cell,
-    /// The first character behind it.
+    /// The first character after it.
     CellFirst(u8),
-    /// Two characters behind it.
+    /// Two characters after it.
     CellSecond { first: u8, second: u8 },
-    /// The bits, with this value, of so many characters of base64 that are no octet yet.
+    /// The bits, with this value, of this many characters of base64 that are no octet yet.
     Sextets { value: u8, count: u8 },
     /// `=` of base64, after which nothing comes.
     Padding,
 }
 
-/// What a character makes of an octet that is begun.
+/// An octet that is begun, after one more character.
 #[derive(Clone, Copy)]
 pub(crate) enum NextDigit {
     /// It belongs to the octet, and more comes.
@@ -77,7 +77,7 @@ fn makes_longer(digits: Digits, begun: Begun, text: &[u8]) -> bool
     }
 }
 
-/// Returns what a character makes of an octet that is begun; `longer`: a character comes after it that makes the octet
+/// Returns an octet that is begun, after one more character; `longer`: a character comes after that which makes the octet
 /// another one.
 fn next_in(digits: Digits, begun: Begun, character: u8, longer: bool) -> NextDigit
     ensures { result ≡ next_in digits begun character longer }

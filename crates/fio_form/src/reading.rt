@@ -26,7 +26,7 @@ pub struct Found {
 pub enum Whole {
     /// A message, from one place up to another.
     Message { start: usize, end: usize },
-    /// A message whose length nothing tells.
+    /// A message of unknown length.
     Any { start: usize, end: usize },
     /// The beginning of a message.
     Lacking,

@@ -38,8 +38,8 @@ pub(crate) fn is_word(character: u8) -> bool
     matches!(character, b'0'..=b'9' | b'A'..=b'Z' | b'a'..=b'z')
 }
 
-/// Returns whether a character makes the octet of an escape another one, or none: a decimal digit behind one octal digit, of
-/// which 8 and 9 make it none; an octal digit behind two.
+/// Returns whether a character makes the octet of an escape another one, or none: a decimal digit after one octal digit, of
+/// which 8 and 9 make it none; an octal digit after two.
 pub(crate) fn text_longer(begun: Begun, character: u8) -> bool
     ensures { result ≡ text_longer begun character }
 {
@@ -51,7 +51,7 @@ pub(crate) fn text_longer(begun: Begun, character: u8) -> bool
     }
 }
 
-/// Returns what a character makes of an octet of which nothing is read.
+/// Returns an octet of which nothing is read, after one more character.
 fn next_plain(quote: u8, character: u8) -> NextDigit
     ensures { result ≡ next_plain quote character }
 {
@@ -67,7 +67,7 @@ fn next_plain(quote: u8, character: u8) -> NextDigit
     }
 }
 
-/// Returns what octal digits with this value are, of which so many more may come.
+/// Returns what octal digits with this value are, of which this many more may come.
 fn octal_by(longer: bool, value: u8, left: u8) -> NextDigit
     ensures { result ≡ octal_by longer value left }
 {
@@ -78,7 +78,7 @@ fn octal_by(longer: bool, value: u8, left: u8) -> NextDigit
     }
 }
 
-/// Returns what a character makes of an escape.
+/// Returns an escape, after one more character.
 fn next_escape(character: u8, longer: bool) -> NextDigit
     ensures { result ≡ next_escape character longer }
 {
@@ -91,7 +91,7 @@ fn next_escape(character: u8, longer: bool) -> NextDigit
     }
 }
 
-/// Returns what a character makes of a hexadecimal escape without a digit.
+/// Returns a hexadecimal escape without a digit, after one more character.
 pub(crate) fn next_hex_escape(character: u8, longer: bool) -> NextDigit
     ensures { result ≡ next_hex_escape character longer }
 {
@@ -108,7 +108,7 @@ pub(crate) fn next_hex_escape(character: u8, longer: bool) -> NextDigit
     }
 }
 
-/// Returns what a character makes of an octal escape with this value, of which so many digits may come.
+/// Returns an octal escape with this value, of which this many digits may come, after one more character.
 fn next_octal(value: u8, left: u8, character: u8, longer: bool) -> NextDigit
     ensures { result ≡ next_octal value left character longer }
 {
@@ -122,7 +122,7 @@ fn next_octal(value: u8, left: u8, character: u8, longer: bool) -> NextDigit
     octal_by(longer, more as u8, left - 1)
 }
 
-/// Returns what a character makes of the first octet of a character above 127 in UTF-8.
+/// Returns the first octet of a character above 127 in UTF-8, after one more character.
 fn next_lead(is_upper: bool, character: u8) -> NextDigit
     ensures { result ≡ next_lead is_upper character }
 {
@@ -135,7 +135,7 @@ fn next_lead(is_upper: bool, character: u8) -> NextDigit
     }
 }
 
-/// Returns what a character makes of an octet that is a character of a literal or an escape, up to a quote.
+/// Returns an octet that is a character of a literal or an escape, up to a quote, after one more character.
 pub(crate) fn next_text(quote: u8, begun: Begun, character: u8, longer: bool) -> NextDigit
     ensures { result ≡ next_text quote begun character longer }
 {
@@ -150,7 +150,7 @@ pub(crate) fn next_text(quote: u8, begun: Begun, character: u8, longer: bool) ->
     }
 }
 
-/// Returns what the three characters of a cell are behind its blank.
+/// Returns what the three characters of a cell are after its blank.
 fn cell_by(first: u8, second: u8, third: u8) -> NextDigit
     ensures { result ≡ cell_by first second third }
 {
@@ -170,7 +170,7 @@ fn cell_by(first: u8, second: u8, third: u8) -> NextDigit
     NextDigit::Stop
 }
 
-/// Returns what a character makes of an octet that is a cell of four columns.
+/// Returns an octet that is a cell of four columns, after one more character.
 pub(crate) fn next_cell(begun: Begun, character: u8) -> NextDigit
     ensures { result ≡ next_cell begun character }
 {
@@ -201,7 +201,7 @@ fn sextet(character: u8) -> u8
     }
 }
 
-/// Returns what six bits make of the bits of so many characters of base64 that are no octet yet.
+/// Returns the bits of this many characters of base64 that are no octet yet, after six more bits.
 fn sextet_by(value: u8, count: u8, bits: u8) -> NextDigit
     requires { bits ≤ 64 }
     ensures { result ≡ sextet_by value count bits }
@@ -233,7 +233,7 @@ fn sextet_by(value: u8, count: u8, bits: u8) -> NextDigit
     }
 }
 
-/// Returns what a character makes of octets that are base64.
+/// Returns octets that are base64, after one more character.
 pub(crate) fn next_sextet(begun: Begun, character: u8) -> NextDigit
     ensures { result ≡ next_sextet begun character }
 {

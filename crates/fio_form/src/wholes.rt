@@ -21,7 +21,7 @@ fn is_checked(octets: &[u8]) -> bool
         && u16::from(octets[octets.len() - 1]) == check / 256
 }
 
-/// Returns the first ones of octets, at most so many.
+/// Returns the first ones of octets, at most this many.
 fn first_of(octets: &[u8], count: usize) -> &[u8]
     ensures first { result.now ≡ take count octets.now }
     ensures few { length result.now ≤ count }
@@ -33,7 +33,7 @@ fn first_of(octets: &[u8], count: usize) -> &[u8]
     }
 }
 
-/// Writes what stands between the header and the check of a frame, and returns whether the check is right.
+/// Writes what is between the header and the check of a frame, and returns whether the check is right.
 #[tactic(auto, unfolding(crate::specs::Wholes::kept_of))]
 fn checked_in(octets: &[u8], held: &mut Octets) -> bool
     ensures yes { result ≡ is_some (held_in octets.now) }
@@ -47,7 +47,7 @@ fn checked_in(octets: &[u8], held: &mut Octets) -> bool
     true
 }
 
-/// Returns an octet, with its sixth bit exchanged if it is behind an escape.
+/// Returns an octet, with its sixth bit exchanged if it is after an escape.
 fn unescaped(is_escaped: bool, octet: u8) -> u8
     ensures { result ≡ unescaped is_escaped octet }
 {
@@ -92,7 +92,7 @@ fn is_open(octets: &[u8]) -> bool
     matches!(octets, [0x7e, ..]) && (octets.len() == 1 || octets[octets.len() - 1] != 0x7e)
 }
 
-/// Whether octets are a frame with a right check, without flags or with them. Writes what stands between header and check.
+/// Whether octets are a frame with a right check, without flags or with them. Writes what is between header and check.
 #[tactic(auto, unfolding(crate::specs::Wholes::framed_in, crate::specs::Wholes::kept_of))]
 pub fn framed_in(octets: &[u8], held: &mut Octets) -> bool
     ensures yes { result ≡ is_some (framed_in octets.now) }
@@ -113,7 +113,7 @@ pub fn framed_in(octets: &[u8], held: &mut Octets) -> bool
     plain_of(inner, &mut plain) && checked_in(&plain, held)
 }
 
-/// Returns what octets are behind those before the message, if they are a frame of the wire, whose message is written to
+/// Returns what octets are after those before the message, if they are a frame of the wire, whose message is written to
 /// `held`.
 #[tactic(auto, unfolding(crate::specs::Wholes::framed_in, crate::specs::Wholes::kept_of))]
 fn whole_frame(rest: &[u8], held: &mut Octets) -> Whole
@@ -137,7 +137,7 @@ fn whole_frame(rest: &[u8], held: &mut Octets) -> Whole
     }
 }
 
-/// Returns what octets are, if so many are before a message of this size, and so many after it.
+/// Returns what octets are, if this many are before a message of this size, and this many after it.
 fn whole_known(form: &LineForm, octets: &[u8], size: usize) -> Whole
     requires before { form.now.before ≤ length octets.now }
     requires few { size ≤ 773 }
@@ -160,7 +160,7 @@ fn whole_known(form: &LineForm, octets: &[u8], size: usize) -> Whole
     }
 }
 
-/// Returns what octets are, of which so many before and after are no part of a message whose length nothing tells.
+/// Returns what octets are, of which this many before and after are no part of a message of unknown length.
 fn whole_any(form: &LineForm, octets: &[u8]) -> Whole
     requires { form.now.before + form.now.after < length octets.now }
     ensures whole { result ≡ whole_any form.now.is_swapped form.now.before form.now.after octets.now }

@@ -1,4 +1,4 @@
-//! Cuts: which octets of a place are a message, and which stand before and after it.
+//! Cuts: which octets of a place are a message, and which are before and after it.
 ghost use Rattle.std.specs.Prelude.{◌≡◌, ◌≤◌, ◌<◌, IfSome, length};
 
 use crate::guess::{GuessPlace, is_sure, is_type};

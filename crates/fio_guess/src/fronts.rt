@@ -27,7 +27,7 @@ fn begins_number(line: &[u8], place: usize) -> bool
 }
 
 /// Returns where the decimal number ends that a place begins, if it is to be masked: it is long, or of a word that begins with a
-/// digit, and no `0x`; and the octets do not begin behind it.
+/// digit, and no `0x`; and the octets do not begin after it.
 fn decimal_end(line: &[u8], place: usize, end: usize, in_number: bool) -> Option<usize>
     requires order { place < end }
     requires within { end ≤ length line.now }
@@ -82,7 +82,7 @@ fn piece_at(line: &[u8], place: usize, end: usize, in_number: bool) -> Masked
     }
 }
 
-/// Returns blanks with the number behind them as one piece, if it is hexadecimal.
+/// Returns blanks with the number after them as one piece, if it is hexadecimal.
 fn padded_at(line: &[u8], blanks: Masked, end: usize) -> Masked
     requires order { blanks.end < end }
     requires within { end ≤ length line.now }
@@ -101,7 +101,7 @@ fn padded_at(line: &[u8], blanks: Masked, end: usize) -> Masked
 }
 
 /// Returns the piece at a place of a front of octets in a notation: a number at the right end of its column has the blanks before it,
-/// and a quote that stands before a literal is one of both.
+/// and a quote before a literal is one of both.
 fn column_at(
     line: &[u8],
     place: usize,

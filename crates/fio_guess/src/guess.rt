@@ -49,12 +49,12 @@ pub(crate) struct GuessPlace {
     pub is_swapped: bool,
     /// Whether the front may begin anywhere.
     pub is_anywhere: bool,
-    /// Whether octets may stand before and after a message.
+    /// Whether octets may come before and after a message.
     pub is_cut: bool,
 }
 
 impl GuessPlace {
-    /// Returns the same place, at which octets may stand before and after a message.
+    /// Returns the same place, at which octets may come before and after a message.
     pub(crate) fn with_cuts(self) -> GuessPlace {
         GuessPlace {
             is_cut: true,

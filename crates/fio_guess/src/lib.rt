@@ -1,7 +1,7 @@
 //! Guesses: which forms read a message somewhere in some lines of a log, and how often.
 //!
 //! `Window` keeps the lines, at most 1,024 of 65,536 characters together. `Guesses::guess_line` guesses at each place of a line
-//! where octets may begin: the front before them, the digits, the gaps between them, what stands before and after the message, and
+//! where octets may begin: the front before them, the digits, the gaps between them, what is before and after the message, and
 //! how rows go on. `table` has all numbers of this crate and of `fio_sniff`.
 //!
 //! # What is proved

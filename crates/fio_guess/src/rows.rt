@@ -47,7 +47,7 @@ fn offset_at(form: &LineForm, row: &[u8], number: OffsetNumber) -> Option<u64> {
     )
 }
 
-/// Returns whether a row of a dump goes on with the row above it, which has so many octets.
+/// Returns whether a row of a dump goes on with the row above it, which has this many octets.
 fn goes_on(form: &LineForm, above: &[u8], row: &[u8], number: OffsetNumber, count: usize) -> bool {
     match (offset_at(form, above, number), offset_at(form, row, number)) {
         (Some(first), Some(next)) => next.checked_sub(first) == Some(count as u64),

@@ -1,40 +1,40 @@
 //! What makes a form: all numbers.
 
-/// A form is shown by so many different sure messages.
+/// A form is shown by this many different sure messages.
 pub const SURE: usize = 3;
 /// The same in a log of few lines that has ended.
 pub const SURE_OF_FEW: usize = 1;
-/// So many lines are few.
+/// This many lines are few.
 pub const FEW: usize = 64;
-/// The share of its messages that are sure: one of so many.
+/// The share of its messages that are sure: one in this many.
 pub const SURE_SHARE: usize = 25;
-/// Or it is shown by so many messages that answer or are answered.
+/// Or it is shown by this many messages that answer or are answered.
 pub const PAIRS: usize = 2;
 /// The share of these, in tenths.
 pub const PAIR_TENTHS: usize = 3;
-/// Messages of a form that one word tells from another one.
+/// Messages of a form that one word distinguishes from another one.
 pub const KIN: usize = 8;
 /// Their share of its lines, in hundredths.
 pub const KIN_HUNDREDTHS: usize = 98;
 /// Lines with one value of a number: the share that fits, in tenths.
 pub const SPLIT_TENTHS: usize = 9;
-/// A copy: more than so many fifths of its messages are those of the nearest frame of another form.
+/// A copy: more than this many fifths of its messages are those of the nearest frame of another form.
 pub const COPY_FIFTHS: usize = 4;
-/// A looser notation is needed if one of so many messages is written so.
+/// A looser notation is needed if one in this many messages is written so.
 pub const LOOSE_SHARE: usize = 4;
-/// Of a notation with or without blanks, messages of so many octets count.
+/// Of a notation with or without blanks, messages of this many octets count.
 pub const LOOSE_OCTETS: usize = 3;
-/// Pieces of messages are shown by so many of which one begins no message.
+/// Pieces of messages are shown by this many of which one begins no message.
 pub const PIECES: usize = 2;
-/// Commands alone are shown by so many polls.
+/// Commands alone are shown by this many polls.
 pub const POLLS: usize = 8;
-/// So many tenths of them have the number of the one above or one more.
+/// This many tenths of them have the number of the one above or one more.
 pub const POLL_TENTHS: usize = 9;
 /// Early looks, at fewer lines, are not shown a form by commands alone.
 pub const POLL_LINES: usize = 256;
-/// In a log with nothing else they are shown by so many polls whose numbers go up one by one, or by `POLLS` with one number.
+/// In a log with nothing else they are shown by this many polls whose numbers go up one by one, or by `POLLS` with one number.
 pub const POLLS_UP: usize = 4;
-/// In a log of at most so many lines, and with nothing else, two forms show each other: one of commands and one of answers.
+/// In a log of at most this many lines, and with nothing else, two forms show each other: one of commands and one of answers.
 pub const PAIR_LINES: usize = 4;
 /// The most forms that are tried.
 pub const TRIED: usize = 60;
@@ -42,7 +42,7 @@ pub const TRIED: usize = 60;
 pub const TRIED_A_FRONT: usize = 12;
 /// The most of one front with one kind of rows.
 pub const TRIED_A_KIND: usize = 4;
-/// A stream is shown by so many messages.
+/// A stream is shown by this many messages.
 pub const STREAM: usize = 8;
 /// The share of the octets of a stream that are in messages, in tenths.
 pub const STREAM_TENTHS: usize = 9;
@@ -68,7 +68,7 @@ pub const BEFORE: usize = 64;
 pub const AFTER: usize = 4;
 /// A run of more octets is long.
 pub const LONG: usize = 30;
-/// In a run of so many octets none is tried to stand before the message.
+/// In a run of this many octets none is tried as octets before the message.
 pub const HUGE: usize = 1200;
 /// The most guesses that are kept.
 pub const GUESSES: usize = 2048;
@@ -76,7 +76,7 @@ pub const GUESSES: usize = 2048;
 pub const VALUES: usize = 24;
 /// The most numbers of a front that are tried.
 pub const NUMBERS: usize = 12;
-/// The numbers of a front that may tell the lines of a stream apart.
+/// The numbers of a front that may distinguish the lines of a stream.
 pub const SLOTS: usize = 3;
 /// The most values of such a number.
 pub const FEW_VALUES: usize = 4;

@@ -69,7 +69,7 @@ pub(crate) fn begins_word(text: &[u8], place: usize) -> bool
             ))
 }
 
-/// Returns whether a text ends in digits that are no part of the octets behind it: `0b`, or the flags of a frame of CAN FD, as in
+/// Returns whether a text ends in digits that are no part of the octets after it: `0b`, or the flags of a frame of CAN FD, as in
 /// `2A1##1`.
 fn is_prefix(text: &[u8]) -> bool {
     match text {

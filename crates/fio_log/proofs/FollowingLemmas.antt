@@ -1,4 +1,4 @@
--- What a reader has heard and told of the next line of a log.
+-- What a reader has heard and said of the next line of a log.
 use Rattle.std.proofs.Common.{◌≡◌, ◌≤◌, ◌<◌, ◌+◌, ◌∙◌, ◌==◌, ◌&&◌, ℕ, Bool, true, false, List, Option, Some, None, IfSome, is_some, if◌then◌else◌, length, sym, ap, refl, arith, inl, inr}
 use Rattle.std.proofs.lemmas.Bool.Decides.{leb_tells, eqb_tells}
 use Rattle.fio_form.specs.Messages.{is_message}
@@ -90,7 +90,7 @@ unread_follows texts above before after making frames heard waiting reading rows
       lines = λ known number below within. absurd (omega (arith, below, within));
     }
 
--- a teller that has told what it has heard, with a line more
+-- a teller that has reported what it has heard, with a line more
 pub more_follows : (texts : Texts) (above : Above) (teller : Teller) (making more : Making) (frames : List (List ℕ)) (read next told : ℕ)
     → next ≡ read + 1 → is_whole more.ending ≡ true → teller.heard ≡ None → (teller.is_known ≡ true → read ≤ told + 1)
     → HasNext teller read told → Follows texts above teller making frames read told → Follows texts above teller more frames next told
@@ -121,7 +121,7 @@ more_follows texts above teller making more frames read next told is whole unhea
           | Some verdict ↦ λ waits. (omega (arith, waits.0), waits.1, waits.2)
         ] waits
 
--- a teller that has told what it has heard, with a line that is made on
+-- a teller that has reported what it has heard, with a line that is made on
 pub made_follows : (texts : Texts) (above : Above) (teller : Teller) (making more : Making) (frames : List (List ℕ)) (read told : ℕ)
     → teller.heard ≡ None → (teller.is_known ≡ true → read ≤ told + 1) → HasNext teller read told
     → Follows texts above teller making frames read told → Follows texts above teller more frames read told
@@ -214,7 +214,7 @@ heard_follows texts above before after making frames more read told heard was kn
   lines = λ some number below within. rw (first, lines) (follows.lines was number below within);
 }
 
--- a teller that has told the next line, which waits
+-- a teller that has reported the next line, which waits
 pub settled_follows : (texts : Texts) (above : Above) (before after : Teller) (making : Making) (frames more : List (List ℕ)) (read told : ℕ)
     (heard : LineHeard) (verdict : LineVerdict) → HasSameLines before after → before.heard ≡ Some heard → after.heard ≡ None
     → after.waiting ≡ Some verdict → HasLine before.first before.lines making read (told + 1)
@@ -231,7 +231,7 @@ settled_follows texts above before after making frames more read told heard verd
   lines = λ known number below within. rw (same.first, same.lines) (follows.lines (sym same.known ∙ known) number below within);
 }
 
--- a teller that has told the next line, and forgets it
+-- a teller that has reported the next line, and forgets it
 pub below_follows : (texts : Texts) (above : Above) (before after : Teller) (making : Making) (frames more : List (List ℕ)) (read told : ℕ)
     → before.is_known ≡ true → HasSameLines before after → after.heard ≡ None → after.waiting ≡ None
     → Follows texts above before making frames read told → Follows texts (above_of after.by_forms) after making more read (told + 1)
@@ -257,9 +257,9 @@ last_follows texts above before after making frames more read told same none sil
   lines = λ known number below within. rw (same.first, same.lines) (follows.lines (sym same.known ∙ known) number below within);
 }
 
--- ---- What a verdict tells
+-- ---- What a verdict says
 
--- a verdict that tells what was heard
+-- a verdict that says what was heard
 pub line_told : (reader : FormReader) (text : Text) (octets : List ℕ) (is_long : Bool) (above below : Above) (heard : LineHeard) (kind : Kind)
     (reason : Reason) (frames : List (List ℕ)) → text ≡ record { octets = octets; is_long = is_long } → IsHeardOf reader.forms text above.state heard reader.reading
     → above.rows ≡ length reader.rows.places.items → Tells (known_of reader) octets heard kind reason frames
@@ -304,7 +304,7 @@ whole_open opens.Nothing whole = whole
 whole_open opens.Begun whole = refl
 whole_open opens.Whole whole = refl
 
--- a verdict that tells the message that ends with a line
+-- a verdict that reports the message that ends with a line
 pub end_told : (forms : List LineForm) (text : Text) (above below : Above) (kind more : Kind) (reason other : Reason) (frames others : List (List ℕ)) (message : List ℕ)
     → TellsLine false forms text above kind reason frames below → is_message_whole below.state.pending ≡ true → message ≡ below.state.message
     → (is_message message ≡ true → TellsOnly message more others) → TellsLine true forms text above more other others below
@@ -333,7 +333,7 @@ by_ends : (ends is : Bool) (forms : List LineForm) (text : Text) (above : Above)
     → is ≡ ends → TellsLine ends forms text above kind reason frames below → TellsLine is forms text above kind reason frames below
 by_ends ends is forms text above kind reason frames below same tells = rw same tells
 
--- a verdict that tells a line which may be the last one, by whether a message ends there
+-- a verdict that reports a line which may be the last one, by whether a message ends there
 pub tells_of : (is_last ends : Bool) (forms : List LineForm) (text next : Text) (above : Above) (kind : Kind) (reason : Reason) (frames : List (List ℕ)) (below : Above)
     → (is_last ≡ true → is_message_whole below.state.pending ≡ ends) → ends_above_line forms next below.state ≡ ends
     → TellsLine ends forms text above kind reason frames below → TellsOf is_last forms text next above kind reason frames below

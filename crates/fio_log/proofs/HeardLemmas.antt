@@ -1,4 +1,4 @@
--- What is heard of a line, and what its verdict tells of that.
+-- What is heard of a line, and what its verdict says of that.
 use Rattle.std.proofs.Common.{◌≡◌, ℕ, ◌∙◌, Bool, true, false, List, [], ◌∷◌, ◌++◌, Some, slice_get, sym, ap, subst, refl, arith, inl, inr, MatchBool, ◌||◌}
 use Rattle.fio_form.specs.Messages.{is_message}
 use Rattle.fio_form.specs.declared.form.LineForm.{LineForm}
@@ -182,7 +182,7 @@ tells_none forms message line rows heard reason frames octets is_taken same fail
   full = λ many. refl;
 }
 
--- a message that is told
+-- a message that is reported
 pub tells_message : (forms : List LineForm) (message line : List ℕ) (rows : ℕ) (heard : LineHeard) (reason : Reason) (before frames : List (List ℕ)) (octets : List ℕ)
     → octets ≡ message → HasRowRoom rows heard → before ≡ octets ∷ [] → KeepsFirst before frames
     → (HasNothingBeside forms heard.said.found line → (frames ≡ before) × (reason ≡ reasons.None))
@@ -211,7 +211,7 @@ tells_no_part rows heard is_kept failed room = record {
   full = λ many. refl;
 }
 
--- a message that ended and is told
+-- a message that ended and is reported
 pub tells_only : (message : List ℕ) (frames : List (List ℕ)) (octets : List ℕ) (is_told : Bool) → octets ≡ message → is_told ≡ true
     → (is_told ≡ true → frames ≡ octets ∷ []) → TellsOnly message kinds.Frames frames
 tells_only message frames octets is_told same is taken = record {
@@ -239,7 +239,7 @@ octets_not_other says octets is = let wrong : false ≡ true = rw is at octets i
 pub octets_not_damaged : (says : Said) → says_octets says ≡ true → says ≡ said.Damaged → ⊥
 octets_not_damaged says octets is = let wrong : false ≡ true = rw is at octets in absurd (cc)
 
--- a frame behind others
+-- a frame after others
 pub first_stays : (frames : List (List ℕ)) (more : List ℕ) → KeepsFirst frames (frames ++ more ∷ [])
 first_stays [] more = λ frame is. absurd (cc)
 first_stays (first ∷ frames) more = λ frame is. is

@@ -46,7 +46,7 @@ same_lines texts before after read told same waits knows = record {
   waiting = rw waits knows.waiting;
 }
 
--- a teller that knows the forms, whose next verdict is told
+-- a teller that knows the forms, whose next verdict is returned
 pub told_lines : (texts : Texts) (before after : Teller) (read told more next : ℕ) → KnowsAsBefore before after
     → after.waiting ≡ None → before.is_known ≡ true → KnowsLines texts before read told → KnowsLines texts after more next
 told_lines texts before after read told more next same none known knows = record {

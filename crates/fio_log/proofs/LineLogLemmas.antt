@@ -1,4 +1,4 @@
--- What is told of lines by themselves.
+-- What is said of lines by themselves.
 use Rattle.std.proofs.Common.{◌≡◌, ◌∙◌, ◌<◌, ◌≤◌, ◌+◌, ◌-◌, ℕ, Bool, true, false, not, ◌&&◌, ◌||◌, List, [], ◌∷◌, length, drop, Option, Some, None, MatchBool, slice_get, refl, sym, ap, arith, inl, inr}
 use Rattle.std.specs.Prelude.{if◌then◌else◌, nat_le, unwrap_or, zero, suc}
 use Rattle.std.specs.List.{AllByRecursion}
@@ -107,7 +107,7 @@ closed_whole opens.Nothing closed = refl
 closed_whole opens.Begun closed = refl
 closed_whole opens.Whole closed = closed
 
--- what is told of the line is what was heard of it
+-- what is said of the line is what was heard of it
 told_here : (ends : Bool) (forms : List LineForm) (text : Text) (above : Above) (kind : Kind) (reason : Reason) (frames : List (List ℕ)) (below : Above)
     → ends ≡ false → (tells : TellsLine ends forms text above kind reason frames below)
     → Tells (record { forms = forms; message = tells.after.message.items; last = tells.last; rows = above.rows }) text.octets tells.heard kind reason frames
@@ -215,7 +215,7 @@ all_dropped at line within same =
     let left : 0 ≡ length line - at = sym (ap (λ (l : List ℕ). length l) same) ∙ length-drop at line in
     omega (arith, left, within)
 
--- what is told of a line that says a message, if nothing of it is gone
+-- what is said of a line that says a message, if nothing of it is gone
 message_by : (says : Said) (known : Known) (line : List ℕ) (heard : LineHeard) (kind : Kind) (reason : Reason) (frames : List (List ℕ)) → says ≡ said.Frame
     → TellsSaid says known line heard kind reason frames
     → MatchBool (is_of_echoes (slice_get known.forms heard.said.form)) (TellsEcho known.message known.last kind)
@@ -299,7 +299,7 @@ line_told Gone forms text above kind reason frames below ends are closed line ne
 line_told Other forms text above kind reason frames below ends are closed line never tells =
     other_told _ text above.state tells.heard tells.after kind reason frames line closed tells.is (told_here ends forms text above kind reason frames below never tells)
 
--- each line is told as what it is
+-- each line is reported as what it is
 pub told_right : (texts : Texts) (told : ℕ) (above : Above) (lines : List ToldLine) → is_message_open above.state.pending ≡ false
     → AreSuchLines texts told lines → AreToldInTurn texts told above lines → AreToldRight lines
 told_right texts told above [] closed are tell = tt

@@ -34,7 +34,7 @@ fills_known teller read told known = record {
   few = λ unknown. let no : false ≡ true = sym unknown ∙ known in absurd (cc);
 }
 
--- the next verdict cannot be told
+-- the next verdict cannot be returned
 pub few_heard : (is_heard is_ready : Bool) (teller : Teller) (read told : ℕ) → (is_heard ≡ true → told < read → is_ready ≡ true)
     → is_ready ≡ false → (is_heard ≡ false → WaitsForOne teller read told) → WaitsForOne teller read told
 few_heard false is_ready teller read told heard unready one = one refl
@@ -55,7 +55,7 @@ by_end true read told ended running = elim (leb_tells (told + 1) read) [
   | inr more ↦ omega (arith, more.1)
 ]
 
--- no verdict can be told
+-- no verdict can be returned
 pub few_wait : (form : Form) (is_ready is_ended : Bool) (teller : Teller) (read told : ℕ) → is_ready ≡ false
     → (is_ended ≡ true → told < read → is_ready ≡ true)
     → ((own : OwnForm) → own_form_of form ≡ Some own → told < read → is_ready ≡ true) → (form ≡ Auto → Fills teller read told)

@@ -31,7 +31,7 @@ is_time_digit character = is_between 48 57 character
 abbrev pub no_number : Number
 no_number = record { value = 0; count = 0 }
 
--- the number that goes on with the digits of a text, at most so many, and no more than 17
+-- the number that goes on with the digits of a text, at most this many, and no more than 17
 abbrev pub time_number : ℕ → Number → List ℕ → Number
 time_number most number [] = number
 time_number most number (character ∷ text) =
@@ -87,7 +87,7 @@ most_digits sign = if sign == 69 then 14 else if sign == 70 then 9 else if sign 
 abbrev pub begins_fraction : List ℕ → Bool
 begins_fraction text = slice_index text 0 == 46 && is_time_digit (slice_index text 1)
 
--- whether a number of so many digits is right for a sign, by its first digit and by what follows
+-- whether a number of this many digits is right for a sign, by its first digit and by what follows
 abbrev pub has_right_digits : ℕ → ℕ → ℕ → List ℕ → Bool
 has_right_digits sign count first below =
     if sign == 69 then (count == 10 || count == 13) && first == 49
@@ -112,7 +112,7 @@ abbrev pub is_of_number : ℕ → Bool
 is_of_number sign =
     sign == 69 || (sign == 70 || (sign == 89 || (sign == 77 || (sign == 68 || (sign == 104 || (sign == 109 || sign == 115))))))
 
--- the part of a gap of so many characters
+-- the part of a gap of this many characters
 abbrev pub part_of_gap : TimeParts → ℕ → Option TimeRead
 part_of_gap parts count = if count == 0 then None else Some (record { parts = parts; count = count })
 
@@ -142,7 +142,7 @@ form_from read (sign ∷ form) text = option_and_then
 
 -- ---- What follows a form
 
--- the microseconds of a fraction of a second with so many digits, at most nine; those after the sixth do not count
+-- the microseconds of a fraction of a second with this many digits, at most nine; those after the sixth do not count
 abbrev pub microseconds_of : ℕ → ℕ → ℕ
 microseconds_of fraction count =
     if count == 1 then 100000 * (fraction % 10)
@@ -241,7 +241,7 @@ abbrev pub first_form : List (List ℕ) → List ℕ → Option TimeRead
 first_form [] text = None
 first_form (form ∷ forms) text = read_or (fitting (form_from none_read form text) text) (first_form forms text)
 
--- whether a time may begin with so many digits and the character after them: ten or thirteen, or one of `-/.:` follows
+-- whether a time may begin with this many digits and the character after them: ten or thirteen, or one of `-/.:` follows
 abbrev pub may_begin_digits : ℕ → ℕ → Bool
 may_begin_digits count next =
     count == 10 || (count == 13 || (next == 45 || (next == 47 || (next == 46 || next == 58))))

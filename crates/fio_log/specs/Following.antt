@@ -1,4 +1,4 @@
--- What a reader has heard and told of the next line of a log, below what is known of the lines above it.
+-- What a reader has heard and said of the next line of a log, below what is known of the lines above it.
 use Rattle.std.specs.Prelude.{◌≡◌, ℕ, ◌+◌, ◌-◌, ◌<◌, ◌≤◌, ◌⊎◌, ◌==◌, ◌&&◌, Bool, true, false, if◌then◌else◌, List, length, IfSome, None, MatchBool}
 use Rattle.fio_form.specs.declared.form.LineForm.{LineForm}
 use Rattle.fio_rows.specs.Lines.{is_ended, is_message_open, is_message_whole}
@@ -17,8 +17,8 @@ pub record TellsEnd (after : Reading) (kind : Kind) (frames : List (List ℕ)) :
   pub whole : is_message_whole (state_of after).pending ≡ true
   pub only : TellsOnly after.message.items kind frames
 
--- A verdict of a kind, with these frames, tells what is heard of a line by the forms, below what is known of the lines above it; and
--- this is known below it. If a message of any length ends with the line, it tells that. `last` is the frame that was told last.
+-- A verdict of a kind, with these frames, says what is heard of a line by the forms, below what is known of the lines above it; and
+-- this is known below it. If a message of any length ends with the line, it reports that. `last` is the frame that was reported last.
 pub record TellsLine (ends : Bool) (forms : List LineForm) (text : Text) (above : Above) (kind : Kind) (reason : Reason) (frames : List (List ℕ)) (below : Above) : Type 0 where
   pub heard : LineHeard
   pub after : Reading
@@ -32,7 +32,7 @@ pub record TellsLine (ends : Bool) (forms : List LineForm) (text : Text) (above 
 abbrev pub ends_above_line : List LineForm → Text → Rows → Bool
 ends_above_line forms text above = if is_whole_text text then is_ended forms text.octets above else is_message_whole above.pending
 
--- A verdict on the last line of a log tells it, and the message of any length that ends with the log, or maybe one of a stream.
+-- A verdict on the last line of a log reports it, and the message of any length that ends with the log, or maybe one of a stream.
 pub record TellsLast (forms : List LineForm) (text : Text) (above : Above) (kind : Kind) (reason : Reason) (frames : List (List ℕ)) : Type 0 where
   pub first : Kind
   pub why : Reason
@@ -41,12 +41,12 @@ pub record TellsLast (forms : List LineForm) (text : Text) (above : Above) (kind
   pub is : TellsLine (is_message_whole below.state.pending) forms text above first why told below
   pub more : HasMore first why told kind reason frames
 
--- a verdict tells a line, which may be the last one of a log; else another one is below it
+-- a verdict reports a line, which may be the last one of a log; else another one is below it
 abbrev pub TellsOf : Bool → List LineForm → Text → Text → Above → Kind → Reason → List (List ℕ) → Above → Type 0
 TellsOf is_last forms text next above kind reason frames below = MatchBool is_last (TellsLast forms text above kind reason frames)
     (TellsLine (ends_above_line forms next below.state) forms text above kind reason frames below)
 
--- The line with this number is there: it is in a window of so many lines from a first one on, or it is the last one that is read.
+-- The line with this number is there: it is in a window of this many lines from a first one on, or it is the last one that is read.
 pub record HasLine (first lines : ℕ) (making : Making) (read number : ℕ) : Type 0 where
   pub within : number ≤ read
   pub there : ((0 < first) × (first ≤ number) × (number - first < lines)) ⊎ ((number ≡ read) × (is_whole making.ending ≡ true))
@@ -62,7 +62,7 @@ pub record HasSameLines (before after : Teller) : Type 0 where
   pub first : after.first ≡ before.first
   pub lines : after.lines ≡ before.lines
 
--- A teller has heard, or told, the same of the next line.
+-- A teller has heard, or said, the same of the next line.
 pub record FollowsAsBefore (before after : Teller) : Type 0 where
   pub same : HasSameLines before after
   pub reading : after.by_forms.reading ≡ before.by_forms.reading
@@ -71,7 +71,7 @@ pub record FollowsAsBefore (before after : Teller) : Type 0 where
   pub waiting : after.waiting ≡ before.waiting
   pub is_open : after.is_open ≡ before.is_open
 
--- What a teller has heard, or told, of the next line of a log with these lines is right, below what is known of the lines above it;
+-- What a teller has heard, or said, of the next line of a log with these lines is right, below what is known of the lines above it;
 -- and each line below it is there.
 pub record Follows (texts : Texts) (above : Above) (teller : Teller) (making : Making) (frames : List (List ℕ)) (read told : ℕ) : Type 0 where
   pub heard : IfSome teller.heard (λ heard. HasLineAt teller making read (told + 1)
@@ -97,17 +97,17 @@ pub record Begins (teller : Teller) : Type 0 where
   pub waiting : teller.waiting ≡ None
   pub unknown : teller.is_known ≡ false
 
--- The next line is heard, or told, if it is read and the forms are known.
+-- The next line is heard, or reported, if it is read and the forms are known.
 abbrev pub HasNext : Teller → ℕ → ℕ → Type 0
 HasNext teller read told = teller.is_known ≡ true → told < read → teller.heard ≡ None → teller.waiting ≡ None → ⊥
 
--- A verdict tells the next line; what is known below it is known above the one that is next.
+-- A verdict reports the next line; what is known below it is known above the one that is next.
 pub record TellsNext (texts : Texts) (forms : List LineForm) (above : Above) (is_ended : Bool) (kind : Kind) (reason : Reason) (after : Teller) (making : Making)
     (frames : List (List ℕ)) (read told : ℕ) : Type 0 where
   pub below : Above
   pub tells : TellsOf (is_ended && told + 1 == read) forms (texts (told + 1)) (texts (told + 2)) above kind reason frames below
   pub follows : Follows texts below after making frames read (told + 1)
 
--- The next line is told with the line below it, or no message that may end is open.
+-- The next line is reported with the line below it, or no message that may end is open.
 abbrev pub IsDue : Teller → ℕ → ℕ → Type 0
 IsDue teller read told = (told + 2 ≤ read) ⊎ ((teller.waiting ≡ None) × (is_message_whole teller.by_forms.reading.pending ≡ false))

@@ -1,4 +1,4 @@
--- The header of a frame: what stands before its message.
+-- The header of a frame: what is before its message.
 use Rattle.std.specs.Prelude.{ℕ, ◌==◌, if◌then◌else◌, List, [], ◌∷◌}
 use Rattle.fio_log.specs.declared.header.FrameHeader.{FrameHeader}
 
@@ -22,7 +22,7 @@ abbrev pub two_behind : List ℕ → FrameHeader
 two_behind [] = no_header
 two_behind (octet ∷ octets) = two_of octets
 
--- the header in the first ones of octets, of which so many stand before a message: more than three are the header of a packet
+-- the header in the first ones of octets, of which this many are before a message: more than three are the header of a packet
 abbrev pub header_before : ℕ → List ℕ → FrameHeader
 header_before count octets =
     if count == 1 then one_of octets

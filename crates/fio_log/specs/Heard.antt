@@ -1,4 +1,4 @@
--- What is heard of a line by the forms, and what its verdict tells of that.
+-- What is heard of a line by the forms, and what its verdict says of that.
 use Rattle.std.specs.Prelude.{◌≡◌, ℕ, ◌+◌, if◌then◌else◌, ◌<◌, ◌≤◌, ◌==◌, ◌&&◌, ◌||◌, ◌⊎◌, nat_le, not, Bool, true, false, MatchBool, List, [], ◌∷◌, length, drop, take, Option, Some, None, slice_get}
 use Rattle.std.specs.List.{AllByRecursion, list_any}
 use Rattle.fio_form.specs.Messages.{is_message}
@@ -80,7 +80,7 @@ pub record IsHeardOf (forms : List LineForm) (text : Text) (above : Rows) (heard
   pub form : says_octets heard.said.said ≡ true → heard.said.form < length forms
   pub ended : heard.said.is_ended ≡ true → after.ended.items ≡ above.message
 
--- whether a form, if there is one, has digits that go on behind its octets
+-- whether a form, if there is one, has digits that go on after its octets
 abbrev pub is_odd_by : Option LineForm → List ℕ → Bool
 is_odd_by None tail = false
 is_odd_by (Some form) tail = has_odd_digits form tail
@@ -103,7 +103,7 @@ abbrev pub is_of_echoes : Option LineForm → Bool
 is_of_echoes None = false
 is_of_echoes (Some form) = form.is_echo
 
--- What a reader knows when it tells a line: its forms, the message that the line says, the frame that was told last, and how many
+-- What a reader knows when it reports a line: its forms, the message that the line says, the frame that was reported last, and how many
 -- rows the message has that the line may go on with.
 pub record Known : Type 0 where
   pub forms : List LineForm
@@ -179,13 +179,13 @@ is_of_others kinds.Possible = true
 is_of_others kinds.Damaged = true
 is_of_others kinds.PassedOver = true
 
--- what a kind and a reason, with these frames, tell of a line that says a message
+-- what a kind and a reason, with these frames, say of a line that says a message
 abbrev pub TellsFrame : Known → List ℕ → LineHeard → Kind → Reason → List (List ℕ) → Type 0
 TellsFrame known line heard kind reason frames = MatchBool (is_of_echoes (slice_get known.forms heard.said.form))
     (TellsEcho known.message known.last kind)
     (TellsMessage known.forms known.message line known.rows heard kind reason frames)
 
--- what a kind and a reason, with these frames, tell of a line that says this by the forms
+-- what a kind and a reason, with these frames, say of a line that says this by the forms
 abbrev pub TellsSaid : Said → Known → List ℕ → LineHeard → Kind → Reason → List (List ℕ) → Type 0
 TellsSaid said.Frame known line heard kind reason frames = TellsFrame known line heard kind reason frames
 TellsSaid said.Part known line heard kind reason frames = TellsPart known.rows heard kind
@@ -195,7 +195,7 @@ TellsSaid said.Stray known line heard kind reason frames = kind ≡ kinds.Damage
 TellsSaid said.Damaged known line heard kind reason frames = kind ≡ kinds.Damaged
 TellsSaid said.Other known line heard kind reason frames = is_of_others kind ≡ true
 
--- The verdict on a line tells what was heard of it: it is damaged if that does not count.
+-- The verdict on a line says what was heard of it: it is damaged if that does not count.
 abbrev pub Tells : Known → List ℕ → LineHeard → Kind → Reason → List (List ℕ) → Type 0
 Tells known line heard kind reason frames = MatchBool (is_lost known.forms line heard)
     (kind ≡ kinds.Damaged)
@@ -224,7 +224,7 @@ pub record Above : Type 0 where
 abbrev pub above_of : FormReader → Above
 above_of reader = record { state = state_of reader.reading; rows = length reader.rows.places.items }
 
--- how many rows a message has with a line, which goes on with so many or begins
+-- how many rows a message has with a line, which goes on with this many or begins
 abbrev pub rows_going_on : Bool → ℕ → ℕ
 rows_going_on goes_on rows = if goes_on then rows + 1 else 1
 

@@ -7,7 +7,7 @@ use Rattle.fio_log.specs.declared.teller.Teller.{Teller}
 use Rattle.fio_log.specs.declared.verdict.Kind.TheVariants.{Blank}
 use Rattle.fio_log.specs.declared.verdict.LineVerdict.{LineVerdict}
 
--- so many lines of a log, from a first one on, are these, and none of them is long
+-- this many lines of a log, from a first one on, are these, and none of them is long
 abbrev pub AreLinesFrom : Texts → ℕ → ℕ → List (List ℕ) → Type 0
 AreLinesFrom texts first count lines =
     (at : ℕ) → at < count → texts (first + at) ≡ record { octets = slice_index_or lines at []; is_long = false }

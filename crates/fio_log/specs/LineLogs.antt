@@ -1,4 +1,4 @@
--- Logs of lines by themselves, and what a reader tells of them.
+-- Logs of lines by themselves, and what a reader says of them.
 use Rattle.std.specs.Prelude.{◌≡◌, ℕ, ◌+◌, ◌-◌, ◌<◌, true, false, List, [], ◌∷◌, length, take}
 use Rattle.std.specs.List.{AllByRecursion}
 use Rattle.fio_form.specs.Reading.{Frame, octets_by, read_line}
@@ -48,13 +48,13 @@ IsSuchLine forms text (Message message) = IsMessageLine forms text message
 IsSuchLine forms text Gone = is_whole_text text ≡ false
 IsSuchLine forms text Other = AllByRecursion (λ form. has form text.octets ≡ false) forms
 
--- what is told of such a line: of a message that message alone, and nothing beside it
+-- what is said of such a line: of a message that message alone, and nothing beside it
 abbrev pub IsToldAs : LineIs → Kind → Reason → List (List ℕ) → Type 0
 IsToldAs (Message message) kind reason frames = (kind ≡ Frames) × (reason ≡ None) × (frames ≡ message ∷ [])
 IsToldAs Gone kind reason frames = kind ≡ Damaged
 IsToldAs Other kind reason frames = is_of_others kind ≡ true
 
--- a line, the forms that a reader knows when it tells the line, and what it tells
+-- a line, the forms that a reader knows when it reports the line, and what it says
 pub record ToldLine : Type 0 where
   pub is : LineIs
   pub forms : List LineForm
@@ -67,7 +67,7 @@ abbrev pub AreSuchLines : Texts → ℕ → List ToldLine → Type 0
 AreSuchLines texts above [] = Unit {0}
 AreSuchLines texts above (line ∷ lines) = AreOfOneLine line.forms × IsSuchLine line.forms (texts (above + 1)) line.is × AreSuchLines texts (above + 1) lines
 
--- They are told one after another, below what is known above them; none is the last one of a log that has ended.
+-- They are reported one after another, below what is known above them; none is the last one of a log that has ended.
 abbrev pub AreToldInTurn : Texts → ℕ → Above → List ToldLine → Type 0
 AreToldInTurn texts told above [] = Unit {0}
 AreToldInTurn texts told above (line ∷ lines) =
@@ -75,6 +75,6 @@ AreToldInTurn texts told above (line ∷ lines) =
     × TellsOf false line.forms (texts (told + 1)) (texts (told + 2)) above line.kind line.reason line.frames below
     × AreToldInTurn texts (told + 1) below lines
 
--- each line is told as what it is
+-- each line is reported as what it is
 abbrev pub AreToldRight : List ToldLine → Type 0
 AreToldRight lines = AllByRecursion (λ line. IsToldAs line.is line.kind line.reason line.frames) lines

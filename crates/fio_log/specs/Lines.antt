@@ -57,7 +57,7 @@ held_next NoBreak octet = Nothing
 held_next Mark octet = SecondMark
 held_next SecondMark octet = Nothing
 
--- what the line gets in place of what is held, if an octet continues it: a blank for a no-break space, and each NUL behind a NUL
+-- what the line gets in place of what is held, if an octet continues it: a blank for a no-break space, and each NUL after a NUL
 abbrev pub held_text : Held → List ℕ
 held_text Nul = 0 ∷ []
 held_text NoBreak = 32 ∷ []

@@ -1,4 +1,4 @@
--- Digits that go on behind octets.
+-- Digits that go on after octets.
 use Rattle.std.specs.Prelude.{ℕ, ◌+◌, ◌&&◌, ◌||◌, nat_lt, not, Bool, true, false, if◌then◌else◌, List, [], ◌∷◌, Option, Some, None, is_some}
 use Rattle.fio_form.specs.declared.form.Digits.{Digits}
 use Rattle.fio_form.specs.declared.form.Digits.TheVariants as digits
@@ -38,7 +38,7 @@ is_one rows.Pieces = false
 is_one rows.Stream = false
 is_one rows.Flags = false
 
--- whether so many digits are no octets of this width: too few, or more than a row has
+-- whether this many digits are no octets of this width: too few, or more than a row has
 abbrev pub are_odd : LineRows → ℕ → Option ℕ → Bool
 are_odd rows width None = false
 are_odd rows width (Some count) = nat_lt 0 count && (nat_lt count width || not (is_one rows))
@@ -48,7 +48,7 @@ abbrev pub are_odd_by : LineRows → Option ℕ → Option ℕ → Bool
 are_odd_by rows None count = false
 are_odd_by rows (Some width) count = are_odd rows width count
 
--- whether digits go on behind octets with nothing between them: too few for one more octet, or, in a row of a dump, those of
+-- whether digits go on after octets with nothing between them: too few for one more octet, or, in a row of a dump, those of
 -- another one
 abbrev pub has_odd_digits : LineForm → List ℕ → Bool
 has_odd_digits form tail = are_odd_by form.rows (width_of form.digits) (digits_after 0 tail)

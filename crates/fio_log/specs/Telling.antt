@@ -47,7 +47,7 @@ pub record Knows (texts : Texts) (telling : Telling) : Type 0 where
   pub kept : telling.form ≡ Auto → KnowsLines texts telling.teller telling.read telling.told
   pub ready : telling.form ≡ Auto → telling.is_ready ≡ true → telling.teller.is_known ≡ true
 
--- Nothing has changed of what a reader has read and told.
+-- Nothing has changed of what a reader has read and returned.
 pub record HasReadAsBefore (before after : Telling) : Type 0 where
   pub form : after.form ≡ before.form
   pub making : after.making ≡ before.making
@@ -126,8 +126,8 @@ pub record BeginsLog (telling : Telling) : Type 0 where
   pub closed : is_message_open above.state.pending ≡ false
   pub stands : (texts : Texts) → Stands texts above telling
 
--- A verdict tells the next line by the forms of a reader, which then follows the log below that line. The last line of a log that
--- has ended is told with what ends there.
+-- A verdict reports the next line by the forms of a reader, which then follows the log below that line. The last line of a log that
+-- has ended is reported with what ends there.
 pub record HasToldLine (texts : Texts) (above : Above) (before : Telling) (verdict : LineVerdict) (after : Telling) : Type 0 where
   pub below : Above
   pub tells : TellsOf (before.is_ended && verdict.line == before.read) (forms_of before) (texts verdict.line) (texts (verdict.line + 1))

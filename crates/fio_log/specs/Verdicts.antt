@@ -6,7 +6,7 @@ use Rattle.fio_log.specs.declared.verdict.Reason.{Reason}
 use Rattle.fio_log.specs.declared.verdict.Reason.TheVariants as reasons
 use Rattle.fio_log.specs.declared.verdict.LineVerdict.{LineVerdict}
 
--- whether a line gives frames
+-- whether a line has frames
 abbrev pub is_frames : Kind → Bool
 is_frames kinds.Blank = false
 is_frames kinds.Frames = true
@@ -42,7 +42,7 @@ is_passed_over kinds.Possible = false
 is_passed_over kinds.Damaged = false
 is_passed_over kinds.PassedOver = true
 
--- whether a line of a kind has so many frames: one or more, or none
+-- whether a line of a kind has this many frames: one or more, or none
 abbrev pub has_frames : Kind → ℕ → Bool
 has_frames kinds.Frames count = nat_lt 0 count
 has_frames kinds.Blank count = count == 0
@@ -65,12 +65,12 @@ has_reason kind reasons.Loss = is_passed_over kind
 has_reason kind reasons.Heading = is_passed_over kind
 has_reason kind reasons.Copy = is_passed_over kind
 
--- Kind and reason of a verdict agree, and with so many frames.
+-- Kind and reason of a verdict agree, and with this many frames.
 pub record Agrees (verdict : LineVerdict) (count : ℕ) : Type 0 where
   pub reason : has_reason verdict.kind verdict.reason ≡ true
   pub frames : has_frames verdict.kind count ≡ true
 
--- a verdict that waits, if there is one, agrees with so many frames
+-- a verdict that waits, if there is one, agrees with this many frames
 abbrev pub WaitingAgrees : Option LineVerdict → ℕ → Type 0
 WaitingAgrees None count = Unit {0}
 WaitingAgrees (Some verdict) count = Agrees verdict count

@@ -59,7 +59,7 @@ pub(crate) struct FormReader {
     above: LineAbove,
     /// What is said of the message that is open.
     begun: Heading,
-    /// The headers of the frames of the line that is told.
+    /// The headers of the frames of the line that is reported.
     headers: Headers,
     /// The last frame.
     last: Octets,
@@ -89,7 +89,7 @@ fn is_same(one: &LineForm, other: &LineForm) -> bool {
         && one.values.as_slice() == other.values.as_slice()
 }
 
-/// Returns the first forms, which were given; at most so many.
+/// Returns the first forms, which were given; at most this many.
 fn given_of(forms: &[LineForm], given: usize) -> &[LineForm] {
     &forms[..given.min(forms.len())]
 }
@@ -163,7 +163,7 @@ impl FormReader {
         self.counts.get(form, is_echo)
     }
 
-    /// Adds forms behind those that are known, as far as there is room.
+    /// Adds forms after those that are known, as far as there is room.
     pub(crate) fn add(&mut self, forms: &[LineForm])
         ensures reading { self.new.reading ≡ self.old.reading }
         ensures rows { self.new.rows ≡ self.old.rows }
@@ -285,7 +285,7 @@ impl FormReader {
         self.reading.may_have_ended()
     }
 
-    /// Tells the message that ended with the line above the one that was heard last, or with the log.
+    /// Reports the message that ended with the line above the one that was heard last, or with the log.
     pub(crate) fn tell_ended(
         &mut self,
         above: LineVerdict,
@@ -318,7 +318,7 @@ impl FormReader {
         }
     }
 
-    /// Tells the messages that end with the log, if there are any, in the verdict on its last line, whose frames are told.
+    /// Reports the messages that end with the log, if there are any, in the verdict on its last line, whose frames are reported.
     pub(crate) fn tell_end(&mut self, last: LineVerdict, told: &mut Told) -> LineVerdict
         requires { Agrees last (length told.old.frames) }
         ensures told { is_message_whole self.old.reading.pending ≡ true → is_message self.old.reading.message.items ≡ true
@@ -354,7 +354,7 @@ impl FormReader {
     }
 }
 
-/// Returns the reason of a verdict of which frames are told, if lines with frames may have it.
+/// Returns the reason of a verdict whose frames are reported, if lines with frames may have it.
 fn reason_of_frames(verdict: LineVerdict) -> Reason
     ensures reason { has_reason Frames result ≡ true }
     ensures words { (text : List ℕ) → SaysWords text result }

@@ -92,7 +92,7 @@ fn may_begin(text: &[u8]) -> bool
     may_begin_digits(number.count, character(text, number.count))
 }
 
-/// Returns whether a time may begin with so many digits and the character after them.
+/// Returns whether a time may begin with this many digits and the character after them.
 fn may_begin_digits(count: usize, next: u8) -> bool
     ensures { result ≡ may_begin_digits count next }
 {

@@ -33,7 +33,7 @@ pub(crate) struct Count {
     from: u64,
     lines: u64,
     damaged: u64,
-    /// The fewest blanks with which the text behind the octets of a line begins, if there is one.
+    /// The fewest blanks with which the text after the octets of a line begins, if there is one.
     gap: usize,
     /// How many lines have it nearer to their octets than the first few of the form.
     near: u64,
@@ -54,11 +54,11 @@ pub(crate) struct Counts {
     blank: u64,
 }
 
-/// More lines than this show what a log is like, and what stands behind the octets of a form.
+/// More lines than this show what a log is like, and what is after the octets of a form.
 const SHOWN: u64 = 3;
 
 impl Count {
-    /// Returns whether a text behind octets is that of another line: nothing or one blank stands between, less than in the lines above,
+    /// Returns whether a text after octets is that of another line: nothing or one blank is between, less than in the lines above,
     /// and it begins with a word or a bracket.
     fn is_near(&self, tail: &[u8]) -> bool
         ensures { length tail.now ≡ 0 → result ≡ false }
@@ -72,7 +72,7 @@ impl Count {
             && begins_text(tail[blanks])
     }
 
-    /// Takes the text behind the octets of a line.
+    /// Takes the text after the octets of a line.
     fn take_tail(&mut self, tail: &[u8]) {
         if self.is_near(tail) {
             self.near = self.near.saturating_add(1);
@@ -82,7 +82,7 @@ impl Count {
     }
 }
 
-/// A log is regular if at most one of so many lines is odd: no form has it, nor is its shape that of lines above.
+/// A log is regular if at most one in this many lines is odd: no form has it, nor is its shape that of lines above.
 const REGULAR: u64 = 16;
 
 /// Returns whether a text has no digits, and a word of which a letter is no digit either.
@@ -130,7 +130,7 @@ fn blanks_of(text: &[u8]) -> usize {
         .count()
 }
 
-/// So many letters are a word, and no octets.
+/// This many letters are a word, and no octets.
 const WORD: usize = 3;
 
 impl Counts {
@@ -213,7 +213,7 @@ impl Counts {
         self.blank == 1 && self.usual() >= REGULAR && self.is_regular()
     }
 
-    /// Returns whether the text behind the octets of a line of a form is nearer to them than in the lines above.
+    /// Returns whether the text after the octets of a line of a form is nearer to them than in the lines above.
     pub(crate) fn has_near_tail(&self, form: usize, tail: &[u8]) -> bool
         ensures { length tail.now ≡ 0 → result ≡ false }
     {

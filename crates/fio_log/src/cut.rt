@@ -27,7 +27,7 @@ fn ends_within(form: &LineForm, line: &[u8]) -> bool {
     !is_offset && ends_in_form(form, line)
 }
 
-/// Returns whether a line has at a place, behind the front of a form, a message, or octets that begin one.
+/// Returns whether a line has at a place, after the front of a form, a message, or octets that begin one.
 fn has_message(
     form: &LineForm,
     line: &[u8],
@@ -61,7 +61,7 @@ fn is_in_form(form: &LineForm, octets: &Octets, held: &mut Octets) -> bool {
         )
 }
 
-/// Returns whether a line begins within the front of a form, and has behind it a message, or octets that begin one.
+/// Returns whether a line begins within the front of a form, and has after it a message, or octets that begin one.
 fn begins_within(form: &LineForm, line: &[u8], octets: &mut Octets, held: &mut Octets) -> bool {
     let count = form.front().len();
     'pieces: for above in 0..count {
@@ -74,10 +74,10 @@ fn begins_within(form: &LineForm, line: &[u8], octets: &mut Octets, held: &mut O
     false
 }
 
-/// So many pieces at the end of a front show that a line is of its form.
+/// This many pieces at the end of a front show that a line is of its form.
 const END: usize = 4;
 
-/// Returns whether the end of a form's front stands in a line, and behind it a message, or octets that begin one.
+/// Returns whether the end of a form's front is in a line, and after it a message, or octets that begin one.
 fn has_end(form: &LineForm, line: &[u8], octets: &mut Octets, held: &mut Octets) -> bool {
     let count = form.front().len();
     if count == 0 {
@@ -94,7 +94,7 @@ fn has_end(form: &LineForm, line: &[u8], octets: &mut Octets, held: &mut Octets)
     false
 }
 
-/// Returns whether a text has nothing but digits and what stands between octets.
+/// Returns whether a text has nothing but digits and what is between octets.
 fn is_of_octets(form: &LineForm, text: &[u8]) -> bool {
     let mut has_digit = false;
     for character in text {
@@ -107,7 +107,7 @@ fn is_of_octets(form: &LineForm, text: &[u8]) -> bool {
     has_digit
 }
 
-/// Returns whether a line has the front of a form, and behind it digits that are no octets.
+/// Returns whether a line has the front of a form, and after it digits that are no octets.
 fn has_digits(form: &LineForm, line: &[u8]) -> bool {
     match front_in(form, line) {
         Some(place) if place <= line.len() => {
@@ -125,7 +125,7 @@ pub(crate) fn is_of_digits(form: &LineForm) -> bool {
     )
 }
 
-/// Returns what stands before the quote at the end of a text, behind which lists may end.
+/// Returns what is before the quote at the end of a text, after which lists may end.
 fn before_quote(text: &[u8]) -> Option<&[u8]> {
     'ends: for count in 0..text.len() {
         let place = text.len() - 1 - count;
@@ -147,15 +147,15 @@ fn is_mark(piece: Piece) -> bool {
     }
 }
 
-/// So many characters, an octet and a gap, may be left of what a cut took away.
+/// This many characters, an octet and a gap, may be left of what a cut took away.
 pub(crate) const LEFT: usize = 10;
 
-/// So many digits by themselves may be what is left of an octet, and more than so many are no offset.
+/// This many digits by themselves may be what is left of an octet, and more than this many are no offset.
 const FEW_DIGITS: usize = 3;
 
 const OFFSET_DIGITS: usize = 10;
 
-/// Returns whether a character may stand in or between octets of a form.
+/// Returns whether a character may be in or between octets of a form.
 fn is_of_run(form: &LineForm, character: u8) -> bool {
     digit(character).is_some() || form.cycle().contains(&Step::Mark(character))
 }
@@ -181,8 +181,8 @@ fn past_blanks(text: &[u8]) -> &[u8] {
     &[]
 }
 
-/// Returns whether a line is the end of octets: it begins with digits and what stands between octets, and behind these has two
-/// octets or more with a gap between them; or it is nothing but digits and what stands between octets, and short or with a quote behind them.
+/// Returns whether a line is the end of octets: it begins with digits and what is between octets, and after these has two
+/// octets or more with a gap between them; or it is nothing but digits and what is between octets, and short or with a quote after them.
 fn is_rest(form: &LineForm, line: &[u8], octets: &mut Octets) -> bool {
     if !is_of_digits(form) {
         return false;
@@ -244,7 +244,7 @@ pub(crate) fn is_cut_line(
     false
 }
 
-/// Returns whether the end of a form's front stands in a line that no form has, and behind it a message, or octets that begin one.
+/// Returns whether the end of a form's front is in a line that no form has, and after it a message, or octets that begin one.
 pub(crate) fn has_ends(
     forms: &[LineForm],
     line: &[u8],
@@ -259,7 +259,7 @@ pub(crate) fn has_ends(
     false
 }
 
-/// Returns how many characters of the marks behind an octet a text begins with.
+/// Returns how many characters of the marks after an octet a text begins with.
 pub(crate) fn marks_in(form: &LineForm, text: &[u8]) -> usize {
     let mut place = 0;
     for step in form.cycle() {
@@ -273,7 +273,7 @@ pub(crate) fn marks_in(form: &LineForm, text: &[u8]) -> usize {
     place
 }
 
-/// Returns whether a line ends within an octet: what is behind its octets is a gap, or none, and the beginning of one more.
+/// Returns whether a line ends within an octet: what is after its octets is a gap, or none, and the beginning of one more.
 pub(crate) fn ends_in_gap(form: &LineForm, tail: &[u8]) -> bool
     ensures { length tail.now ≡ 0 → result ≡ false }
 {

@@ -2,10 +2,10 @@
 use crate::digits::is_letter;
 use arrayvec::ArrayVec;
 
-/// So many characters are kept of the beginning and of the end of lines, each number as one sign.
+/// This many characters are kept of the beginning and of the end of lines, each number as one sign.
 const SIGNS: usize = 16;
 
-/// So many lines show how those of a form begin and end.
+/// This many lines show how those of a form begin and end.
 const LINES: u8 = 8;
 
 /// The sign of a number.

@@ -27,7 +27,7 @@ impl Foreign {
     }
 }
 
-/// Returns how many octets of levels an answer has with so many octets behind its type: they stand before a stamp of four, and are 1
+/// Returns how many octets of levels an answer has with this many octets after its type: they are before a stamp of four, and are 1
 /// to 32; else 0.
 fn levels_of(count: usize) -> u8
     ensures { result ≡ levels_of count }
@@ -39,7 +39,7 @@ fn levels_of(count: usize) -> u8
     }
 }
 
-/// Returns how many data octets a command has with so many octets behind its type: as many control octets follow, 1 to 32; else 0.
+/// Returns how many data octets a command has with this many octets after its type: as many control octets follow, 1 to 32; else 0.
 fn data_octets(count: usize) -> u8
     ensures { result ≡ data_octets count }
 {
@@ -84,7 +84,7 @@ fn of_size(message: &[u8]) -> Foreign {
     }
 }
 
-/// Returns the message of a module of another size that the octets of a form are behind those before their message, if they are one.
+/// Returns the message of a module of another size that the octets of a form are after those before their message, if they are one.
 fn of_size_in(form: &LineForm, octets: &[u8]) -> Foreign {
     if form.is_framed {
         let mut held = Octets::new();

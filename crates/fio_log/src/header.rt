@@ -1,10 +1,10 @@
-//! The header of a frame: what stands between the front of its line and its message.
+//! The header of a frame: what is between the front of its line and its message.
 ghost use Rattle.std.specs.Prelude.{◌≡◌, false};
 ghost use Rattle.fio_log.specs.Headers.{header_before, two_of};
 
 use fio_form::{LineForm, LineRows, Octets, run_in};
 
-/// The address and the control octet that stand before a message.
+/// The address and the control octet before a message.
 #[derive(Clone, Copy, Debug, Default, PartialEq, Eq)]
 pub struct FrameHeader {
     /// The address; 0 if there is none.
@@ -37,7 +37,7 @@ fn two_of(octets: &[u8]) -> FrameHeader
     }
 }
 
-/// Returns the header in the first ones of octets, of which so many stand before a message: the last two, or the only one. More than
+/// Returns the header in the first ones of octets, of which this many are before a message: the last two, or the only one. More than
 /// three are the header of a packet, and have no address.
 pub(crate) fn header_before(count: usize, octets: &[u8]) -> FrameHeader
     ensures { result ≡ header_before count octets.now }
@@ -54,7 +54,7 @@ pub(crate) fn header_before(count: usize, octets: &[u8]) -> FrameHeader
     }
 }
 
-/// Returns an octet of a frame that stands behind an escape.
+/// Returns an octet of a frame that is after an escape.
 fn unescaped(octet: u8) -> u8 {
     if octet / 32 % 2 == 0 {
         octet + 32
@@ -63,7 +63,7 @@ fn unescaped(octet: u8) -> u8 {
     }
 }
 
-/// Returns the header of a frame of the wire, by its octets behind the flag: as they are, or with escapes.
+/// Returns the header of a frame of the wire, by its octets after the flag: as they are, or with escapes.
 fn header_inside(has_escapes: bool, octets: &[u8]) -> FrameHeader {
     if !has_escapes {
         return two_of(octets);
@@ -76,7 +76,7 @@ fn header_inside(has_escapes: bool, octets: &[u8]) -> FrameHeader {
     }
 }
 
-/// Returns the header of a frame of the wire with so many octets, which begins with these and holds a message with so many: octets
+/// Returns the header of a frame of the wire with this many octets, which begins with these and holds a message with this many: octets
 /// beside that, header, check and flags are escapes. The first flag counts, the last one does not.
 pub(crate) fn frame_header(count: usize, message: usize, octets: &[u8]) -> FrameHeader {
     match octets {
@@ -85,7 +85,7 @@ pub(crate) fn frame_header(count: usize, message: usize, octets: &[u8]) -> Frame
     }
 }
 
-/// Returns the header of the octets of a form, which hold a message with so many.
+/// Returns the header of the octets of a form, which hold a message with this many.
 pub(crate) fn header_in(form: &LineForm, octets: &[u8], message: usize) -> FrameHeader
     ensures { form.now.is_framed ≡ false → result ≡ header_before form.now.before octets.now }
 {
@@ -124,7 +124,7 @@ fn is_apart(line: &[u8], at: usize) -> bool {
 }
 
 /// Returns the header in a front that ends with octets, which are written as those of the line are, and no part of another number:
-/// the last two, or the only one, of at most three. The octets of the line are so many from a place on.
+/// the last two, or the only one, of at most three. The octets of the line are this many from a place on.
 pub(crate) fn header_of_front(
     form: &LineForm,
     line: &[u8],

@@ -7,10 +7,10 @@ use crate::sides::{is_of_side, said_at};
 use arrayvec::ArrayVec;
 use fio_form::{LineForm, LineRows, Piece};
 
-/// So many dumps above show which lines are headings,
+/// This many dumps above show which lines are headings,
 const DUMPS: usize = 8;
 
-/// and so many of these have a line of its shape directly above them.
+/// and this many of these have a line of its shape directly above them.
 const HEADED: usize = 2;
 
 /// The time of octets, and who sent them.
@@ -31,7 +31,7 @@ impl Heading {
         }
     }
 
-    /// Returns what a line says of octets at a place. A time behind it says nothing of them.
+    /// Returns what a line says of octets at a place. A time after it says nothing of them.
     pub(crate) fn of(line: &[u8], place: usize) -> Heading {
         Heading {
             time: time_before(line, place),
@@ -99,7 +99,7 @@ impl LineAbove {
         self.shapes.clear();
     }
 
-    /// Takes a line without octets that no form has; `is_plain`: its words say nothing of the log.
+    /// Takes a line without octets that no form has; `is_plain`: its text says nothing of the log.
     pub(crate) fn take(&mut self, line: &[u8], is_plain: bool) {
         self.heading = Heading::of(line, line.len());
         self.shape = if is_plain { sum_of(line) } else { 0 };

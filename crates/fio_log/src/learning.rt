@@ -10,15 +10,15 @@ use fio_guess::Window;
 use fio_guess::table::FEW;
 use fio_sniff::{Forms, Looking, Sniffer};
 
-/// So many lines below one that may be of a form that is not known are looked at with it.
+/// This many lines below one that may be of a form that is not known are looked at with it.
 const NEAR: u8 = 64;
 
-/// So many lines are passed over after a window that gave no forms; twice as many after each further one, up to the most.
+/// This many lines are passed over after a window that gave no forms; twice as many after each further one, up to the most.
 const REST: u64 = 1_024;
 
 const LONGEST_REST: u64 = 65_536;
 
-/// After so many windows that lines have ended that are too long, lines are looked at with those near them.
+/// After this many windows that lines have ended that are too long, lines are looked at with those near them.
 const RAGGED: u8 = 2;
 
 /// Learns forms from lines: from those of the first window, and later from those near a line that may be of a form that is not

@@ -24,13 +24,13 @@
 //! | find the first time in a line | `time_in` |
 //! | read a line of the program's own texts | `read_own_line` |
 //!
-//! A line is kept until the forms are known (`learning`), heard by them (`by_forms`), and told as soon as its verdict depends on
+//! A line is kept until the forms are known (`learning`), heard by them (`by_forms`), and reported as soon as its verdict depends on
 //! no line below it (`teller`). The definitions are in `specs/`: characters (`Digits`), times (`Clock`), lines (`Lines`), which
 //! are blank (`Blanks`), what words say (`Wordings`), the program's own texts (`OwnTexts`), frames and their places (`Frames`),
 //! what a verdict says (`Verdicts`, `OwnVerdicts`), what a reader has read and returned (`Telling`), how many lines wait
-//! (`Waiting`), what is known of them (`Knowing`), what is heard of a line by the forms and told of that (`Heard`), from one line to the
+//! (`Waiting`), what is known of them (`Knowing`), what is heard of a line by the forms and said of that (`Heard`), from one line to the
 //! next (`Following`), in a log of lines by themselves (`LineLogs`), by the forms that are known (`KnownForms`), digits that
-//! go on behind octets (`Spoilt`), and the sizes that messages of other modules have (`Foreign`).
+//! go on after octets (`Spoilt`), and the sizes that messages of other modules have (`Foreign`).
 //!
 //! # What is proved
 //!
@@ -46,16 +46,16 @@
 //! were read (`knows`), a line that is said to be blank is (`blank`), and one that is said to speak of loss, or to be a heading, does
 //! or is, by its own words (`words`). `time_in` returns the first time by the table of `specs/Clock.antt` (`time`).
 //!
-//! Of such a log a verdict tells its line, by the forms that the reader has (`line` of `Reader::verdict`, by `HasToldLine`): what
+//! Of such a log a verdict reports its line, by the forms that the reader has (`line` of `Reader::verdict`, by `HasToldLine`): what
 //! `Reading::read` of `fio_rows` reads of it below what is open above it, and this is what was read of the lines above, from the
 //! beginning of the log on, where nothing is open (`begins`, `stands`). If the line says a message, that is its first frame, and its
-//! only one if the line ends with its octets and no form has a line in what is before them; so messages by themselves are told, and
+//! only one if the line ends with its octets and no form has a line in what is before them; so messages by themselves are reported, and
 //! nothing beside them (`lines_by_themselves_are_told`). Octets that may go on are a part, and octets without a message are passed over. Such a line is damaged only if it is too long, has NULs, or
-//! digits that go on behind its octets, or would be the 513th row of a message. A message of any length that ends with a line, since the
+//! digits that go on after its octets, or would be the 513th row of a message. A message of any length that ends with a line, since the
 //! next one does not go on with it or the log ends, is its only frame.
 //!
 //! Not proved: which forms a reader has; whether an echo is one of the frame above; which messages a stream has, the further messages
-//! of a line, where frames stand; what a line is that no form has, and what the last line of a log has that ends within a stream. All
+//! of a line, where frames are; what a line is that no form has, and what the last line of a log has that ends within a stream. All
 //! this is tested by `tests/fiolog-reader.py` and `tests/real-logs.py`.
 #![tactic(auto)]
 

@@ -14,7 +14,7 @@ fn begun_in(form: &LineForm, line: &[u8]) -> Option<usize> {
     begun
 }
 
-/// Returns whether a text is the end of a line of a form: digits and what stands between octets, and behind these no word.
+/// Returns whether a text is the end of a line of a form: digits and what is between octets, and after these no word.
 fn is_end(form: &LineForm, text: &[u8]) -> bool {
     let mut has_digit = false;
     let mut is_tail = false;
@@ -35,7 +35,7 @@ fn is_end(form: &LineForm, text: &[u8]) -> bool {
     has_digit
 }
 
-/// Returns whether a form writes octets as digits behind a front that begins the line.
+/// Returns whether a form writes octets as digits after a front that begins the line.
 fn is_of_digits(form: &LineForm) -> bool {
     !form.is_anywhere
         && !matches!(

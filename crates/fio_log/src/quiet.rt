@@ -13,7 +13,7 @@ use fio_guess::may_begin;
 pub(crate) enum Hidden {
     /// Nothing that may be a frame.
     Nothing,
-    /// Two octets or more that begin a message, or are one whose length nothing tells.
+    /// Two octets or more that begin a message, or are one of unknown length.
     Beginning,
     /// A message of two octets or more, whose length is known.
     Message,
@@ -30,7 +30,7 @@ impl Hidden {
     }
 }
 
-/// Returns what octets are: those of a run may have more behind a message.
+/// Returns what octets are: those of a run may have more after a message.
 fn held_by(octets: &[u8]) -> Hidden {
     if octets.len() < 2 {
         return Hidden::Nothing;
@@ -63,7 +63,7 @@ pub(crate) fn is_run(digits: Digits, text: &[u8], end: usize) -> bool {
 }
 
 /// Returns how many characters of a run are passed over: all; but of one that begins within a word, as the end of `received` does,
-/// only those of the word, since octets may begin behind it.
+/// only those of the word, since octets may begin after it.
 fn passed_over(is_in_word: bool, run: &[u8]) -> usize
     ensures { result ≤ length run.now }
 {
@@ -75,7 +75,7 @@ fn passed_over(is_in_word: bool, run: &[u8]) -> usize
         .count()
 }
 
-/// Returns the notation of octets of a form that begin at a place of a text: a literal up to any quote stands behind this quote.
+/// Returns the notation of octets of a form that begin at a place of a text: a literal up to any quote follows this quote.
 fn digits_at(form: &LineForm, text: &[u8], place: usize) -> Option<Digits> {
     if form.digits() != Digits::Text(0) {
         return Some(form.digits());
@@ -135,7 +135,7 @@ pub(crate) fn held_by_text(forms: &[LineForm], text: &[u8], octets: &mut Octets)
     held
 }
 
-/// Returns whether a place is within a number or blanks that the front of a form begins with: then the front stands directly before
+/// Returns whether a place is within a number or blanks that the front of a form begins with: then the front is directly before
 /// it if it does there, since it takes all digits or blanks. So long words cost no more than others.
 fn is_within(form: &LineForm, text: &[u8], place: usize) -> bool {
     if place == 0 || place >= text.len() {
@@ -153,7 +153,7 @@ fn is_within(form: &LineForm, text: &[u8], place: usize) -> bool {
     }
 }
 
-/// Returns whether the front of a form stands somewhere in a line. A front without a word stands everywhere.
+/// Returns whether the front of a form is somewhere in a line. A front without a word is everywhere.
 fn has_front(form: &LineForm, line: &[u8], octets: &mut Octets) -> bool {
     'places: for place in 0..line.len() {
         if !is_within(form, line, place) && front_in(form, &line[place..]).is_some() {
@@ -163,7 +163,7 @@ fn has_front(form: &LineForm, line: &[u8], octets: &mut Octets) -> bool {
     find(form, line, octets).is_some()
 }
 
-/// Returns whether the front of one of some forms stands somewhere in a line.
+/// Returns whether the front of one of some forms is somewhere in a line.
 pub(crate) fn has_fronts(forms: &[LineForm], line: &[u8], octets: &mut Octets) -> bool {
     for form in forms {
         if has_front(form, line, octets) {
@@ -173,7 +173,7 @@ pub(crate) fn has_fronts(forms: &[LineForm], line: &[u8], octets: &mut Octets) -
     false
 }
 
-/// Returns whether a text has a front that is one of some forms, and two octets or more behind it: those of another line.
+/// Returns whether a text has a front that is one of some forms, and two octets or more after it: those of another line.
 pub(crate) fn has_further(forms: &[LineForm], text: &[u8], octets: &mut Octets) -> bool {
     for form in forms {
         'places: for place in 0..text.len() {

@@ -343,7 +343,7 @@ impl Reader {
     }
 }
 
-/// Reads the line that is whole; returns whether a verdict can be told. That of a line of an own text is written to `own`.
+/// Reads the line that is whole; returns whether a verdict can be returned. That of a line of an own text is written to `own`.
 fn read_line(
     form: Form,
     maker: &LineMaker,
@@ -413,7 +413,7 @@ fn next_verdict(
     }
 }
 
-/// Ends the log for the teller, if the verdict of its last line cannot be told yet.
+/// Ends the log for the teller, if the verdict of its last line cannot be returned yet.
 fn end_teller(form: Form, is_ready: bool, maker: &LineMaker, at: At, teller: &mut Teller)
     ensures waiting { teller.new.waiting ≡ teller.old.waiting }
     ensures kept { (form ≡ Auto → Fills teller.old at.read at.told) → form ≡ Auto → Fills teller.new at.read at.told }
@@ -433,7 +433,7 @@ fn end_teller(form: Form, is_ready: bool, maker: &LineMaker, at: At, teller: &mu
     teller.end(maker, at);
 }
 
-/// Hears the next line, if it is there; returns whether its verdict can be told.
+/// Hears the next line, if it is there; returns whether its verdict can be returned.
 fn next_is_heard(form: Form, maker: &LineMaker, at: At, teller: &mut Teller) -> bool
     ensures waiting { teller.new.waiting ≡ teller.old.waiting }
     ensures known { KnowsAsBefore teller.old teller.new }
@@ -447,7 +447,7 @@ fn next_is_heard(form: Form, maker: &LineMaker, at: At, teller: &mut Teller) -> 
     form == Form::Auto && teller.hear_next(maker, at)
 }
 
-/// Returns whether the next verdict can be told: after the end that of each line can.
+/// Returns whether the next verdict can be returned: after the end that of each line can.
 fn can_tell(at: At, is_heard: bool) -> bool
     ensures less { result ≡ true → at.told < at.read }
     ensures ended { at.is_ended ≡ true → at.told < at.read → result ≡ true }

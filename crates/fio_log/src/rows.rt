@@ -1,4 +1,4 @@
-//! The rows in which octets stand that are no message yet.
+//! The rows with octets that are no message yet.
 ghost use Rattle.std.specs.Prelude.{◌≡◌, ◌+◌, ◌<◌, ◌↔◌, [], IsTrue, length};
 ghost use Rattle.fio_log.specs.declared.rows.TheConstants.{ROWS};
 
@@ -43,7 +43,7 @@ impl MessageRows {
         self.places.try_push(place).is_ok()
     }
 
-    /// Tells the places of all rows; returns whether there was room for them.
+    /// Reports the places of all rows; returns whether there was room for them.
     pub(crate) fn add_to(&self, told: &mut Told) -> bool
         ensures frames { told.new.frames ≡ told.old.frames }
         ensures room { told.old.places ≡ [] → IsTrue result }
@@ -57,7 +57,7 @@ impl MessageRows {
     }
 }
 
-/// A row of a stream: where it stands, how many of its octets are in no message yet, and what its line says of them.
+/// A row of a stream: where it is, how many of its octets are in no message yet, and what its line says of them.
 #[derive(Clone, Copy, Debug, Default)]
 pub(crate) struct StreamRow {
     line: u64,
@@ -70,7 +70,7 @@ pub(crate) struct StreamRow {
 }
 
 impl StreamRow {
-    /// Returns the row at a place, with so many octets.
+    /// Returns the row at a place, with this many octets.
     pub(crate) fn of(place: Place, octets: usize, heading: Heading) -> StreamRow {
         StreamRow {
             line: place.line,
@@ -91,7 +91,7 @@ impl StreamRow {
         }
     }
 
-    /// Returns where it stands.
+    /// Returns where it is.
     fn place(self) -> Place {
         Place {
             line: self.line,
@@ -149,7 +149,7 @@ impl StreamRows {
         self.first = 0;
     }
 
-    /// Takes so many octets from the first rows on; tells the place of each row that had some of them, if they are a message.
+    /// Takes this many octets from the first rows on; reports the place of each row that had some of them, if they are a message.
     /// Returns whether there was room.
     pub(crate) fn take(&mut self, count: usize, is_message: bool, told: &mut Told) -> bool
         ensures { told.new.frames ≡ told.old.frames }
@@ -176,7 +176,7 @@ impl StreamRows {
     }
 }
 
-/// Returns how many of some octets are left if so many are taken.
+/// Returns how many of some octets are left if this many are taken.
 fn octets_left(octets: u16, taken: usize) -> u16 {
     usize::from(octets).saturating_sub(taken) as u16
 }

@@ -1,4 +1,4 @@
-//! Further messages of a line, behind its first one.
+//! Further messages of a line, after its first one.
 ghost use Rattle.std.specs.Prelude.{◌≡◌, ◌≤◌, None, true};
 ghost use Rattle.fio_log.specs.Heard.{HasNoLine};
 
@@ -21,7 +21,7 @@ fn is_told(form: &LineForm) -> bool {
     is_told && form.rows == LineRows::One && !form.is_echo
 }
 
-/// Finds the next message of a line from a place on: the first place at which the front of a form stands, and behind it octets
+/// Finds the next message of a line from a place on: the first place at which the front of a form is, and after it octets
 /// that are a message. Returns where its octets are, and which of those that it writes to `octets` are the message.
 pub(crate) fn second_in(
     forms: &[LineForm],
@@ -57,7 +57,7 @@ pub(crate) fn second_in(
     None
 }
 
-/// Returns whether the text between two messages, or behind the last one, has no octets that may be one.
+/// Returns whether the text between two messages, or after the last one, has no octets that may be one.
 pub(crate) fn is_quiet_between(
     forms: &[LineForm],
     line: &[u8],

@@ -7,7 +7,7 @@ use arrayvec::ArrayVec;
 /// The most shapes that are kept.
 const SHAPES: usize = 256;
 
-/// So many lines above show that a shape is a neighbour's, unless half of them or more have a message.
+/// This many lines above show that a shape is a neighbour's, unless half of them or more have a message.
 const USUAL: u16 = 3;
 
 /// The most lines that are counted of a shape.
@@ -61,7 +61,7 @@ impl Shapes {
         let _fits = self.shapes.try_extend_from_slice(&other.shapes);
     }
 
-    /// Returns whether so many lines above as show it have the shape of a line, and counts this one.
+    /// Returns whether enough lines above have the shape of a line to show it, and counts this one.
     pub(crate) fn are_usual(&mut self, line: &[u8], has_message: bool) -> bool {
         let sum = sum_of(line);
         for shape in self.shapes.as_mut_slice() {

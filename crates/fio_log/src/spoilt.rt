@@ -72,7 +72,7 @@ fn has_octets_near(form: &LineForm, text: &[u8], octets: &mut Octets) -> bool {
     false
 }
 
-/// Returns whether a line has the front of a form, and behind it octets of which the first one cannot be read.
+/// Returns whether a line has the front of a form, and after it octets of which the first one cannot be read.
 pub(crate) fn has_spoilt_octet(form: &LineForm, line: &[u8], octets: &mut Octets) -> bool {
     match front_in(form, line) {
         Some(place) if place <= line.len() => {
@@ -86,7 +86,7 @@ pub(crate) fn has_spoilt_octet(form: &LineForm, line: &[u8], octets: &mut Octets
     }
 }
 
-/// Returns whether digits go on behind octets with nothing between them: too few for one more octet, or, in a row of a dump,
+/// Returns whether digits go on after octets with nothing between them: too few for one more octet, or, in a row of a dump,
 /// those of another one.
 pub(crate) fn has_odd_digits(form: &LineForm, tail: &[u8]) -> bool
     ensures { result ≡ has_odd_digits form.now tail.now }

@@ -117,7 +117,7 @@ impl Teller {
         self.by_forms.read_as(form)
     }
 
-    /// Reads the line that is whole; returns whether a verdict can be told.
+    /// Reads the line that is whole; returns whether a verdict can be returned.
     pub(crate) fn read_line(&mut self, maker: &LineMaker, at: At) -> bool
         ensures waiting { self.new.waiting ≡ self.old.waiting }
         ensures kept { (self.old.is_known ≡ false → at.read ≤ at.told + length self.old.learning.window + 1) → Fills self.new at.read at.told }
@@ -245,7 +245,7 @@ impl Teller {
         self.hear_next(maker, at);
     }
 
-    /// Hears the line whose verdict is next, if it is there; returns whether its verdict can be told.
+    /// Hears the line whose verdict is next, if it is there; returns whether its verdict can be returned.
     pub(crate) fn hear_next(&mut self, maker: &LineMaker, at: At) -> bool
         ensures waiting { self.new.waiting ≡ self.old.waiting }
         ensures known { KnowsAsBefore self.old self.new }
@@ -370,7 +370,7 @@ impl Teller {
     }
 }
 
-/// Returns the line that is so many below the last one with a verdict, if it is among the lines of the window, or is the last one that
+/// Returns the line that is this many below the last one with a verdict, if it is among the lines of the window, or is the last one that
 /// is read.
 fn line_at<'a>(
     maker: &'a LineMaker,

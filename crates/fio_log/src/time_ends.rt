@@ -94,7 +94,7 @@ fn goes_on_behind(text: &[u8]) -> bool
     }
 }
 
-/// Returns whether a unit is behind the first character of a text.
+/// Returns whether a unit is after the first character of a text.
 fn is_unit_behind(text: &[u8]) -> bool
     ensures { result ≡ is_unit (drop 1 text.now) }
 {

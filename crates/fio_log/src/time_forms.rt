@@ -110,7 +110,7 @@ fn most_digits(sign: u8) -> usize
     }
 }
 
-/// Returns whether a number of so many digits is right for a sign, by its first digit and by what follows.
+/// Returns whether a number of this many digits is right for a sign, by its first digit and by what follows.
 fn is_right(sign: u8, count: usize, first: u8, below: &[u8]) -> bool
     ensures { result ≡ has_right_digits sign count first below.now }
 {

@@ -134,7 +134,7 @@ impl Told {
     }
 }
 
-/// Returns whether there is room for another frame of so many octets.
+/// Returns whether there is room for another frame of this many octets.
 fn has_room(
     ends: &ArrayVec<u32, TOLD_FRAMES>,
     octets: &ArrayVec<u8, TOLD_OCTETS>,

@@ -195,7 +195,7 @@ open_kept (Some form) forms line tail state =
     IsAdded state.octets (next_row form line) (if b then next_line_in form forms line tail state else first forms line tail state))
     [ true ↦ next_octets_kept form forms line tail state | false ↦ λ e. absurd (no false refl e) ]
 
--- a row that goes on is behind the open octets, or damaged
+-- a row that goes on is after the open octets, or damaged
 pub row_kept : (forms : List LineForm) (line tail : List ℕ) (state : Rows) → line_goes_on forms line state ≡ true →
     IsAdded state.octets (row_by (open_form forms state) line) (read_in forms line tail state)
 unfolding read_in line_goes_on

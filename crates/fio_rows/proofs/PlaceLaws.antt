@@ -1,4 +1,4 @@
--- Octets stand where they are found.
+-- Octets are where they are found.
 use Rattle.std.proofs.Common.{ℕ, ◌≡◌, ◌≢◌, ◌+◌, ◌-◌, ◌≤◌, Bool, true, false, not, List, [], ◌∷◌, ◌++◌, length, drop, take, Option, Some, None, refl, sym, ap, subst, ◌∙◌, arith}
 use Rattle.std.specs.Prelude.{if◌then◌else◌, nat_le}
 use Rattle.std.proofs.lemmas.Bool.Decides.{nat_tests}
@@ -67,7 +67,7 @@ unfolding form_places
 first_by form line found some few within at =
     there (digits_behind_front form line) form.cycle.items (text_behind_front form line) (octets_found form line) line found (found_is form line some) some few within at.1 at.2
 
--- the octets of a line that begins stand where they are found
+-- the octets of a line that begins are where they are found
 pub first_there : (form : LineForm) (line : List ℕ) (found : Found) → has form line ≡ true → length (octets_found form line) ≤ OCTETS →
     AreWithin found line → AreAt found line (form_places form line) →
     AreWritten (digits_behind_front form line) form.cycle.items (octets_found form line) (text_between found line)
@@ -117,7 +117,7 @@ next_by false form line found e some few within at =
     let at' : AreAt found line (form_places form line) = rw e at at in
     rw e (first_by form line found some' few' within at')
 
--- the octets of a row that goes on stand where they are found
+-- the octets of a row that goes on are where they are found
 pub next_there : (form : LineForm) (line : List ℕ) (found : Found) → has_next form line ≡ true → length (next_octets form line) ≤ OCTETS →
     AreWithin found line → AreAt found line (next_places form line) →
     AreWritten (next_digits form line) form.cycle.items (next_octets form line) (text_between found line)

@@ -37,7 +37,7 @@ room form octets tail whole sound e =
     or_false (nat_le OCTETS (length octets)) (is_cut_short tail) (room_by (nat_le OCTETS (length octets) || is_cut_short tail) form octets whole sound e) in
     grind (arith, nat_tests)
 
--- octets that are few enough fit behind those that are there
+-- octets that are few enough fit after those that are there
 fits : (octets row : List ℕ) → length (octets ++ row) < OCTETS → nat_lt OCTETS (length octets + length row) ≡ false
 fits octets row l = let e : length (octets ++ row) ≡ length octets + length row = length-append octets row in grind (arith, nat_tests)
 

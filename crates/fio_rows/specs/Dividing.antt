@@ -8,7 +8,7 @@ use Rattle.fio_rows.specs.declared.dividing.Next.{Next}
 use Rattle.fio_rows.specs.declared.dividing.Next.TheVariants.{Message, Broken, Wait}
 use Rattle.fio_rows.specs.declared.dividing.TheConstants.{FREE, FULL}
 
--- where a message of a size ends, if so many octets have all of it
+-- where a message of a size ends, if this many octets have all of it
 abbrev pub known_end : Size → ℕ → Option ℕ
 known_end (sizes.Known size) count = if nat_le size count then Some size else None
 known_end sizes.Unknown count = None
@@ -20,7 +20,7 @@ abbrev pub begins_command : List ℕ → Bool
 begins_command [] = false
 begins_command (code ∷ rest) = nat_lt code 128
 
--- whether the octets behind a command are its answer, or the same command
+-- whether the octets after a command are its answer, or the same command
 abbrev pub is_repeated_or_answered : List ℕ → List ℕ → Bool
 is_repeated_or_answered command rest =
     begins_command command && nat_le 2 (length rest) && (may_answer command (take 2 rest) || starts_with nat_eq rest command)
@@ -39,7 +39,7 @@ unfoldable pub beginning_from : ℕ → List ℕ → Option ℕ
 beginning_from at [] = None
 beginning_from at (octet ∷ octets) = if stream_goes_on (octet ∷ octets) then Some at else beginning_from (at + 1) octets
 
--- where the stream goes on with a command, behind the first octet
+-- where the stream goes on with a command, after the first octet
 abbrev pub next_beginning : List ℕ → Option ℕ
 next_beginning octets = beginning_from 1 (drop 1 octets)
 
@@ -92,7 +92,7 @@ divided_if None size octets = Wait
 divided_if (Some true) size octets = divided_at size octets
 divided_if (Some false) size octets = given_up octets
 
--- what is next if nothing tells the length but the next command
+-- what is next if nothing says the length but the next command
 abbrev pub divided_before : Option ℕ → List ℕ → Next
 divided_before (Some end) octets = if nat_lt end FREE then divided_at end octets else given_up octets
 divided_before None octets = if nat_lt (length octets) FULL then Wait else given_up octets
@@ -105,7 +105,7 @@ divided_by (sizes.Known size) octets =
 divided_by sizes.Any octets = divided_before (next_beginning octets) octets
 divided_by sizes.None octets = given_up octets
 
--- whether octets may stand below a command: no answer to another one
+-- whether octets may be below a command: no answer to another one
 abbrev pub may_stand : List ℕ → List ℕ → Bool
 may_stand command [] = true
 may_stand command (first ∷ []) = true

@@ -23,11 +23,11 @@ flag_in octets = position (λ octet. octet == FLAG) octets
 abbrev pub given_up_all : List ℕ → Next
 given_up_all octets = if nat_le FULL (length octets) then Broken (length octets) else Wait
 
--- what a frame is, of which so many octets are taken: all but the flag behind it
+-- what a frame is, of which this many octets are taken: all but the flag after it
 abbrev pub next_by_frame : ℕ → List ℕ → Next
 next_by_frame count frame = if is_right frame then (if is_message (held_by_frame frame) then Message count else Idle count) else Broken count
 
--- what is next between a flag and the one behind it, which begins the next frame
+-- what is next between a flag and the one after it, which begins the next frame
 abbrev pub unframed_to : Option ℕ → List ℕ → Next
 unframed_to None octets = given_up_all octets
 unframed_to (Some zero) octets = Idle 1
@@ -47,14 +47,14 @@ unframed_at (Some (suc flag)) octets = Broken (suc flag)
 unfoldable pub unframed : List ℕ → Next
 unframed octets = unframed_at (flag_in octets) octets
 
--- so many octets that are there leave it at its front
+-- after this many of its octets are taken, it is at its front
 pub record Takes (count : ℕ) (before after : List ℕ) : Type 0 where
   pub some : 0 < count
   pub within : count ≤ length before
   pub rest : after ≡ drop count before
 
 -- Some of the octets that were there are divided off, in order; the rest stays. A message is what the frame holds that ends
--- with the flag behind them.
+-- with the flag after them.
 abbrev pub DividesFrame : Next → List ℕ → List ℕ → List ℕ → Type 0
 DividesFrame (Message count) before message after =
     Takes count before after × (message ≡ held_by_frame (take (count + 1) before)) × (is_message message ≡ true)

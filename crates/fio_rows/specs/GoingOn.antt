@@ -26,7 +26,7 @@ abbrev pub past_blanks : List Step → List Step
 past_blanks [] = []
 past_blanks (step ∷ steps) = if is_mark 32 step then past_blanks steps else step ∷ steps
 
--- what is left of a text behind the marks of a gap with which it begins
+-- what is left of a text after the marks of a gap with which it begins
 unfoldable pub past_gap : List Step → List ℕ → List ℕ
 past_gap [] text = text
 past_gap (step ∷ gap) [] = []
@@ -50,11 +50,11 @@ may_go_on_in Pieces cycle row tail = true
 may_go_on_in Stream cycle row tail = false
 may_go_on_in Flags cycle row tail = false
 
--- whether the next line may go on with the octets of a row, of so many octets and with this tail
+-- whether the next line may go on with the octets of a row, of this many octets and with this tail
 unfoldable pub may_go_on : LineForm → ℕ → List ℕ → Bool
 may_go_on form row tail = may_go_on_in form.rows form.cycle.items row tail
 
--- whether a row is full, so that nothing tells whether a message of any length goes on
+-- whether a row is full, so that nothing says whether a message of any length goes on
 abbrev pub is_full_in : LineRows → Bool → ℕ → Bool
 is_full_in One may row = may
 is_full_in (Offset number base width begins_at_zero) may row = nat_le width row
@@ -64,6 +64,6 @@ is_full_in Pieces may row = true
 is_full_in Stream may row = may
 is_full_in Flags may row = may
 
--- whether a row of so many octets and with this tail is full, so that nothing tells whether a message of any length goes on
+-- whether a row of this many octets and with this tail is full, so that nothing says whether a message of any length goes on
 unfoldable pub is_full : LineForm → ℕ → List ℕ → Bool
 is_full form row tail = is_full_in form.rows (may_go_on form row tail) row

@@ -33,7 +33,7 @@ abbrev pub row_by : Option LineForm → List ℕ → List ℕ
 row_by None line = []
 row_by (Some form) line = next_row form line
 
--- a row that is added is behind the octets, or damaged
+-- a row that is added is after the octets, or damaged
 abbrev pub IsAdded : List ℕ → List ℕ → Rows → Type 0
 IsAdded octets row state = (state.octets ≡ octets ++ row) ⊎ (state.said ≡ Damaged)
 

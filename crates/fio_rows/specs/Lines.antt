@@ -52,7 +52,7 @@ offset_in rows.Flags form text = None
 unfoldable pub offset_of : LineForm → List ℕ → Option ℕ
 offset_of form line = offset_in form.rows form (text_from_front form line)
 
--- the offset behind so many octets, if it has 64 bits
+-- the offset after this many octets, if it has 64 bits
 abbrev pub offset_after : Option ℕ → ℕ → Option ℕ
 offset_after None count = None
 offset_after (Some offset) count = if nat_lt (offset + count) (2 ^ 64) then Some (offset + count) else None
@@ -199,7 +199,7 @@ is_known sizes.Unknown = false
 is_known sizes.Any = false
 is_known sizes.None = false
 
--- a line that says a message of a known length; nothing tells what any other is that may go on with the message above
+-- a line that says a message of a known length; nothing says what any other is that may go on with the message above
 abbrev pub unless_known : Rows → Rows
 unless_known state = if says_message state.said && is_known (size_of state.message) then state else say_none Damaged state
 
@@ -269,7 +269,7 @@ abbrev pub ends_above : Option LineForm → List ℕ → Rows → Bool
 ends_above None line state = is_message_whole state.pending
 ends_above (Some form) line state = is_message_whole state.pending && not (is_row form state.next line)
 
--- whether an open message of a form is broken by a line: it is none as it is, though it has octets; or nothing tells whether
+-- whether an open message of a form is broken by a line: it is none as it is, though it has octets; or nothing says whether
 -- it goes on in the line
 abbrev pub is_broken_by : Option LineForm → List ℕ → Rows → Bool
 is_broken_by None line state = is_message_begun state.pending && nat_lt 0 (length state.octets)

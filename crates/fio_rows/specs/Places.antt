@@ -11,7 +11,7 @@ use Rattle.fio_form.specs.declared.reading.Found.{Found}
 use Rattle.fio_rows.specs.Lines.{has, has_bare_rows, line_goes_on, open_form, text_from_front}
 use Rattle.fio_rows.specs.Rows.{Rows}
 
--- what a line has from three places on: from the front of a form, from its first octet, and behind its last one
+-- what a line has from three places on: from the front of a form, from its first octet, and after its last one
 pub record Places : Type 0 where
   pub front : List ℕ
   pub start : List ℕ
@@ -30,7 +30,7 @@ AreWithin found line = (found.front ≤ found.start) × (found.start ≤ found.e
 abbrev pub no_places : List ℕ → Places
 no_places line = record { front = line; start = line; end = line }
 
--- the text of a line behind the front of a form
+-- the text of a line after the front of a form
 abbrev pub text_behind_front : LineForm → List ℕ → List ℕ
 text_behind_front form line = text_or (after_front form.values.items form.front.items (text_from_front form line)) []
 
@@ -38,7 +38,7 @@ text_behind_front form line = text_or (after_front form.values.items form.front.
 abbrev pub digits_behind_front : LineForm → List ℕ → Digits
 digits_behind_front form line = digits_at form.digits line (text_behind_front form line)
 
--- where the octets of a form are in a line that begins: behind the front, as far as they go on
+-- where the octets of a form are in a line that begins: after the front, as far as they go on
 unfoldable pub form_places : LineForm → List ℕ → Places
 form_places form line = record {
   front = text_from_front form line;
@@ -50,7 +50,7 @@ form_places form line = record {
 unfoldable pub next_digits : LineForm → List ℕ → Digits
 next_digits form line = if has_bare_rows form.rows then bare_digits form line else digits_behind_front form line
 
--- where the octets of a row that goes on are: as in a line that begins, or behind the blanks of one that is nothing but octets
+-- where the octets of a row that goes on are: as in a line that begins, or after the blanks of one that is nothing but octets
 unfoldable pub next_places : LineForm → List ℕ → Places
 next_places form line =
     if has_bare_rows form.rows

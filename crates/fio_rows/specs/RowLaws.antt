@@ -15,7 +15,7 @@ use Rattle.fio_rows.specs.declared.said.Said.{Said}
 use Rattle.fio_rows.specs.declared.said.Said.TheVariants.{Frame, Part, Idle, Stray, Damaged, Other}
 use Rattle.fio_rows.specs.declared.said.Said.TheVariants as said
 
--- a row as it is written: a line, the text behind its octets, and these
+-- a row as it is written: a line, the text after its octets, and these
 pub record Row : Type 0 where
   pub line : List ℕ
   pub tail : List ℕ
@@ -73,7 +73,7 @@ pub record IsReadInRows (message : List ℕ) (state : Rows) : Type 0 where
   pub said : state.said ≡ Frame
   pub kept : state.message ≡ message
 
--- the octets that are there are those of a line of a form, or behind those above it
+-- the octets that are there are those of a line of a form, or after those above it
 abbrev pub AreOctetsOf : LineForm → List ℕ → List ℕ → List ℕ → Type 0
 AreOctetsOf form line above octets = (octets ≡ row_of form line) ⊎ (octets ≡ above ++ next_row form line)
 
@@ -106,7 +106,7 @@ said_in_turn forms (row ∷ rows) state =
     said_alone (read_in forms row.line row.tail state).said (read_in forms row.line row.tail state).message
     ∷ said_in_turn forms rows (read_in forms row.line row.tail state)
 
--- No form has rows, there is room for the octets that each has in a line, and the logger left none out behind them.
+-- No form has rows, there is room for the octets that each has in a line, and the logger left none out after them.
 abbrev pub IsAlone : List LineForm → List ℕ → List ℕ → Type 0
 IsAlone forms line tail =
     (is_cut_short tail ≡ false) × AllByRecursion (λ form. (form.rows ≡ One) × (length (octets_by form line) < OCTETS)) forms

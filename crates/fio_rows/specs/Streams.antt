@@ -12,7 +12,7 @@ use Rattle.fio_rows.specs.declared.stream.Stream.{Stream}
 abbrev pub command_above : Stream → List ℕ
 command_above stream = stream.command.items
 
--- Some of the octets that were there are divided off, in order: those of the message that is said, or so many that are none;
+-- Some of the octets that were there are divided off, in order: those of the message that is said, or this many that are none;
 -- the rest stays.
 abbrev pub Divides : Next → List ℕ → List ℕ → List ℕ → Type 0
 Divides (Message count) before message after = (before ≡ message ++ after) × (length message ≡ count) × (is_message message ≡ true)

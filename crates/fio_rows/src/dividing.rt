@@ -8,20 +8,20 @@ use fio_form::{Size, is_answer, size_of};
 /// The octets that are kept of a stream.
 pub const KEPT: usize = 2048;
 
-/// The most octets of a message whose length nothing tells: one less than this.
+/// The most octets of a message of unknown length: one less than this.
 pub const FREE: usize = 64;
 
-/// The fewest octets that are kept if nothing is known of any: then some of them are given up.
+/// The fewest octets that are kept if nothing is known of any: then some of them are dropped.
 pub const FULL: usize = KEPT + 1 - FREE;
 
 /// What is next in a stream.
 #[derive(Clone, Copy, Debug, PartialEq, Eq)]
 pub enum Next {
-    /// A message of so many octets, with its frame if it has one: `Stream::message` has it.
+    /// A message of this many octets, with its frame if it has one: `Stream::message` has it.
     Message(usize),
-    /// So many octets that are none.
+    /// This many octets that are none.
     Broken(usize),
-    /// So many octets between frames, or a frame without a message.
+    /// This many octets between frames, or a frame without a message.
     Idle(usize),
     /// Nothing that is known yet.
     Wait,
@@ -52,7 +52,7 @@ fn goes_on(octets: &[u8]) -> bool
         && (is_answer(command, &rest[..2]) || rest.starts_with(command))
 }
 
-/// Returns where the first command begins, behind the first octet, after which the stream goes on.
+/// Returns where the first command begins, after the first octet, after which the stream goes on.
 #[tactic(auto, unfolding(crate::specs::Dividing::beginning_from))]
 pub fn next_beginning(octets: &[u8]) -> Option<usize>
     ensures exact { result ≡ next_beginning octets.now }

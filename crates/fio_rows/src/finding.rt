@@ -20,7 +20,7 @@ pub fn write(octets: &[u8], to: &mut Octets)
     let _fits = to.try_extend_from_slice(octets);
 }
 
-/// Writes octets behind those that are there, if there is room, and returns whether there was.
+/// Writes octets after those that are there, if there is room, and returns whether there was.
 pub fn append(octets: &[u8], to: &mut Octets) -> bool
     ensures room { result ≡ not (nat_lt OCTETS (length to.old.items + length octets.now)) }
     ensures fits { OnTrue result (to.new.items ≡ to.old.items ++ octets.now) }

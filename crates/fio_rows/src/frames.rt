@@ -7,7 +7,7 @@ use crate::dividing::{FULL, Next};
 use crate::stream::Stream;
 use fio_form::{Octets, framed_in, is_message};
 
-/// What stands before and after a frame.
+/// What is before and after a frame.
 const FLAG: u8 = 0x7e;
 
 /// Returns where the first flag is.
@@ -27,7 +27,7 @@ fn read_frame(frame: &[u8], held: &mut Octets) -> bool
 }
 
 impl Stream {
-    /// Gives up all octets, if there are too many.
+    /// Drops all octets, if there are too many.
     fn give_up_all(&mut self) -> Next
         ensures exact { result ≡ given_up_all self.old.octets.items }
         ensures divided { DividesFrame result self.old.octets.items self.new.message.items self.new.octets.items }
@@ -78,7 +78,7 @@ impl Stream {
         }
     }
 
-    /// Divides off so many octets of a frame, which ends with the flag behind them.
+    /// Divides off this many octets of a frame, which ends with the flag after them.
     fn divide_frame(&mut self, count: usize) -> Next
         requires some { 0 < count }
         requires within { count < length self.old.octets.items }

@@ -29,7 +29,7 @@ fn past_blanks(gap: &[Step]) -> &[Step]
     steps
 }
 
-/// Returns what is left of a text behind the marks of a gap with which it begins.
+/// Returns what is left of a text after the marks of a gap with which it begins.
 #[tactic(auto, unfolding(crate::specs::GoingOn::past_gap))]
 fn past_gap<'a>(gap: &[Step], text: &'a [u8]) -> &'a [u8]
     ensures { result.now ≡ past_gap gap.now text.now }
@@ -74,7 +74,7 @@ pub fn may_go_on(form: &LineForm, row: usize, tail: &[u8]) -> bool
     }
 }
 
-/// Returns whether the row is full, so that nothing tells whether a message of any length goes on.
+/// Returns whether the row is full, so that nothing says whether a message of any length goes on.
 #[tactic(auto, unfolding(crate::specs::GoingOn::is_full))]
 pub fn is_full(form: &LineForm, row: usize, tail: &[u8]) -> bool
     ensures { result ≡ is_full form.now row tail.now }

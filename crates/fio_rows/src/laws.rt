@@ -27,7 +27,7 @@ pub fn other_lines_have_no_form()
         → AllByRecursion (λ form. has form line ≡ false) forms → is_other (read_in forms line tail state).said ≡ true }
 {}
 
-/// Nothing that is open is dropped in silence: the octets of a line that goes on are behind it, or the line is damaged; and if
+/// Nothing that is open is dropped in silence: the octets of a line that goes on are after it, or the line is damaged; and if
 /// no line goes on with it, its message has ended, or is said to be broken, or there is nothing of it.
 #[tactic(auto, using(crate::proofs::OtherLines::row_kept, crate::proofs::OtherLines::open_said))]
 pub fn what_is_open_is_kept_or_said()
@@ -45,7 +45,7 @@ pub fn a_line_below_nothing_open_is_read_by_itself()
 {}
 
 /// A line below no open message says what `read_line` of `fio_form` says of it: a message that it says is that one; and a message
-/// that `read_line` says by forms without rows is said, if there is room for its octets and the logger left none out behind them.
+/// that `read_line` says by forms without rows is said, if there is room for its octets and the logger left none out after them.
 #[tactic(auto, using(crate::proofs::LinesByThemselves::itself_says, crate::proofs::LinesByThemselves::itself_said))]
 pub fn a_line_by_itself_is_read_by_its_form()
     ensures read { (forms : List LineForm) (line tail : List ℕ) (state : Rows) → is_message_open state.pending ≡ false
@@ -80,7 +80,7 @@ pub fn what_is_read_is_in_the_rows()
         → IsInRows forms line state.octets (read_in forms line tail state) }
 {}
 
-/// The octets that a form has in a line stand where they are found: the text from the first one up to the end of the last one,
+/// The octets that a form has in a line are where they are found: the text from the first one up to the end of the last one,
 /// by itself, is these octets as the form writes them, and nothing else.
 pub fn octets_stand_where_they_are_found()
     ensures first { (form : LineForm) (line : List ℕ) (found : Found) → has form line ≡ true → length (octets_found form line) ≤ OCTETS

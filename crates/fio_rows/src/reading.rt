@@ -126,7 +126,7 @@ impl Reading {
         let said = if is_certain(form, forms, line, self.pending, &mut self.held) {
             self.add(form, line.split_at(found.end).1)
         } else if is_bare(form) {
-            // nothing tells whether the row goes on with the message of any length or begins another one
+            // nothing says whether the row goes on with the message of any length or begins another one
             self.say_none(Said::Damaged)
         } else {
             let first = self.read_first(forms, line);
@@ -153,7 +153,7 @@ impl Reading {
         }
     }
 
-    /// Reads a line that does not go on with the open message, of whose octets so many are no part of it.
+    /// Reads a line that does not go on with the open message, of whose octets this many are no part of it.
     fn read_after(&mut self, spare: usize, forms: &[LineForm], line: &[u8]) -> LineSaid
         ensures exact { rows_of result.said self.new ≡ first forms.now line.now (first_places forms.now line.now).end (state_of self.old) }
         ensures goes_on { result.goes_on ≡ false }

@@ -77,7 +77,7 @@ pub fn open_after(said: Said, whole: Whole) -> Open
     }
 }
 
-/// Returns the offset behind so many octets, if it has 64 bits.
+/// Returns the offset after this many octets, if it has 64 bits.
 pub fn offset_after(offset: Option<u64>, count: usize) -> Option<u64>
     ensures { result ≡ offset_after offset count }
 {

@@ -67,7 +67,7 @@ impl Stream {
         self.command.clear();
     }
 
-    /// Returns whether the first octets may stand there: an answer stands below its command.
+    /// Returns whether the first octets may be there: an answer is below its command.
     fn is_known_answer(&self) -> bool
         ensures { result ≡ may_stand (command_above self.now) self.now.octets.items }
     {
@@ -77,7 +77,7 @@ impl Stream {
         }
     }
 
-    /// Gives up the octets before the next place where the stream goes on.
+    /// Drops the octets before the next place where the stream goes on.
     fn give_up(&mut self) -> Next
         ensures exact { result ≡ given_up self.old.octets.items }
         ensures divided { Divides result self.old.octets.items self.new.message.items self.new.octets.items }

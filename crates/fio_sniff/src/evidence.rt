@@ -63,7 +63,7 @@ pub(crate) fn times(factor: usize, count: u32) -> u64 {
     (factor as u64).saturating_mul(u64::from(count))
 }
 
-/// Returns whether octets stand before or after the messages of a form.
+/// Returns whether octets are before or after the messages of a form.
 fn is_cut(form: &LineForm) -> bool {
     form.before > 0 || form.after > 0
 }
@@ -159,7 +159,7 @@ pub(crate) fn is_echo(evidence: &Evidence) -> bool {
     evidence.frames > 1 && times(5, evidence.echoes) > times(COPY_FIFTHS, evidence.frames)
 }
 
-/// Returns whether one word tells the front of a form from that of another one, and all its messages are of one end.
+/// Returns whether one word distinguishes the front of a form from that of another one, and all its messages are of one end.
 pub(crate) fn is_kin(form: &LineForm, other: &LineForm, evidence: &Evidence, log: Log) -> bool {
     let (messages, types) = if log.is_few { (1, 1) } else { (KIN, 2) };
     let is_one_end = evidence.commands == 0 || evidence.commands == evidence.frames;
@@ -277,7 +277,7 @@ fn are_polls_alone(form: &LineForm, evidence: &Evidence, log: Log) -> bool {
         && form.cycle().len() > 1
 }
 
-/// Returns whether two forms show each other: one has commands and the other one answers, a word tells them apart, and in a log of a
+/// Returns whether two forms show each other: one has commands and the other one answers, a word distinguishes them, and in a log of a
 /// few lines that has ended there is nothing else.
 pub(crate) fn are_both(
     one: &LineForm,

@@ -1,4 +1,4 @@
-//! Fronts that one word tells apart.
+//! Fronts that one word distinguishes.
 use fio_form::{FRONT_PIECES, Piece};
 
 /// Returns the first word of a front, and what follows the blanks after it.
@@ -11,7 +11,7 @@ fn split_word(front: &[Piece]) -> (&[Piece], Option<&[Piece]>) {
     (front, None)
 }
 
-/// Returns whether one word, of those between blanks, tells two fronts apart.
+/// Returns whether one word, of those between blanks, distinguishes two fronts.
 pub(crate) fn differs_in_a_word(one: &[Piece], other: &[Piece]) -> bool {
     let mut own = one;
     let mut its = other;

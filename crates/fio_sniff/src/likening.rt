@@ -1,4 +1,4 @@
-//! The form of a sample line, which a user gives.
+//! The form of a sample line, from a user.
 use crate::evidence::{Evidence, Rank, rank_of};
 use crate::weighing::Weighing;
 use fio_form::LineForm;

@@ -23,7 +23,7 @@ pub struct Looking {
     next: usize,
 }
 
-/// Returns a hash of all that tells a form from others.
+/// Returns a hash of all that distinguishes a form from others.
 fn seen_of(form: &LineForm) -> u64 {
     let mut hash = hash_of(form) ^ u64::from(form.is_echo);
     for value in &form.values {

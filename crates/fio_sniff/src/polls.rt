@@ -33,7 +33,7 @@ impl Polls {
         self.last = number;
     }
 
-    /// Returns whether they are those of a link: so many whose numbers stay or go up by one, and some go up.
+    /// Returns whether they are those of a link: this many whose numbers stay or go up by one, and some go up.
     pub(crate) fn are_shown(&self) -> bool {
         self.count as usize >= POLLS
             && times(10, self.steps) >= times(POLL_TENTHS, self.count)

@@ -1,4 +1,4 @@
-//! Further messages of a line, behind its first one.
+//! Further messages of a line, after its first one.
 use fio_form::{LineForm, LineRows, Octets, Whole, find, whole_of};
 
 /// Finds the next message of a form in a line, from a place on, if its front may begin anywhere and nothing is cut; returns where it

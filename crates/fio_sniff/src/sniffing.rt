@@ -180,7 +180,7 @@ impl Sniffer {
         false
     }
 
-    /// Returns whether a stream of so many messages says more than forms.
+    /// Returns whether a stream of this many messages says more than forms.
     fn is_stream(&self, messages: u32, forms: &[LineForm]) -> bool {
         let frames = self.known.messages();
         let is_single = forms.iter().any(|form| form.rows == LineRows::Wrapped(1));

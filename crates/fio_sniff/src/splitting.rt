@@ -72,7 +72,7 @@ impl Values {
         }
     }
 
-    /// Returns the form for the values whose lines fit, if so many lines of others do not.
+    /// Returns the form for the values whose lines fit, if this many lines of others do not.
     fn narrowed(&self, form: &LineForm, piece: usize, least: u32) -> Option<LineForm> {
         if self.are_many() {
             return None;
@@ -121,7 +121,7 @@ fn split_at(
     values.narrowed(form, piece, least)
 }
 
-/// Returns the best form for some values of a number, and what the lines say for it; `least`: so many lines of other values do not fit.
+/// Returns the best form for some values of a number, and what the lines say for it; `least`: this many lines of other values do not fit.
 pub(crate) fn split(
     weighing: &mut Weighing,
     form: &LineForm,

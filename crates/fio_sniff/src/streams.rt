@@ -12,13 +12,13 @@ use fio_guess::{Window, is_sure};
 use fio_rows::{KEPT, Next, Stream};
 use std::slice;
 
-/// The values of a number that are told apart.
+/// The values of a number that are distinguished.
 const SEEN: usize = 8;
 
-/// If so many octets of a stream wait for more,
+/// If this many octets of a stream wait for more,
 const MANY: usize = 64;
 
-/// one more for so many of them comes before they are divided again.
+/// one more for this many of them comes before they are divided again.
 const HELD: usize = 16;
 
 /// The forms of a stream: one, or one of each side.
@@ -30,7 +30,7 @@ pub(crate) struct Streams {
     counting: Counting,
     octets: Octets,
     stream: Stream,
-    /// They are divided once it holds so many.
+    /// They are divided once it holds this many.
     next: usize,
     sure: Set,
     /// The forms of the best stream.

@@ -10,10 +10,10 @@ use fio_guess::Window;
 use fio_rows::{Reading, Said};
 use std::slice;
 
-/// The most messages that are counted of a line behind its first one.
+/// The most messages that are counted of a line after its first one.
 const SECONDS: usize = 8;
 
-/// What is told at a line: of octets that began above, and of those that begin or go on there.
+/// What is said at a line: of octets that began above, and of those that begin or go on there.
 #[derive(Clone, Copy)]
 pub(crate) struct Observed {
     /// What ended with the line above.
@@ -187,7 +187,7 @@ impl Weighing {
         self.tally.evidence()
     }
 
-    /// Counts the messages of a line behind its first one.
+    /// Counts the messages of a line after its first one.
     fn weigh_seconds(
         &mut self,
         form: &LineForm,

@@ -1,16 +1,16 @@
 -- How many bits a message takes.
-use Rattle.std.proofs.Common.{◌≡◌, ℕ, suc, ◌+◌, ◌*◌, ◌/◌, ◌≤◌, List, [], ◌∷◌, ◌++◌, length, Bool, true, false, refl, ap, ◌∙◌, arith, inl, inr}
+use Rattle.std.proofs.Common.{◌≡◌, ℕ, suc, ◌+◌, ◌*◌, ◌/◌, ◌≤◌, List, [], ◌∷◌, ◌++◌, length, Bool, true, false, refl, ◌∙◌, arith}
 use Rattle.std.specs.Prelude.{◌==◌, ◌||◌, if◌then◌else◌, map}
 use Rattle.std.proofs.Math.Nat.{mul-le-mul_left}
 use Rattle.std.proofs.lemmas.Bool.Decides.{nat_tests}
-use Rattle.std.proofs.lemmas.List.{length-append, length-map}
+use Rattle.std.proofs.lemmas.List.{length-append}
 use Rattle.std.specs.Int.Bits.{bit_xor}
 use Rattle.fio_wire.specs.Checks.{divided, with_octet}
 use Rattle.fio_wire.specs.Detection.{low_bits}
-use Rattle.fio_wire.specs.Frames.{frame_of, with_check}
-use Rattle.fio_wire.specs.Octets.{sent, stuffed, stuffed_octet}
+use Rattle.fio_wire.specs.Frames.{frame_of}
+use Rattle.fio_wire.specs.Octets.{stuffed, stuffed_octet}
 use Rattle.fio_wire.specs.Bits.{bit_stuffed, flag_bits, line_bits}
-use Rattle.fio_wire.specs.Lengths.{TakesFewBits, TakesMostBits, bits_of_message, most_bits, most_stuffed}
+use Rattle.fio_wire.specs.Lengths.{TakesFewBits, TakesMostBits}
 use Rattle.fio_wire.specs.declared.line_kind.LineKind.TheVariants.{Asynchronous, Synchronous}
 use Rattle.fio_wire.specs.declared.limits.TheConstants.{FLAG, ESCAPE, STUFFED}
 

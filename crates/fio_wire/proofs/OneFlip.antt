@@ -18,9 +18,6 @@ near_cons b bits others (inr (inr fewer)) = inr (inr (omega (arith, fewer)))
 not_five : (n : ℕ) → n < 5 → (n == 5) ≡ false
 not_five n h = grind (arith, nat_tests)
 
-is_five : (n : ℕ) → (n == 5) ≡ true → n ≡ 5
-is_five n h = grind (arith, nat_tests)
-
 -- other bits than a 0 behind so many ones
 abbrev after_zero : Bool → List Bool → List Bool
 after_zero five rest = if five then rest else false ∷ rest

@@ -170,10 +170,6 @@ framed octets frame =
       right = and_second (nat_lt (length octets) (HELD_OCTETS + 1)) (is_checked octets) more;
     }
 
-length_low : (k n : ℕ) → length (low_bits k n) ≡ k
-length_low zero n = refl
-length_low (suc k) n = ap suc (length_low k (n / 2))
-
 register_of : (octets : List ℕ) → is_checked octets ≡ true → fold with_octet (2 ^ 16 - 1) octets ≡ GOOD
 register_of octets h = grind (arith, nat_tests)
 

@@ -4,7 +4,6 @@ use Rattle.std.specs.Prelude.{ℕ, ◌+◌, ◌*◌, ◌/◌, ◌≡◌, ◌≤�
 use Rattle.fio_wire.specs.Frames.{frame_of}
 use Rattle.fio_wire.specs.Octets.{sent}
 use Rattle.fio_wire.specs.Bits.{bit_stuffed, flag_bits, line_bits}
-use Rattle.fio_wire.specs.Laws.{CanSend}
 use Rattle.fio_wire.specs.declared.line_kind.LineKind.{LineKind}
 use Rattle.fio_wire.specs.declared.line_kind.LineKind.TheVariants.{Asynchronous, Synchronous}
 

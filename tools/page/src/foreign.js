@@ -1,4 +1,4 @@
-// Messages that this protocol has not, as the library tells them: of other types; and 180, 181 and 55 of a module of another size, with
+// Messages that this protocol has not, as the library reports them: of other types; and 180, 181 and 55 of a module of another size, with
 // the answers 183. They are passed over, as `fiolog` passes them over, once several show that they are no damage.
 
 import { LOG_KINDS, LOG_REASONS } from './constants.js';

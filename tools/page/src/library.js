@@ -200,8 +200,8 @@ export class Module extends Kept {
   }
 }
 
-// What judges a log. Of a line that may have held a message, or is a heading below one, it is told by `lose`; with a message that is
-// only possible, by `possible`; that speaks of loss, by `miss`.
+// What judges a log. `lose` is for a line that may have held a message, or is a heading below one; `possible` for one with a
+// message that is only possible; `miss` for one that speaks of loss.
 export class LogJudge extends Kept {
   constructor(library) {
     super(library, 'log_judge', 'logJudge');

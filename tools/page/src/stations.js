@@ -1,4 +1,4 @@
-// The stations of a line, each by the address before its messages, as `fiolog check` tells them: which addresses are stations', and the log
+// The stations of a line, each by the address before its messages, as `fiolog check` reports them: which addresses are stations', and the log
 // that each has alone.
 
 import { hexText } from './hex.js';

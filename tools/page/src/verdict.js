@@ -21,7 +21,7 @@ function verdictOfLink(log) {
   return { kind, text, more, first, notJudged: sentencesOf(log, readable > 0) };
 }
 
-// The kinds, the worst first, and what is said of stations of which so many have it.
+// The kinds, the worst first, and what is said of this many stations that have it.
 const APART = {
   broken: (some) => `A rule is broken at ${some}`,
   restarted: (some) => `The module restarted at ${some}`,

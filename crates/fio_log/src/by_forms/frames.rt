@@ -1,4 +1,4 @@
-//! Tells the frames of a line: its message, echoes of the one above, and further messages.
+//! Reports the frames of a line: its message, echoes of the one above, and further messages.
 ghost use Rattle.std.specs.Prelude.{◌≡◌, ◌<◌, ◌≤◌, ◌↔◌, ℕ, List, [], IsTrue, length, true, false, slice_get, take};
 ghost use Rattle.fio_log.specs.Blanks.{is_blank_line};
 ghost use Rattle.fio_log.specs.Heard.{HasNoLine, HasNothingBeside, HasRowRoom, KeepsFirst, TellsEcho, TellsFrame, TellsMessage, is_of_echoes, known_of, rows_going_on};
@@ -36,7 +36,7 @@ impl FormReader {
         })
     }
 
-    /// Takes the message that ends with a line, and those behind it; an echo is a copy of the frame above it, or damaged.
+    /// Takes the message that ends with a line, and those after it; an echo is a copy of the frame above it, or damaged.
     pub(crate) fn tell_frame(
         &mut self,
         line: NumberedLine,
@@ -84,7 +84,7 @@ impl FormReader {
         }
     }
 
-    /// Takes the message that ends with a line that is no echo, and those behind it.
+    /// Takes the message that ends with a line that is no echo, and those after it.
     fn tell_message(
         &mut self,
         line: NumberedLine,
@@ -120,7 +120,7 @@ impl FormReader {
         (Kind::Frames, Reason::None)
     }
 
-    /// Returns whether nothing that may be octets stands before those of a line, or directly behind them.
+    /// Returns whether nothing that may be octets is before those of a line, or directly after them.
     fn is_alone(&mut self, line: &[u8], heard: LineHeard) -> bool
         ensures forms { self.new.forms ≡ self.old.forms }
         ensures reading { self.new.reading ≡ self.old.reading }
@@ -132,7 +132,7 @@ impl FormReader {
         self.is_first(line, heard)
     }
 
-    /// Returns whether a line ends within an octet behind those that it has.
+    /// Returns whether a line ends within an octet after those that it has.
     fn is_cut(&self, line: &[u8], heard: LineHeard) -> bool
         ensures { heard.said.found.end ≡ length line.now → result ≡ false }
     {
@@ -143,7 +143,7 @@ impl FormReader {
         }
     }
 
-    /// Returns whether the text behind the octets of a line is nearer to them than those of the lines above.
+    /// Returns whether the text after the octets of a line is nearer to them than those of the lines above.
     pub(crate) fn has_near_tail(&self, line: &[u8], said: LineSaid) -> bool
         ensures { said.found.end ≡ length line.now → result ≡ false }
     {
@@ -153,7 +153,7 @@ impl FormReader {
                 .has_near_tail(said.form, &line[said.found.end..])
     }
 
-    /// Returns whether no message stands before that of a line. Only a form whose front may begin anywhere leaves one out.
+    /// Returns whether no message is before that of a line. Only a form whose front may begin anywhere leaves one out.
     fn is_first(&mut self, line: &[u8], heard: LineHeard) -> bool
         ensures forms { self.new.forms ≡ self.old.forms }
         ensures reading { self.new.reading ≡ self.old.reading }
@@ -173,7 +173,7 @@ impl FormReader {
         }
     }
 
-    /// Takes the messages behind the first one of a line; returns whether nothing else of it may be one.
+    /// Takes the messages after the first one of a line; returns whether nothing else of it may be one.
     fn tell_seconds(&mut self, line: NumberedLine, end: usize, told: &mut Told) -> bool
         ensures more { length told.old.frames ≤ length told.new.frames }
         ensures first { KeepsFirst told.old.frames told.new.frames }

@@ -112,7 +112,7 @@ impl FormReader {
         is_whole
     }
 
-    /// Takes a message of the stream, which has so many of its octets; returns whether there was room.
+    /// Takes a message of the stream, which has this many of its octets; returns whether there was room.
     pub(super) fn tell_of_stream(&mut self, count: usize, told: &mut Told) -> bool
         ensures more { length told.old.frames ≤ length told.new.frames }
         ensures first { KeepsFirst told.old.frames told.new.frames }
@@ -124,7 +124,7 @@ impl FormReader {
     }
 }
 
-/// Returns the first octets of a stream, with zeros behind them if there are fewer.
+/// Returns the first octets of a stream, with zeros after them if there are fewer.
 fn begin_of(octets: &[u8]) -> [u8; 5] {
     match octets {
         [flag, first, second, third, fourth, ..] => [*flag, *first, *second, *third, *fourth],
@@ -132,7 +132,7 @@ fn begin_of(octets: &[u8]) -> [u8; 5] {
     }
 }
 
-/// Returns what a line of a stream is that gives so many frames; `is_whole`: its other octets may be of a message that is open.
+/// Returns what a line of a stream is that has this many frames; `is_whole`: its other octets may be of a message that is open.
 fn kind_of_stream(is_whole: bool, frames: usize) -> (Kind, Reason)
     ensures told { is_of_stream result.0 ≡ true }
     ensures reason { has_reason result.0 result.1 ≡ true }

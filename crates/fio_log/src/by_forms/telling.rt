@@ -240,7 +240,7 @@ impl FormReader {
         }
     }
 
-    /// Returns whether the text behind the octets of a row is nearer to them than those of the rows above, or has another row.
+    /// Returns whether the text after the octets of a row is nearer to them than those of the rows above, or has another row.
     pub(super) fn has_odd_tail(&mut self, line: &[u8], said: LineSaid) -> bool
         ensures kept { self.new ≡ record self.old { octets = self.new.octets } }
     {

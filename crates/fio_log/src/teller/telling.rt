@@ -1,4 +1,4 @@
-//! Tells the lines that were heard: each once its verdict depends on no line below it.
+//! Reports the lines that were heard: each once its verdict depends on no line below it.
 ghost use Rattle.std.specs.Prelude.{◌≡◌, ◌⊎◌, ◌+◌, ◌≤◌, ◌<◌, length, false, true, None};
 ghost use Rattle.fio_rows.specs.Lines.{is_message_whole};
 ghost use Rattle.fio_log.specs.Blanks.{Texts};
@@ -16,7 +16,7 @@ use crate::told::Told;
 use crate::verdict::{Kind, LineVerdict, Reason};
 
 impl Teller {
-    /// Returns whether the next verdict can be told: the line below it is there, or it does not wait for that.
+    /// Returns whether the next verdict can be returned: the line below it is there, or it does not wait for that.
     pub(crate) fn is_due(&self, at: At) -> bool
         ensures one { result ≡ false → at.read ≤ at.told + 1 }
         ensures due { result ≡ true → IsDue self.now at.read at.told }
@@ -30,7 +30,7 @@ impl Teller {
         }
     }
 
-    /// Tells the line that was heard, whose text goes with the next octets.
+    /// Reports the line that was heard, whose text goes with the next octets.
     pub(crate) fn settle(&mut self, maker: &LineMaker, at: At, frames: &mut Told)
         requires { WaitingAgrees self.old.waiting (length frames.old.frames) }
         ensures agrees { WaitingAgrees self.new.waiting (length frames.new.frames) }
@@ -50,7 +50,7 @@ impl Teller {
         }
     }
 
-    /// Tells what was heard of the line whose verdict is next.
+    /// Reports what was heard of the line whose verdict is next.
     fn tell_heard(
         &mut self,
         maker: &LineMaker,

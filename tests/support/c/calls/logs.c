@@ -81,7 +81,7 @@ static void require_frames(const uint8_t *mask, size_t length) {
     require(here == part.frame_count && here_at == part.octet_count, "a part has no other frames");
 }
 
-/* A part of the batch has all its lines: those that the mask takes, and blank ones. */
+/* A part of the batch contains all its lines: those that the mask takes, and blank ones. */
 static void require_part(const uint8_t *mask, size_t length) {
     uint32_t count, line;
     untouch(&part, sizeof part);

@@ -4,7 +4,7 @@ use Rattle.fio_c.specs.Logs.{Content, Holds}
 use Rattle.fio_c.proofs.LogParts.{frames_by_items, lines_by_items}
 use Rattle.fio_c.proofs.log_parts.add_items.Given as goal
 
--- the iterator is the list of the items that are left: with them the part has all
+-- the iterator is the list of the items that are left: with them the part is complete
 abbrev pub invariant-items : goal.invariant-items
 invariant-items l = record {
   count : l.part.verdict_count ≡ l.line;

@@ -1,4 +1,4 @@
--- what is not found at an index is looked for behind it
+-- what is not found at an index is looked for after it
 use Rattle.std.proofs.Common.{arith}
 use Rattle.fio_rows.proofs.Beginnings.{beginning_past_index, beginning_at_index}
 use Rattle.fio_rows.proofs.dividing.next_beginning.Goals as goal

@@ -1,4 +1,4 @@
--- what the stream goes on with from here is what it goes on with behind the first octet
+-- what the stream goes on with from here is what it goes on with after the first octet
 use Rattle.std.proofs.Common.{◌≡◌, drop}
 use Rattle.fio_rows.specs.Dividing.{beginning_from}
 use Rattle.fio_rows.proofs.dividing.next_beginning.Given as goal

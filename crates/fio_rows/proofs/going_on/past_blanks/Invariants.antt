@@ -1,4 +1,4 @@
--- what is left behind the steps is the same as at first
+-- what is left after the steps is the same as at first
 use Rattle.std.proofs.Common.{◌≡◌, length}
 use Rattle.fio_rows.specs.GoingOn.{past_blanks}
 use Rattle.fio_rows.proofs.going_on.past_blanks.Given as goal

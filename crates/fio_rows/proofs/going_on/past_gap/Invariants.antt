@@ -1,4 +1,4 @@
--- what is left of the rest behind the steps that are left is what is left of the text
+-- what is left of the rest after the steps that are left is what is left of the text
 use Rattle.std.proofs.Common.{◌≡◌, length}
 use Rattle.fio_rows.specs.GoingOn.{past_gap}
 use Rattle.fio_rows.proofs.going_on.past_gap.Given as goal

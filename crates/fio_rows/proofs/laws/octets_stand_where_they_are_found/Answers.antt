@@ -1,4 +1,4 @@
--- each octet stands where it is found, of a line that begins and of a row that goes on
+-- each octet is where it is found, of a line that begins and of a row that goes on
 use Rattle.fio_rows.proofs.PlaceLaws.{first_there, next_there}
 use Rattle.fio_rows.proofs.laws.octets_stand_where_they_are_found.Goals as goal
 
