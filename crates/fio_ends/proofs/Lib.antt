@@ -130,3 +130,6 @@ pub mod LateHeard
 pub mod LateBlocks
 pub mod LateRuns
 pub mod LateExamples
+pub mod TapKnown
+pub mod TapEvents
+pub mod TapCommands

@@ -21,3 +21,4 @@ pub mod SharedLines
 pub mod AnsweredLogs
 pub mod EventLogs
 pub mod LateLogs
+pub mod TapLogs
