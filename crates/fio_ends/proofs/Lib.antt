@@ -133,3 +133,4 @@ pub mod LateExamples
 pub mod TapKnown
 pub mod TapEvents
 pub mod TapCommands
+pub mod TapBlocks
