@@ -134,3 +134,5 @@ pub mod TapKnown
 pub mod TapEvents
 pub mod TapCommands
 pub mod TapBlocks
+pub mod TapAnswers
+pub mod TapRuns
