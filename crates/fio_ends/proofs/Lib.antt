@@ -125,6 +125,7 @@ pub mod LateRules
 pub mod LateJudges
 pub mod LateKnown
 pub mod LateCommands
+pub mod BlockRules
 pub mod LateTests
 pub mod LateHeard
 pub mod LateBlocks

@@ -1,22 +1,21 @@
 -- A block answer passes a tap, in time or late: the judge that leaves late answers out finds no breach there.
-use Rattle.fio_ends.proofs.Names.{◌≡◌, ◌≢◌, ◌∙◌, ◌+◌, ◌%◌, ◌<◌, ◌≤◌, ◌&&◌, ◌||◌, ◌==◌, inl, inr, ℕ, Bool, true, false, List, [], ◌∷◌, length, Option, Some, None, refl, ap, sym, subst, arith, if◌then◌else◌, is_some, nat_lt, nat_tests, eqb_tells, slice_get, slice_get_within, list_any, same_Some, AreInRange, BLOCK_ANSWER, Block, CarriesBlockOf, Checker, Facts, HasBlock, IsKept, Machine, MadeBlock, Nothing, Observation, Rule, RuleLimits, SentFrame, Settings, Skips, SuitModule, ToCommand, ToPoll, answer_in, block_in, blocks_of, breaks_within, carries_own, checker_below_breach, checker_below_lines, each-at, entry_of, facts_with, is_absent, is_some_and, length-map, life_of, next_round, no_facts, number_of, number_of-fits, number_of-next, observation_in, says_again, says_lost, says_more}
+use Rattle.fio_ends.proofs.Names.{◌≡◌, ◌≢◌, ◌∙◌, ◌+◌, ◌%◌, ◌<◌, ◌≤◌, ◌||◌, ◌==◌, inl, inr, ℕ, Bool, true, false, List, ◌∷◌, length, Option, Some, None, refl, ap, sym, subst, arith, if◌then◌else◌, nat_tests, eqb_tells, slice_get, list_any, same_Some, AreInRange, BLOCK_ANSWER, Block, CarriesBlockOf, Checker, Facts, HasBlock, IsKept, Machine, MadeBlock, Nothing, Observation, Rule, RuleLimits, SentFrame, Settings, Skips, SuitModule, ToCommand, ToPoll, answer_in, block_in, blocks_of, breaks_within, carries_own, checker_below_breach, checker_below_lines, facts_with, is_absent, is_some_and, life_of, next_round, no_facts, number_of, number_of-fits, number_of-next, observation_in, says_more}
 use Rattle.fio_check.specs.Checkers.{skips_frame}
-use Rattle.fio_check.specs.LateAnswers.{awaits, late_below_answer, late_with, lateness_below, lateness_of, lateness_of_block, lateness_of_polled}
+use Rattle.fio_check.specs.LateAnswers.{awaits, late_below_answer, late_with, lateness_below, lateness_of_block, lateness_of_polled}
 use Rattle.fio_check.specs.LogJudges.{is_rule_of_late}
-use Rattle.fio_check.specs.Rules.{is_overfull_within}
 use Rattle.fio_check.specs.declared.late_answers.LateAnswers.{LateAnswers}
 use Rattle.fio_check.specs.declared.late_answers.Lateness.{Lateness}
 use Rattle.fio_check.specs.declared.late_answers.Lateness.TheVariants.{InTime, Late, LateButTaken}
 use Rattle.fio_check.specs.declared.observation.Observation.TheVariants as seen
 use Rattle.fio_check.specs.declared.outcome.LogPlace.TheVariants.{Bus}
-use Rattle.fio_check.specs.declared.rules.Rule.TheVariants as tried
 use Rattle.fio_ends.specs.TapLogs.{HasPassed, Tap, last_passed}
-use Rattle.fio_ends.proofs.BlocksOfLives.{KeepsLimits, blocks_keep, blocks_leave}
-use Rattle.fio_ends.proofs.Hears.{block_said, has_number, has_rest, is_asked, no_block_said, none_absent, within_limits}
+use Rattle.fio_ends.proofs.BlocksOfLives.{blocks_leave}
+use Rattle.fio_ends.proofs.Hears.{block_said}
+use Rattle.fio_ends.proofs.BlockRules.{block_keeps, counted, limits_kept}
 use Rattle.fio_ends.proofs.LateKnown.{AgreesLate, KnowsFacts, found_late, with_frame}
 use Rattle.fio_ends.proofs.LateRules.{Holds, Takes, may_be_late}
-use Rattle.fio_ends.proofs.LateTests.{awaits_is, awaits_same, facts_agree, is_latest, late_before, none_above, or_false, timely_block, unawaited}
-use Rattle.fio_ends.proofs.TapKnown.{IsAboveTap, IsLatestTapped, KeepsTap, KnownTapped, TappedOf, more_pass, none_tapped}
+use Rattle.fio_ends.proofs.LateTests.{awaits_is, awaits_same, facts_agree, is_latest, late_before, or_false, timely_block, unawaited}
+use Rattle.fio_ends.proofs.TapKnown.{IsAboveTap, IsLatestTapped, KeepsTap, TappedOf}
 
 or_true : (answered : Bool) → (answered || true) ≡ true
 or_true true = refl
@@ -200,48 +199,30 @@ module _ (settings : Settings) (range : AreInRange settings) (limits : RuleLimit
         waits = λ is. absurd (other is);
       }
 
-      count : length b.entries ≡ length carries.block.transitions
-      count = ap length carries.carried.entries ∙ length-map carries.block.transitions entry_of
-
-      limits_kept : KeepsLimits settings carries.block
-      limits_kept = each-at (KeepsLimits settings) blocks frame.round carries.block (blocks_keep settings (life_of machine.history)) carries.is_made
-
       -- below one with C it has entries
       some_entries : (m : Bool) → m ≡ true → IsAboveTap blocks machine.to_cpu tap.to_cpu latest.round late.answered m → 1 ≤ length b.entries
       some_entries m is t =
           elim (eqb_tells t.earlier frame.round) as (λ _. 1 ≤ length b.entries) [
             | inl same ↦
                 let block : t.block ≡ carries.block = same_Some _ _ (sym t.at_place ∙ ap (slice_get blocks) same.1 ∙ carries.is_made) in
-                let full = limits_kept.more (sym (ap (λ (x : MadeBlock). x.more) block) ∙ t.same ∙ is) in
-                omega (arith, count, full, range.some_per_block)
+                let full = (limits_kept settings (life_of machine.history) first frame.round b carries).more (sym (ap (λ (x : MadeBlock). x.more) block) ∙ t.same ∙ is) in
+                omega (arith, counted settings (life_of machine.history) first frame.round b carries, full, range.some_per_block)
             | inr other ↦
                 let near : latest.round ≤ t.earlier + 1 = t.near in
                 let high : t.earlier ≤ latest.round = t.low in
                 let next : t.earlier + 1 ≡ frame.round = omega (arith, alike, other.1) in
                 let leaves = blocks_leave settings range.some_per_block (life_of machine.history) in
                 let some = leaves.next t.earlier t.block carries.block t.at_place (ap (slice_get blocks) next ∙ carries.is_made) (t.same ∙ is) in
-                omega (arith, count, some)
+                omega (arith, counted settings (life_of machine.history) first frame.round b carries, some)
           ]
 
       -- each rule but those of late answers is kept
-      block_keeps : late.awaited ≡ Some BLOCK_ANSWER → SuitModule settings checker.limits → AgreesLate checker.facts late.awaited late.polled late.answered
+      most_kept : late.awaited ≡ Some BLOCK_ANSWER → SuitModule settings checker.limits → AgreesLate checker.facts late.awaited late.polled late.answered
           → (rule : Rule) → is_rule_of_late Bus rule ≡ false → breaks_within checker.limits checker.facts said rule ≡ false
-      block_keeps asked fit agrees tried.Pair other = is_asked checker.facts.awaited 182 (agrees.awaits ∙ asked)
-      block_keeps asked fit agrees tried.Number other = has_number checker.facts.polled polled b.number (agrees.polls ∙ polls) (sym numbered)
-      block_keeps asked fit agrees tried.Same other = absurd (cc other)
-      block_keeps asked fit agrees tried.Sequence other = ap (λ out. out && (says_again b.status || is_some checker.facts.more)) carries.in_sequence
-      block_keeps asked fit agrees tried.RuleLimits other =
-          let over : is_overfull_within checker.limits b.status (length b.entries) ≡ false =
-          within_limits (nat_lt checker.limits.per_block checker.limits.waiting) (says_lost b.status) (says_more b.status) (length b.entries) checker.limits.per_block
-          (λ fewer lost.
-          (let less : checker.limits.per_block < checker.limits.waiting = grind (arith, nat_tests) in
-          carries.carried.more ∙ limits_kept.lost (omega (arith, fit.per_block, fit.waiting)) (sym carries.carried.lost ∙ lost)))
-          (λ more. omega (arith, count, limits_kept.more (sym carries.carried.more ∙ more), fit.per_block)) in
-          let none : list_any (λ entry. is_absent entry.input) b.entries ≡ false =
-          ap (list_any (λ entry. is_absent entry.input)) carries.carried.entries ∙ none_absent carries.block.transitions limits_kept.inputs in
-          ap (λ o. o || list_any (λ entry. is_absent entry.input) b.entries) over ∙ none
-      block_keeps asked fit agrees tried.Rest other = has_rest checker.facts.more (length b.entries) (λ is. some_entries true refl (latest.more true is))
-      block_keeps asked fit agrees rule other = refl
+      most_kept asked fit agrees rule other =
+          block_keeps settings (life_of machine.history) first frame.round b carries checker.limits fit checker.facts polled
+          (agrees.awaits ∙ asked) (agrees.polls ∙ polls) (sym numbered) (λ is. some_entries true refl (latest.more true is)) rule
+          (λ is. cc (sym other ∙ ap (is_rule_of_late Bus) is))
 
       block_passed : (skips : Skips) → skips_frame skips false ≡ true → KnowsFacts skips checker.facts late.awaited late.polled late.answered
           → KnowsFacts skips checker.facts None late.polled true × (checker.facts ≡ no_facts)
@@ -278,7 +259,7 @@ module _ (settings : Settings) (range : AreInRange settings) (limits : RuleLimit
             timely = is;
             found = found_late Bus checker false said
                 (λ over. may_be_late Bus checker.limits checker.facts said
-                (block_keeps asked (subst (SuitModule settings) (sym k.limited) suit)
+                (most_kept asked (subst (SuitModule settings) (sym k.limited) suit)
                 (facts_agree checker.skips checker.facts late.awaited late.polled late.answered over k.facts)));
             lost = next (checker_below_breach checker.limits) (block_lost None (λ is. cc is));
             kept = with_frame (λ c. Holds Below c (late_with late said)) checker false said
@@ -304,9 +285,12 @@ module _ (settings : Settings) (range : AreInRange settings) (limits : RuleLimit
           lateness_by (Some polled) LateButTaken polls
           (unawaited late polled b.number numbered low waits ∙ ap (λ (a : Bool). if a then Late else LateButTaken) was) in
           let other : late.awaited ≡ Some BLOCK_ANSWER → ⊥ = λ asked. cc (sym waits ∙ awaits_same late.awaited BLOCK_ANSWER asked) in
-          inr (inr (is, below Below (checker_below_lines checker checker.skips) LateButTaken is
-          (subst (λ (a : Bool). Below (checker_below_lines checker checker.skips) late.awaited late.polled a) (sym now_answered)
-          (by_skips checker.skips k.facts other))))
+          inr (inr (
+            is,
+            below Below (checker_below_lines checker checker.skips) LateButTaken is
+                (subst (λ (a : Bool). Below (checker_below_lines checker checker.skips) late.awaited late.polled a) (sym now_answered)
+                (by_skips checker.skips k.facts other)),
+          ))
         where
           by_skips : (skips : Skips) → KnowsFacts skips checker.facts late.awaited late.polled late.answered → (late.awaited ≡ Some BLOCK_ANSWER → ⊥)
               → Below (checker_below_lines checker skips) late.awaited late.polled true

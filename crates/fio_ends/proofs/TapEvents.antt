@@ -1,12 +1,12 @@
 -- An event of the link, not seen at the tap: what is known of the tap and of its judge stays.
-use Rattle.fio_ends.proofs.Names.{◌≡◌, ◌∙◌, ◌+◌, ◌<◌, ◌≤◌, inl, inr, ℕ, Bool, true, false, List, [], ◌∷◌, ◌++◌, length, Option, Some, None, refl, ap, sym, subst, arith, append-nil, length-append, slice_get, slice_get_within, Answer, AreInRange, Block, Checker, Command, Event, HasBlock, HasPoll, History, IsCommand, IsKept, IsNotRestart, IsWithinRanges, Machine, RuleLimits, SentFrame, Settings, after, after_delivery, after_delivery_to_cpu, after_delivery_to_module, after_sending, after_taken, answer_frames, blocks_of, command_in, command_octets, get_after_push, get_before_push, in_order, life_of, next_round, number_of, poll_in, polls_with, refusal, reply_to, sending_refusal}
+use Rattle.fio_ends.proofs.Names.{◌≡◌, ◌∙◌, ◌+◌, ◌<◌, ◌≤◌, inl, inr, ℕ, Bool, List, [], ◌∷◌, ◌++◌, length, Option, Some, None, refl, ap, sym, subst, arith, append-nil, length-append, slice_get, Answer, Block, Checker, Command, Event, HasBlock, HasPoll, History, IsKept, IsNotRestart, IsWithinRanges, Machine, RuleLimits, SentFrame, Settings, after, after_delivery, after_delivery_to_cpu, after_delivery_to_module, after_sending, answer_frames, command_in, command_octets, get_after_push, get_before_push, in_order, life_of, next_round, number_of, poll_in, polls_with, refusal, reply_to}
 use Rattle.fio_message.specs.declared.commands.Command.TheVariants as commands
 use Rattle.fio_module.specs.Life as module_events
 use Rattle.fio_link.specs.declared.event.Event.TheVariants as events
 use Rattle.fio_link.proofs.HeardRows.{after_heard}
-use Rattle.fio_ends.specs.TapLogs.{HasPassed, IsPassed, Tap, last_passed}
+use Rattle.fio_ends.specs.TapLogs.{HasPassed, MayArrive, Tap}
 use Rattle.fio_ends.proofs.BlocksOfLives.{blocks_stay}
-use Rattle.fio_ends.proofs.TapKnown.{HasTaken, IsAboveTap, IsCommandFrame, IsLatestTapped, KeepsTap, TappedOf, more_sent}
+use Rattle.fio_ends.proofs.TapKnown.{HasTaken, IsCommandFrame, KeepsTap, TappedOf, more_sent}
 
 -- what is known stays
 pub record Stays (settings : Settings) (limits : RuleLimits) (first : ℕ) (machine later : Machine) (tap : Tap) : Type 0 where
@@ -93,12 +93,19 @@ module _ (settings : Settings) (limits : RuleLimits) (first : ℕ) (machine : Ma
     taken_still : HasTaken machine.to_cpu tap.to_cpu machine.round → HasTaken (machine.to_cpu ++ answer_frames reply frame.round) tap.to_cpu machine.round
     taken_still (inl none) = inl none
     taken_still (inr (p, b, r, passed, h, is)) =
-        inr (p, b, r, passed, record {
-          frame = h.frame;
-          at_place = get_before_push machine.to_cpu (answer_frames reply frame.round) p h.frame h.at_place;
-          spells = h.spells;
-          of_round = h.of_round;
-        }, is)
+        inr (
+          p,
+          b,
+          r,
+          passed,
+          record {
+            frame = h.frame;
+            at_place = get_before_push machine.to_cpu (answer_frames reply frame.round) p h.frame h.at_place;
+            spells = h.spells;
+            of_round = h.of_round;
+          },
+          is,
+        )
 
     receives : Stays settings limits first machine (after_delivery_to_module settings machine (place + 1) (Some frame)) tap
     receives = record {
@@ -195,7 +202,7 @@ module _ (settings : Settings) (limits : RuleLimits) (first : ℕ) (machine : Ma
     taken = keeps.taken;
   }
 
-  pub stays : (event : Event) → refusal machine event ≡ None → IsNotRestart event → IsWithinRanges event → IsPassed tap event
+  pub stays : (event : Event) → refusal machine event ≡ None → IsNotRestart event → IsWithinRanges event → MayArrive tap event
       → Stays settings limits first machine (after settings first machine event) tap
   stays (events.Scan raw) fine none within passed = record { keeps = moved (module_events.Scan raw ∷ machine.history); known = λ checker awaited polled answered k. k }
   stays events.LineSync fine none within passed = record { keeps = moved (module_events.LineSync ∷ machine.history); known = λ checker awaited polled answered k. k }

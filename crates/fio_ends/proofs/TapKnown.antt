@@ -1,5 +1,5 @@
 -- What is known of a tap on the line of a right link, and of the judge of its log that leaves late answers out.
-use Rattle.fio_ends.proofs.Names.{◌≡◌, ◌∙◌, ◌⊎◌, ◌+◌, ◌≤◌, inl, inr, ℕ, Bool, true, false, List, [], ◌∷◌, ◌++◌, length, Option, Some, None, refl, ap, sym, subst, arith, if◌then◌else◌, slice_get, slice_get_within, Checker, Command, HasBlock, HasPoll, IsCommand, Machine, MadeBlock, Nothing, RuleLimits, SentFrame, Settings, Skips, ToCommand, ToPoll, blocks_of, checker_below_breach, checker_below_lines, command_octets, get_after_push, get_before_push, life_of, next_round, number_of, sending_refusal, BLOCK_ANSWER, AreInRange, IsKept, Block, block_in, poll_in}
+use Rattle.fio_ends.proofs.Names.{◌≡◌, ◌⊎◌, ◌+◌, ◌≤◌, inl, inr, ℕ, Bool, true, false, List, ◌∷◌, length, Option, Some, None, refl, arith, slice_get, Checker, Command, HasBlock, HasPoll, IsCommand, Machine, MadeBlock, Nothing, RuleLimits, SentFrame, Settings, Skips, ToCommand, ToPoll, blocks_of, checker_below_breach, checker_below_lines, command_octets, life_of, next_round, number_of, sending_refusal, BLOCK_ANSWER, Block}
 use Rattle.fio_message.specs.declared.commands.Command.TheVariants as commands
 use Rattle.fio_check.specs.Checkers.{checker_anywhere}
 use Rattle.fio_ends.specs.TapLogs.{HasPassed, Tap, last_passed}

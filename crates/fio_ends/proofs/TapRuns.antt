@@ -1,5 +1,5 @@
 -- The judge that leaves late answers out finds no breach in the log of a tap on the line of a right link.
-use Rattle.fio_ends.proofs.Names.{◌≡◌, ◌+◌, ◌≤◌, inl, inr, ℕ, Bool, false, true, List, [], ◌∷◌, ◌++◌, map, Option, Some, None, refl, sym, subst, arith, slice_get, AllByRecursion, AreInRange, Checker, IsKept, LogPlace, Machine, RuleLimits, SentFrame, Settings, SuitModule, after, after_delivery, blocks_of, frame_heard, kept, life_of, observation_in, start}
+use Rattle.fio_ends.proofs.Names.{◌≡◌, ◌+◌, ◌≤◌, inl, inr, ℕ, Bool, false, true, List, [], ◌∷◌, ◌++◌, map, Option, Some, refl, sym, subst, arith, slice_get, AllByRecursion, AreInRange, Checker, IsKept, Machine, RuleLimits, SentFrame, Settings, SuitModule, after, after_delivery, blocks_of, frame_heard, kept, life_of, observation_in, start}
 use Rattle.fio_check.specs.LateAnswers.{late_above}
 use Rattle.fio_check.specs.LogJudges.{LogJudging, log_starting, log_with, log_with_event, outcomes_in_log}
 use Rattle.fio_check.specs.declared.late_answers.LateAnswers.{LateAnswers}

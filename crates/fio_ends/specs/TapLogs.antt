@@ -1,5 +1,5 @@
 -- Logs of a right link that were taken at a tap on the line: frames may be lost, repeated at once and delayed on both sides of it.
-use Rattle.std.specs.Prelude.{◌≡◌, ◌⊎◌, ℕ, ◌+◌, Bool, true, false, List, [], ◌∷◌, ◌++◌, length, map, Option, Some, None}
+use Rattle.std.specs.Prelude.{◌≡◌, ◌⊎◌, ℕ, Bool, true, false, List, [], ◌∷◌, ◌++◌, length, map, Option, Some, None}
 use Rattle.std.specs.List.{AllByRecursion}
 use Rattle.fio_module.specs.Settings.{Settings, AreInRange}
 use Rattle.fio_check.specs.LinkJudges.{is_at_cpu}
@@ -46,15 +46,15 @@ pub data TapStep : Type 0 where
   Noted : (remark : Remark) → TapStep
 
 -- only what has passed the tap is delivered
-abbrev pub IsPassed : Tap → Event → Type 0
-IsPassed tap (ToModule index) = HasPassed tap.to_module index
-IsPassed tap (ToCpu index) = HasPassed tap.to_cpu index
-IsPassed tap other = Unit {0}
+abbrev pub MayArrive : Tap → Event → Type 0
+MayArrive tap (ToModule index) = HasPassed tap.to_module index
+MayArrive tap (ToCpu index) = HasPassed tap.to_cpu index
+MayArrive tap other = Unit {0}
 
 -- a step may come next: frames pass the tap in order, each as often as it is repeated, and nothing restarts
 abbrev pub MayComeNext : Machine → Tap → TapStep → Type 0
 MayComeNext machine tap (AtEnds event) =
-    (refusal machine event ≡ None) × IsNotRestart event × IsWithinRanges event × IsPassed tap event
+    (refusal machine event ≡ None) × IsNotRestart event × IsWithinRanges event × MayArrive tap event
 MayComeNext machine tap (PassesToModule said index) =
     delivery_refusal (length machine.to_module) (last_passed tap.to_module) index ≡ None
 MayComeNext machine tap (PassesToCpu said index) = delivery_refusal (length machine.to_cpu) (last_passed tap.to_cpu) index ≡ None
