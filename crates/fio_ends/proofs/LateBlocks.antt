@@ -1,17 +1,16 @@
 -- The CPU's end hears a block answer, in time or late: the judge that leaves late answers out finds no breach.
-use Rattle.fio_ends.proofs.Names.{◌≡◌, ◌≢◌, ◌∙◌, ◌+◌, ◌%◌, ◌<◌, ◌≤◌, ◌&&◌, ◌||◌, ◌==◌, inl, inr, ℕ, Bool, true, false, List, length, Option, Some, None, refl, ap, sym, subst, arith, if◌then◌else◌, is_some, nat_lt, nat_tests, slice_get, list_any, same_Some, AreInRange, BLOCK_ANSWER, Block, CarriesBlockOf, Checker, Facts, HasBlock, IsKept, Machine, MadeBlock, Nothing, Observation, Rule, RuleLimits, SentFrame, Settings, Skips, SuitModule, ToCommand, ToPoll, after_delivered_block, after_delivery_to_cpu, after_taken, answer_in, block_in, blocks_of, breaks_within, carries_own, checker_below_breach, checker_below_lines, each-at, entry_of, facts_with, in_order, is_absent, is_some_and, length-map, life_of, next_round, no_facts, number_of, number_of-fits, number_of-next, observation_in, same_round, says_again, says_lost, says_more}
+use Rattle.fio_ends.proofs.Names.{◌≡◌, ◌≢◌, ◌∙◌, ◌+◌, ◌%◌, ◌<◌, ◌≤◌, ◌||◌, ◌==◌, inl, inr, ℕ, Bool, true, false, List, length, Option, Some, None, refl, ap, sym, subst, arith, if◌then◌else◌, nat_tests, slice_get, list_any, same_Some, AreInRange, BLOCK_ANSWER, Block, CarriesBlockOf, Checker, Facts, HasBlock, IsKept, Machine, MadeBlock, Nothing, Observation, Rule, RuleLimits, SentFrame, Settings, Skips, SuitModule, ToCommand, ToPoll, after_delivered_block, after_delivery_to_cpu, after_taken, answer_in, block_in, blocks_of, breaks_within, carries_own, checker_below_breach, checker_below_lines, facts_with, in_order, is_absent, is_some_and, life_of, next_round, no_facts, number_of, number_of-fits, number_of-next, observation_in, same_round}
 use Rattle.fio_check.specs.Checkers.{skips_frame}
 use Rattle.fio_check.specs.LateAnswers.{awaits, late_below_answer, late_with, lateness_below, lateness_of_block, lateness_of_polled}
 use Rattle.fio_check.specs.LogJudges.{is_rule_of_late}
-use Rattle.fio_check.specs.Rules.{is_overfull_within}
 use Rattle.fio_check.specs.declared.late_answers.LateAnswers.{LateAnswers}
 use Rattle.fio_check.specs.declared.late_answers.Lateness.{Lateness}
 use Rattle.fio_check.specs.declared.late_answers.Lateness.TheVariants.{InTime, Late, LateButTaken}
 use Rattle.fio_check.specs.declared.observation.Observation.TheVariants as seen
 use Rattle.fio_check.specs.declared.outcome.LogPlace.TheVariants.{Cpu}
-use Rattle.fio_check.specs.declared.rules.Rule.TheVariants as tried
-use Rattle.fio_ends.proofs.BlocksOfLives.{KeepsLimits, blocks_keep, blocks_leave}
-use Rattle.fio_ends.proofs.Hears.{block_said, has_number, has_rest, is_asked, none_absent, within_limits}
+use Rattle.fio_ends.proofs.BlocksOfLives.{blocks_leave}
+use Rattle.fio_ends.proofs.Hears.{block_said}
+use Rattle.fio_ends.proofs.BlockRules.{block_keeps, counted}
 use Rattle.fio_ends.proofs.LateRules.{Holds, Takes, may_be_late}
 use Rattle.fio_ends.proofs.LateKnown.{AgreesLate, HasLatest, KnownLate, KnownOf, KnowsFacts, found_late, with_frame}
 use Rattle.fio_ends.proofs.LateTests.{awaits_is, awaits_same, facts_agree, is_latest, late_before, none_above, or_false, timely_block, unawaited}
@@ -173,36 +172,20 @@ module _ (settings : Settings) (range : AreInRange settings) (limits : RuleLimit
         here : CarriesBlockOf first blocks b machine.round
         here = subst (CarriesBlockOf first blocks b) same carries
 
-        count : length b.entries ≡ length here.block.transitions
-        count = ap length here.carried.entries ∙ length-map here.block.transitions entry_of
-
-        -- each rule but two is kept
-        block_keeps : late.awaited ≡ Some BLOCK_ANSWER → SuitModule settings checker.limits → AgreesLate checker.facts late.awaited late.polled late.answered
-            → (rule : Rule) → is_rule_of_late Cpu rule ≡ false → breaks_within checker.limits checker.facts said rule ≡ false
-        block_keeps asked fit agrees tried.Pair other = is_asked checker.facts.awaited 182 (agrees.awaits ∙ asked)
-        block_keeps asked fit agrees tried.Number other = has_number checker.facts.polled polled b.number (agrees.polls ∙ polls) (sym numbered)
-        block_keeps asked fit agrees tried.Same other = absurd (cc other)
-        block_keeps asked fit agrees tried.Sequence other = ap (λ out. out && (says_again b.status || is_some checker.facts.more)) here.in_sequence
-        block_keeps asked fit agrees tried.RuleLimits other =
-            let m = here.block in
-            let keeps = each-at (KeepsLimits settings) blocks machine.round m (blocks_keep settings (life_of machine.history)) here.is_made in
-            let over : is_overfull_within checker.limits b.status (length b.entries) ≡ false =
-            within_limits (nat_lt checker.limits.per_block checker.limits.waiting) (says_lost b.status) (says_more b.status) (length b.entries) checker.limits.per_block
-            (λ fewer lost.
-            (let less : checker.limits.per_block < checker.limits.waiting = grind (arith, nat_tests) in
-            here.carried.more ∙ keeps.lost (omega (arith, fit.per_block, fit.waiting)) (sym here.carried.lost ∙ lost)))
-            (λ more. omega (arith, count, keeps.more (sym here.carried.more ∙ more), fit.per_block)) in
-            let none : list_any (λ entry. is_absent entry.input) b.entries ≡ false =
-            ap (list_any (λ entry. is_absent entry.input)) here.carried.entries ∙ none_absent m.transitions keeps.inputs in
-            ap (λ o. o || list_any (λ entry. is_absent entry.input) b.entries) over ∙ none
-        block_keeps asked fit agrees tried.Rest other =
-            let m = here.block in
+        -- below one with C it has entries
+        some_entries : checker.facts.more ≡ Some true → 1 ≤ length b.entries
+        some_entries is =
+            let t = k.more true is in
             let leaves = blocks_leave settings range.some_per_block (life_of machine.history) in
-            has_rest checker.facts.more (length b.entries) (λ is.
-            (let t = k.more true is in
-            let some = leaves.next t.earlier t.block m t.at_place (ap (slice_get blocks) (sym t.next) ∙ here.is_made) t.same in
-            omega (arith, count, some)))
-        block_keeps asked fit agrees rule other = refl
+            let some = leaves.next t.earlier t.block here.block t.at_place (ap (slice_get blocks) (sym t.next) ∙ here.is_made) t.same in
+            omega (arith, counted settings (life_of machine.history) first machine.round b here, some)
+
+        -- each rule but those of late answers is kept
+        most_kept : late.awaited ≡ Some BLOCK_ANSWER → SuitModule settings checker.limits → AgreesLate checker.facts late.awaited late.polled late.answered
+            → (rule : Rule) → is_rule_of_late Cpu rule ≡ false → breaks_within checker.limits checker.facts said rule ≡ false
+        most_kept asked fit agrees rule other =
+            block_keeps settings (life_of machine.history) first machine.round b here checker.limits fit checker.facts polled
+            (agrees.awaits ∙ asked) (agrees.polls ∙ polls) (sym numbered) some_entries rule (λ is. cc (sym other ∙ ap (is_rule_of_late Cpu) is))
 
         block_lost : (awaited : Option ℕ) → (awaited ≡ Some BLOCK_ANSWER → ⊥) → At (machine.round + 1) (checker_below_breach checker.limits) awaited late.polled true
         block_lost awaited other = record {
@@ -246,7 +229,7 @@ module _ (settings : Settings) (range : AreInRange settings) (limits : RuleLimit
               timely = is;
               found = found_late Cpu checker false said
                   (λ over. may_be_late Cpu checker.limits checker.facts said
-                  (block_keeps asked (subst (SuitModule settings) (sym k.limited) suit)
+                  (most_kept asked (subst (SuitModule settings) (sym k.limited) suit)
                   (facts_agree checker.skips checker.facts late.awaited late.polled late.answered over k.facts)));
               lost = under (checker_below_breach checker.limits) (block_lost None (λ is. cc is));
               kept = with_frame (λ c. Holds (At (machine.round + 1)) c (late_with late said)) checker false said

@@ -130,7 +130,7 @@ module _ (settings : Settings) (range : AreInRange settings) (limits : RuleLimit
         by checker late k (inl other) = heard_answer settings limits first machine checker late k place frame other.0 other.1 other.2
         by checker late k (inr block) = heard_block settings range limits suit first machine kept checker late k place frame at le block.0 block.1
 
-    event_goes : (event : Event) → refusal machine event ≡ None → IsNotRestart event → IsWithinRanges event
+    pub event_goes : (event : Event) → refusal machine event ≡ None → IsNotRestart event → IsWithinRanges event
         → GoesBy machine (after settings first machine event) (frames_at first machine event)
     event_goes (events.Scan raw) fine none within = (λ checker awaited polled answered k. k, all)
     event_goes events.LineSync fine none within = (λ checker awaited polled answered k. k, all)
@@ -154,7 +154,7 @@ module _ (settings : Settings) (range : AreInRange settings) (limits : RuleLimit
 
   -- ---- all events
 
-  kept_next : (machine : Machine) (event : Event) → IsKept settings first machine → refusal machine event ≡ None → IsNotRestart event
+  pub kept_next : (machine : Machine) (event : Event) → IsKept settings first machine → refusal machine event ≡ None → IsNotRestart event
       → IsKept settings first (after settings first machine event)
   kept_next machine event kept fine none = kept_all settings range first (event ∷ []) machine (after settings first machine event) (none, tt) (fine, refl) kept
 
@@ -169,7 +169,7 @@ module _ (settings : Settings) (range : AreInRange settings) (limits : RuleLimit
       (here.1, more (log_with log frame.from_cpu said frame.octets) here.0)
   frames_judged P Q known said (frame ∷ other ∷ frames) rest log goes j more = absurd goes
 
-  no_outcome : (log : LogJudging) (remark : Remark) → outcome_of_event log (event_of_remark remark) ≡ []
+  pub no_outcome : (log : LogJudging) (remark : Remark) → outcome_of_event log (event_of_remark remark) ≡ []
   no_outcome log MayHaveHeldFrame = refl
   no_outcome log SaysMessage = refl
   no_outcome log BeginsPart = refl

@@ -125,8 +125,15 @@ pub mod LateRules
 pub mod LateJudges
 pub mod LateKnown
 pub mod LateCommands
+pub mod BlockRules
 pub mod LateTests
 pub mod LateHeard
 pub mod LateBlocks
 pub mod LateRuns
 pub mod LateExamples
+pub mod TapKnown
+pub mod TapEvents
+pub mod TapCommands
+pub mod TapBlocks
+pub mod TapAnswers
+pub mod TapRuns

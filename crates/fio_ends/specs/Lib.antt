@@ -1,7 +1,7 @@
 -- In reading order: the poller of a transcript; the transcript of a run; prompt runs; their records; the rules on content and
 -- what they ask of a log; logs in which lines are lost; logs that a right link explains, and logs of polls; calls of both ends in C; both ends over lines;
 -- several stations on one bus; logs with the answers of the module's maker; logs as the judge of a log gets them; logs
--- with late answers.
+-- with late answers, at the CPU's end and at a tap.
 pub mod Pollers
 pub mod Transcripts
 pub mod PromptRuns
@@ -21,3 +21,4 @@ pub mod SharedLines
 pub mod AnsweredLogs
 pub mod EventLogs
 pub mod LateLogs
+pub mod TapLogs

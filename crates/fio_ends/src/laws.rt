@@ -16,6 +16,7 @@ ghost use Rattle.fio_ends.specs.Pollers.{GoodIsOfPoller};
 ghost use Rattle.fio_ends.specs.PromptRuns.{FromCommand, HasNoBreach, HasNoBreachAnywhere, IsGood, NeverAccuses, NeverAccusesLater};
 ghost use Rattle.fio_ends.specs.RestartedLogs.{JudgeFindsRestarts, JudgeFindsRestartsAnywhere, RestartsAreFound};
 ghost use Rattle.fio_ends.specs.RunRecords.{KeepsRecord};
+ghost use Rattle.fio_ends.specs.TapLogs.{TapsBreakNoRule};
 ghost use Rattle.fio_ends.specs.SharedLines.{AtDecoders, AtModules, EachFrameMayComeToAll, HeadlineOverSharedLines, SharedLinesAreABus, SharedLinesBringRecords};
 
 /// A good transcript comes from a right CPU's end: a poller that starts with the first poll's number has at each poll that
@@ -332,4 +333,11 @@ pub fn late_answers_break_no_rule()
 #[tactic(auto, using(crate::proofs::LateExamples::answers_may_be_late))]
 pub fn answers_may_be_late()
     ensures { AnswersMayBeLate }
+{}
+
+/// The law on late answers at a tap on the line, though frames may be lost, repeated at once and delayed on both sides of it: the judge
+/// finds no breach of a rule of transcripts there either, if it knows that the log was not taken at the CPU.
+#[tactic(auto, using(crate::proofs::TapRuns::taps_break_no_rule))]
+pub fn taps_break_no_rule()
+    ensures { TapsBreakNoRule }
 {}
