@@ -60,7 +60,3 @@ stale-short block lt = omega (arith, short8 block lt, length-append (codes "stal
 
 pub other-short : (code : ℕ) → code < 256 → length (heard_text (Other code)) < 62
 other-short code lt = omega (arith, short8 code lt, length-append (codes "other ") (decimal code))
-
-pub unreadable-short : (error : DecodeError) → length (fault_text error) ≤ 50
-    → length (heard_text (Unreadable error)) < 62
-unreadable-short error short = omega (arith, short, length-append (codes "unreadable ") (fault_text error))

@@ -17,7 +17,8 @@ use Rattle.fio_ends.proofs.Following.{Follows, GoesOn, facts_below, from_after, 
 use Rattle.fio_ends.proofs.IgnoredKept.{ignored_is_invariant}
 use Rattle.fio_ends.proofs.Shut.{ShutHolds}
 use Rattle.fio_ends.proofs.JumpedBlocks.{HasExcuses}
-use Rattle.fio_ends.proofs.TimesKept.{AsksTimes, KeepsTimed, TimeState, time_above, time_after, timeless_timed, times_are_invariant}
+use Rattle.fio_ends.proofs.TimesKept.{times_are_invariant}
+use Rattle.fio_ends.proofs.TimesKnown.{AsksTimes, KeepsTimed, TimeState, time_above, time_after, timeless_timed}
 
 -- ---- each of the rules
 

@@ -15,7 +15,7 @@ use Rattle.fio_ends.proofs.PromptRuns.{BeginsWithCommand, ReachesLater, keeps-ev
 use Rattle.fio_ends.proofs.Sends.{sends-other, sends-poll}
 use Rattle.fio_ends.proofs.StateKept.{state_above}
 use Rattle.fio_ends.proofs.JumpedBlocks.{HasExcuses}
-use Rattle.fio_ends.proofs.TimesKept.{AsksTimes, TimeState, time_after}
+use Rattle.fio_ends.proofs.TimesKnown.{AsksTimes, TimeState, time_after}
 
 -- what an event of a run keeps: its frames break no rule, and all is known below them
 pub record Went (settings : Settings) (first : ℕ) (begin : Machine) (above : Option ℕ) (s : TimeState) (from : Life) (due : ℕ) (facts : Facts) (kept : ContentKept)

@@ -1,5 +1,5 @@
 -- A run is built along a plan.
-use Rattle.fio_ends.proofs.Names.{loads_of, AllByRecursion, Answer, ArePrompt, Bool, Command, Commanded, CpuFrame, Event, HaveNoRestart, IsCommand, IsWithinRanges, Leads, Life, List, Machine, None, Option, SentFrame, Some, ToCpu, ToModule, [], after, after_delivered_block, after_delivery_to_cpu, after_delivery_to_module, after_sending, after_taken, answer_octets, ap, ap₂, arith, block_in, command_in, command_octets, due_after, false, filter_events, frame_heard, frames_from, get_push, if◌then◌else◌, item_numbered, length, length-append, life_after_command, life_of, nat_tests, number_of, number_of-fits, option_map, polled_number, refl, refusal, scans_of, sending_refusal, subst, suc, sym, true, zero, ℕ, ◌%◌, ◌++◌, ◌+◌, ◌<◌, ◌==◌, ◌^◌, ◌∙◌, ◌∷◌, ◌≡◌, ◌≤◌, IsQuiet, LoadsAreSent, Sending, after_module_event, answer_frames, answer_of_sending, answer_to, delivery_refusal, frame_at_place, input_state, latest_sending, polls_with, repeat_of, said}
+use Rattle.fio_ends.proofs.Names.{loads_of, AllByRecursion, Answer, ArePrompt, Bool, Command, Commanded, CpuFrame, Event, HaveNoRestart, IsCommand, IsWithinRanges, Leads, Life, List, Machine, None, Option, SentFrame, Some, ToCpu, ToModule, [], after, after_delivered_block, after_delivery_to_cpu, after_delivery_to_module, after_sending, after_taken, answer_octets, ap, ap₂, arith, block_in, command_in, command_octets, due_after, false, filter_events, frame_heard, frames_from, if◌then◌else◌, item_numbered, length, length-append, life_after_command, life_of, nat_tests, number_of, number_of-fits, option_map, polled_number, refl, refusal, scans_of, sending_refusal, subst, suc, sym, true, zero, ℕ, ◌%◌, ◌++◌, ◌+◌, ◌<◌, ◌==◌, ◌^◌, ◌∙◌, ◌∷◌, ◌≡◌, IsQuiet, LoadsAreSent, Sending, after_module_event, answer_frames, answer_of_sending, answer_to, input_state, latest_sending, polls_with, repeat_of, said}
 use Rattle.fio_message.specs.declared.answers.Answer.TheVariants as answers
 use Rattle.fio_message.specs.declared.commands.Command.TheVariants as commands
 use Rattle.fio_module.specs.Flags.{word_of}
@@ -7,27 +7,12 @@ use Rattle.fio_module.specs.Life as module_events
 use Rattle.fio_link.specs.declared.event.Event.TheVariants as events
 use Rattle.fio_link.proofs.Kept.{after_frame}
 use Rattle.fio_link.proofs.Received.{no_block_reply}
+use Rattle.fio_link.proofs.CleanRounds.{newest_fine, newest_frame}
 use Rattle.fio_ends.proofs.Steady.{IsCalm, loads_on}
 use Rattle.fio_ends.proofs.LevelLives.{changes_below, has_counter, levels-scan, log-scan, raw_at}
 use Rattle.fio_ends.proofs.Sends.{read_back}
 use Rattle.fio_ends.proofs.Plans.{AreTakeable, HasCome, IsTakeable, Keep, Look, Lose, LosePoll, Plan, Poll, Repeat, Stands, Step, frame_of_answer, frame_sent, frames_of, made_at, scan_after, sending_at}
 use Rattle.fio_ends.proofs.PlannedLives.{awaits-request, awaits-scan, come-poll, kept_now, latest_is, next_awaited, reads_back, repeated, repeats}
-
--- ---- frames
-
--- the newest frame may be delivered
-newest_fine : (frames : List SentFrame) (f : SentFrame) (last : ℕ) → last ≤ length frames
-    → delivery_refusal (length (frames ++ f ∷ [])) last (length frames + 1) ≡ None
-newest_fine frames f last le =
-    let more : length (frames ++ f ∷ []) ≡ length frames + 1 = length-append frames (f ∷ []) in
-    ap (λ n. delivery_refusal n last (length frames + 1)) more ∙ fine (length frames) last le
-  where
-    fine : (n last : ℕ) → last ≤ n → delivery_refusal (n + 1) last (n + 1) ≡ None
-    fine n last le = grind (arith, nat_tests)
-
--- and is the one that was sent last
-newest_frame : (frames : List SentFrame) (f : SentFrame) → item_numbered (frames ++ f ∷ []) (length frames + 1) ≡ Some f
-newest_frame frames f = frame_at_place (frames ++ f ∷ []) (length frames) ∙ get_push frames f
 
 -- words of the same bits are the same
 pub words_alike : (count : ℕ) (one other : ℕ → Bool) → ((input : ℕ) → input < count → one input ≡ other input) → word_of count one ≡ word_of count other

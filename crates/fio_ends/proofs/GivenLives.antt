@@ -1,8 +1,9 @@
 -- Each life without polls is that of a machine to which a prompt run leads: its commands are sent and received, and none of the
 -- answers is heard.
-use Rattle.fio_ends.proofs.Names.{◌≡◌, ◌∙◌, ◌+◌, ◌≤◌, ℕ, List, [], ◌∷◌, ◌++◌, length, Some, None, refl, ap, sym, subst, arith, append_assoc, length-append, nat_tests, AllByRecursion, IsCommand, command_in, command_octets, Life, Scanned, LineSynced, Raised, Commanded, life_of, life_after_command, Settings, Event, ToModule, SentFrame, Machine, start, item_numbered, refusal, sending_refusal, after_sending, after_delivery_to_module, after, Leads, HaveNoRestart, IsNotRestart, due_after, IsPrompt, ArePrompt, IsWithinRanges, get_push, delivery_refusal, frame_at_place}
+use Rattle.fio_ends.proofs.Names.{◌≡◌, ◌∙◌, ◌+◌, ◌≤◌, ℕ, List, [], ◌∷◌, ◌++◌, length, Some, None, refl, ap, sym, subst, arith, append_assoc, length-append, AllByRecursion, IsCommand, command_in, command_octets, Life, Scanned, LineSynced, Raised, Commanded, life_of, life_after_command, Settings, Event, ToModule, SentFrame, Machine, start, item_numbered, refusal, sending_refusal, after_sending, after_delivery_to_module, after, Leads, HaveNoRestart, IsNotRestart, due_after, IsPrompt, ArePrompt, IsWithinRanges, get_push, frame_at_place}
 use Rattle.fio_link.specs.declared.event.Event.TheVariants as events
 use Rattle.fio_ends.proofs.Sends.{read_back}
+use Rattle.fio_link.proofs.CleanRounds.{newest_fine}
 
 -- commands that are no polls, whole and within their ranges
 abbrev pub IsGiven : Life → Type 0
@@ -54,15 +55,6 @@ module _ (settings : Settings) (first : ℕ) where
     pub round : machine.round ≡ 0
     pub received : machine.last_to_module ≤ length machine.to_module
     pub heard : machine.last_to_cpu ≤ length machine.to_cpu
-
-  newest_fine : (frames : List SentFrame) (f : SentFrame) (last : ℕ) → last ≤ length frames
-      → delivery_refusal (length (frames ++ f ∷ [])) last (length frames + 1) ≡ None
-  newest_fine frames f last le =
-      let more : length (frames ++ f ∷ []) ≡ length frames + 1 = length-append frames (f ∷ []) in
-      ap (λ n. delivery_refusal n last (length frames + 1)) more ∙ fine (length frames) last le
-    where
-      fine : (n last : ℕ) → last ≤ n → delivery_refusal (n + 1) last (n + 1) ≡ None
-      fine n last le = grind (arith, nat_tests)
 
   -- what is received of a frame
   record AfterReceipt (machine : Machine) (index : ℕ) (octets : List ℕ) (later : Machine) : Type 0 where

@@ -12,7 +12,8 @@ use Rattle.fio_ends.proofs.PromptRuns.{keeps-event}
 use Rattle.fio_ends.proofs.Sends.{other_said, read_back, said_of}
 use Rattle.fio_ends.proofs.Steady.{heard-life}
 use Rattle.fio_ends.proofs.JumpedBlocks.{HasExcuses}
-use Rattle.fio_ends.proofs.TimesKept.{goes_on-command, past_life, sends_loads, sent_has}
+use Rattle.fio_ends.proofs.TimesKept.{sends_loads, sent_has}
+use Rattle.fio_ends.proofs.TimesKnown.{goes_on-command, past_life}
 
 -- ---- events
 

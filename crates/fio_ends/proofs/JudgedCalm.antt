@@ -23,7 +23,7 @@ use Rattle.fio_ends.proofs.Sends.{other_said, said_of}
 use Rattle.fio_ends.proofs.Stamps.{ClockState, clock_after}
 use Rattle.fio_ends.proofs.StateKept.{state_above}
 use Rattle.fio_ends.proofs.StateKnown.{StateState, state_after}
-use Rattle.fio_ends.proofs.TimesKept.{AsksTimes, TimeState, time_after}
+use Rattle.fio_ends.proofs.TimesKnown.{AsksTimes, TimeState, time_after}
 use Rattle.fio_ends.proofs.CalmStamps.{HasStamps, heard_on, heard_stamps, polled_stamps, sent_stamps}
 
 -- ---- a run

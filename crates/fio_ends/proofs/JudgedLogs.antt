@@ -16,7 +16,8 @@ use Rattle.fio_ends.proofs.JudgeSteps.{outcomes-append}
 use Rattle.fio_ends.proofs.LaterLogs.{moved}
 use Rattle.fio_ends.proofs.PromptRuns.{reaches}
 use Rattle.fio_ends.proofs.StateKept.{state_above}
-use Rattle.fio_ends.proofs.TimesKept.{time_above, times_begun}
+use Rattle.fio_ends.proofs.TimesKept.{times_begun}
+use Rattle.fio_ends.proofs.TimesKnown.{time_above}
 use Rattle.fio_ends.proofs.JudgedRuns.{judged}
 
 -- ---- from its first line on

@@ -17,7 +17,7 @@ use Rattle.fio_ends.proofs.Stamps.{ClockState, clock_after}
 use Rattle.fio_ends.proofs.StateKnown.{StateState, state_after}
 use Rattle.fio_ends.proofs.Taken.{Asks, asks_on}
 use Rattle.fio_ends.proofs.JumpedBlocks.{HasExcuses}
-use Rattle.fio_ends.proofs.TimesKept.{AsksTimes, TimeState, time_after}
+use Rattle.fio_ends.proofs.TimesKnown.{AsksTimes, TimeState, time_after}
 
 -- an event has one frame at most
 abbrev IsShort : List CpuFrame → Type 0

@@ -66,6 +66,7 @@ pub mod StateEnds
 pub mod StateBlocks
 pub mod StateHeard
 pub mod StateKept
+pub mod TimesKnown
 pub mod TimesKept
 pub mod FaultsOfLogs
 pub mod CallEvents
@@ -116,6 +117,7 @@ pub mod CalmStamps
 pub mod JudgedCalm
 pub mod RestartedFrames
 pub mod AnewFrames
+pub mod RestartedLife
 pub mod Restarted
 pub mod JudgeExamples
 mod MakersAnswers

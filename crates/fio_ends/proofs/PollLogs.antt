@@ -142,6 +142,12 @@ rise_open : (is_open : ℕ → Bool) (scan low : ℕ) (es : List Timed) → AllB
 rise_open is_open scan low [] all rise = tt
 rise_open is_open scan low (e ∷ es) all rise = (rise.0, rise.1, all.0, rise_open is_open e.scan (suc e.input) es all.1 rise.3)
 
+-- looks down to the states that were read are no later than the scan of an answer below them
+no_later : (scan more : ℕ) (seen : Option ℕ) → IsSeenBy seen more → (looks : List Look) → AllByRecursion (λ (l : Look). l.scan ≤ scan + spent_of seen) looks
+    → AllByRecursion (λ (l : Look). l.scan ≤ (scan + more) + 0) looks
+no_later scan more None by looks all = each-map (λ (l : Look). l.scan ≤ scan + 0) (λ (l : Look). l.scan ≤ (scan + more) + 0) (λ l le. omega arith) looks all
+no_later scan more (Some spent) by looks all = each-map (λ (l : Look). l.scan ≤ scan + spent) (λ (l : Look). l.scan ≤ (scan + more) + 0) (λ l le. omega (arith, by)) looks all
+
 module _ (start : ℕ → Bool) (all : List Timed) (looks : List Look) where
   abbrev levels_then : ℕ → ℕ → Bool
   levels_then scan input = if has_entry all input then levels_with start (upto scan all) input else level_seen looks scan input
@@ -167,19 +173,9 @@ module _ (start : ℕ → Bool) (all : List Timed) (looks : List Look) where
       by look less input low false at = ap (λ ls. level_seen ls (scan + milliseconds_between before stamp) input) is
           ∙ level_at past (looks_of_turns scan before turns) (record { scan = scan + milliseconds_between before stamp; levels = levels }) input less
   holds (turns_of.Answered entries stamp ∷ turns) scan before seen past is before_it step hold =
-      holds turns (scan + milliseconds_between before stamp) stamp None past is (further seen step.2 past before_it) step.3 hold
-    where
-      further : (s : Option ℕ) → IsSeenBy s (milliseconds_between before stamp) → (ls : List Look) → AllByRecursion (λ (l : Look). l.scan ≤ scan + spent_of s) ls
-          → AllByRecursion (λ (l : Look). l.scan ≤ (scan + milliseconds_between before stamp) + 0) ls
-      further None b ls all = each-map (λ (l : Look). l.scan ≤ scan + 0) (λ (l : Look). l.scan ≤ (scan + milliseconds_between before stamp) + 0) (λ l le. omega arith) ls all
-      further (Some n) b ls all = each-map (λ (l : Look). l.scan ≤ scan + n) (λ (l : Look). l.scan ≤ (scan + milliseconds_between before stamp) + 0) (λ l le. omega (arith, b)) ls all
+      holds turns (scan + milliseconds_between before stamp) stamp None past is (no_later scan (milliseconds_between before stamp) seen step.2 past before_it) step.3 hold
   holds (turns_of.Repeated entries stamp ∷ turns) scan before seen past is before_it step hold =
-      holds turns (scan + milliseconds_between before stamp) stamp None past is (further seen step.2 past before_it) step.3 hold
-    where
-      further : (s : Option ℕ) → IsSeenBy s (milliseconds_between before stamp) → (ls : List Look) → AllByRecursion (λ (l : Look). l.scan ≤ scan + spent_of s) ls
-          → AllByRecursion (λ (l : Look). l.scan ≤ (scan + milliseconds_between before stamp) + 0) ls
-      further None b ls all = each-map (λ (l : Look). l.scan ≤ scan + 0) (λ (l : Look). l.scan ≤ (scan + milliseconds_between before stamp) + 0) (λ l le. omega arith) ls all
-      further (Some n) b ls all = each-map (λ (l : Look). l.scan ≤ scan + n) (λ (l : Look). l.scan ≤ (scan + milliseconds_between before stamp) + 0) (λ l le. omega (arith, b)) ls all
+      holds turns (scan + milliseconds_between before stamp) stamp None past is (no_later scan (milliseconds_between before stamp) seen step.2 past before_it) step.3 hold
 
 -- ---- a log
 

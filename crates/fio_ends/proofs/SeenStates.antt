@@ -96,8 +96,3 @@ watch_another life upto input transition clear hidden watched at apart w = recor
   open_ones = λ is none. none_hidden-further life upto (upto + 1) input (omega arith) (w.open_ones is none);
   watched_ones = λ level is. watched-other life upto input level transition at apart (w.watched_ones level is);
 }
-
--- a gap mark is recorded
-pub watch_gap : (life : Life) (upto further input : ℕ) (clear hidden : Bool) (watched : Option Bool) → upto ≤ further → WatchAt life upto input clear hidden watched
-    → WatchAt life further input clear hidden None
-watch_gap life upto further input clear hidden watched le w = grind (arith, none_hidden-further)

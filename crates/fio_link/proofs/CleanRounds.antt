@@ -60,7 +60,7 @@ sent_all settings first (event ∷ events) machine last leads s =
     (sent_after settings first machine event leads.0 s)
 
 -- the newest frame may be delivered
-newest_fine : (frames : List SentFrame) (f : SentFrame) (last : ℕ) → last ≤ length frames
+pub newest_fine : (frames : List SentFrame) (f : SentFrame) (last : ℕ) → last ≤ length frames
     → delivery_refusal (length (frames ++ f ∷ [])) last (length frames + 1) ≡ None
 newest_fine frames f last le =
     let more : length (frames ++ f ∷ []) ≡ length frames + 1 = length-append frames (f ∷ []) in
@@ -70,7 +70,7 @@ newest_fine frames f last le =
     fine n last le = grind (arith, nat_tests)
 
 -- and is the one that was sent last
-newest_frame : (frames : List SentFrame) (f : SentFrame) → item_numbered (frames ++ f ∷ []) (length frames + 1) ≡ Some f
+pub newest_frame : (frames : List SentFrame) (f : SentFrame) → item_numbered (frames ++ f ∷ []) (length frames + 1) ≡ Some f
 newest_frame frames f = frame_at_place (frames ++ f ∷ []) (length frames) ∙ get_push frames f
 
 -- a clean round, with what it does to the rounds of the polls received and to the module's life

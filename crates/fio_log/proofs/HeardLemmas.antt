@@ -1,5 +1,5 @@
 -- What is heard of a line, and what its verdict says of that.
-use Rattle.std.proofs.Common.{◌≡◌, ℕ, ◌∙◌, Bool, true, false, List, [], ◌∷◌, ◌++◌, Some, slice_get, sym, ap, subst, refl, arith, inl, inr, MatchBool, ◌||◌}
+use Rattle.std.proofs.Common.{◌≡◌, ℕ, ◌∙◌, Bool, true, false, List, [], ◌∷◌, Some, slice_get, sym, ap, subst, refl, arith, inl, inr, MatchBool, ◌||◌}
 use Rattle.fio_form.specs.Messages.{is_message}
 use Rattle.fio_form.specs.declared.form.LineForm.{LineForm}
 use Rattle.fio_rows.proofs.LineLaws.{read_right}
@@ -238,8 +238,3 @@ octets_not_other says octets is = let wrong : false ≡ true = rw is at octets i
 
 pub octets_not_damaged : (says : Said) → says_octets says ≡ true → says ≡ said.Damaged → ⊥
 octets_not_damaged says octets is = let wrong : false ≡ true = rw is at octets in absurd (cc)
-
--- a frame after others
-pub first_stays : (frames : List (List ℕ)) (more : List ℕ) → KeepsFirst frames (frames ++ more ∷ [])
-first_stays [] more = λ frame is. absurd (cc)
-first_stays (first ∷ frames) more = λ frame is. is

@@ -1,5 +1,5 @@
 -- What is known of a log, from one line to the next.
-use Rattle.std.proofs.Common.{◌≡◌, ◌≤◌, ◌<◌, ◌+◌, ◌∙◌, ℕ, Bool, true, false, List, [], ◌∷◌, ◌++◌, Some, None, length, get_or, sym, ap, arith, inl, inr, length-append}
+use Rattle.std.proofs.Common.{◌≡◌, ◌≤◌, ◌<◌, ◌+◌, ◌∙◌, ℕ, Bool, true, false, List, [], ◌∷◌, ◌++◌, Some, length, get_or, sym, ap, arith, inl, inr, length-append}
 use Rattle.std.proofs.lemmas.Bool.Decides.{leb_tells}
 use Rattle.std.proofs.lemmas.List.{get_or_append_left, get_or_at}
 use Rattle.fio_log.specs.Blanks.{Texts, is_blank_line}
@@ -46,15 +46,6 @@ same_lines texts before after read told same waits knows = record {
   waiting = rw waits knows.waiting;
 }
 
--- a teller that knows the forms, whose next verdict is returned
-pub told_lines : (texts : Texts) (before after : Teller) (read told more next : ℕ) → KnowsAsBefore before after
-    → after.waiting ≡ None → before.is_known ≡ true → KnowsLines texts before read told → KnowsLines texts after more next
-told_lines texts before after read told more next same none known knows = record {
-  window = same_window texts before after same knows.window;
-  filling = λ unknown. let no : false ≡ true = sym unknown ∙ (same.known ∙ known) in absurd (cc);
-  waiting = rw none tt;
-}
-
 -- a teller that knows the forms, and lines below
 pub known_lines : (texts : Texts) (teller : Teller) (read more told : ℕ) → teller.is_known ≡ true → KnowsLines texts teller read told
     → KnowsLines texts teller more told
@@ -80,46 +71,11 @@ pushed_lines texts first lines line are last = λ at within. elim (leb_tells (at
       rw same there
 ]
 
--- a window with the next line
-pub filled : (texts : Texts) (before after : Teller) (above read told : ℕ) (line : List ℕ) → read ≡ above + 1
-    → after.learning.window ≡ before.learning.window ++ line ∷ [] → after.first ≡ before.first → texts read ≡ short line
-    → HasAllOf texts before above told → HasAllOf texts after read told
-filled texts before after above read told line next window first is all =
-    let longer : length (before.learning.window ++ line ∷ []) ≡ length before.learning.window + 1 = length-append before.learning.window (line ∷ []) in
-    let here : read ≡ told + 1 + length before.learning.window = omega (arith, next, all.all) in
-    let last : texts (told + 1 + length before.learning.window) ≡ short line = rw here at is in
-    record {
-      none = first ∙ all.none;
-      all = rw window (omega (arith, longer, next, all.all));
-      lines = rw window (pushed_lines texts (told + 1) before.learning.window line all.lines last);
-    }
-
--- lines by the number that the first of them has
-pub numbered : (texts : Texts) (number first count : ℕ) (lines : List (List ℕ)) → count ≡ length lines
-    → (0 < length lines → first ≡ number) → AreLinesFrom texts number (length lines) lines → AreLinesFrom texts first count lines
-numbered texts number first count lines counted same are = λ at within.
-    let less : at < length lines = omega (arith, within, counted) in
-    let is : first ≡ number = same (omega (arith, less)) in
-    rw is (are at less)
-
 -- a line that is not long, by its octets
 pub short_line : (text other : Text) (line : List ℕ) → text.is_long ≡ false → line ≡ text.octets → text ≡ other → other ≡ short line
 short_line text other line long same is =
     let whole : text ≡ short text.octets = ap (λ b. record { octets = text.octets; is_long = b }) long in
     sym is ∙ whole ∙ ap short (sym same)
-
--- a teller whose window has each line, with the next one
-pub pushed_kept : (texts : Texts) (before after : Teller) (above read told : ℕ) (line : List ℕ) → before.is_known ≡ false
-    → read ≡ above + 1 → after.learning.window ≡ before.learning.window ++ line ∷ [] → after.first ≡ before.first
-    → after.waiting ≡ before.waiting → texts read ≡ short line → KnowsLines texts before above told → KnowsLines texts after read told
-pushed_kept texts before after above read told line unknown next window first waits is knows =
-    let all : HasAllOf texts before above told = knows.filling unknown in
-    let none : after.first ≡ 0 = first ∙ all.none in
-    record {
-      window = λ some. absurd (omega (arith, some, none));
-      filling = λ still. filled texts before after above read told line next window first is all;
-      waiting = rw waits knows.waiting;
-    }
 
 -- a teller whose window has each line, once it knows the forms
 pub drained : (texts : Texts) (before after : Teller) (window : List (List ℕ)) (read told most : ℕ) → before.is_known ≡ false

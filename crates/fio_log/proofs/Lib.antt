@@ -5,6 +5,7 @@ pub mod OwnVerdictLemmas
 pub mod FrameLemmas
 pub mod WaitingLemmas
 pub mod FollowingLemmas
+pub mod LineVerdictLemmas
 pub mod KnowingLemmas
 pub mod HeardLemmas
 pub mod LineLogLemmas

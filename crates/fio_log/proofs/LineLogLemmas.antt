@@ -35,7 +35,7 @@ use Rattle.fio_log.specs.declared.by_forms.LineHeard.{LineHeard}
 use Rattle.fio_log.specs.declared.verdict.Kind.{Kind}
 use Rattle.fio_log.specs.declared.verdict.Kind.TheVariants as kinds
 use Rattle.fio_log.specs.declared.verdict.Reason.{Reason}
-use Rattle.fio_log.proofs.FollowingLemmas.{false_unless, none_ends}
+use Rattle.fio_log.proofs.LineVerdictLemmas.{false_unless, none_ends}
 
 -- ---- No message is open below a line of such forms
 

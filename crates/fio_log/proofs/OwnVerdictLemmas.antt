@@ -94,9 +94,3 @@ pub auto-form : (form : Form) → ((own : OwnForm) → own_form_of form ≡ Some
 auto-form forms.Auto none = refl
 auto-form forms.Frames none = absurd (none texts.Frames refl)
 auto-form forms.Transcript none = absurd (none texts.Transcript refl)
-
--- lines that are not read by the definition are read by order
-pub own-form : (form : Form) → ¬ (form ≡ forms.Auto) → (own : OwnForm) × (own_form_of form ≡ Some own)
-own-form forms.Auto other = absurd (other refl)
-own-form forms.Frames other = (texts.Frames, refl)
-own-form forms.Transcript other = (texts.Transcript, refl)

@@ -27,13 +27,6 @@ same_fills before after read told same fills = record {
 pub fills_more : (teller : Teller) (read told : ℕ) → Fills teller read told → Fills teller read (told + 1)
 fills_more teller read told fills = record { lines = λ unknown. omega (arith, fills.lines unknown); few = fills.few }
 
--- a teller that knows the forms
-pub fills_known : (teller : Teller) (read told : ℕ) → teller.is_known ≡ true → Fills teller read told
-fills_known teller read told known = record {
-  lines = λ unknown. let no : false ≡ true = sym unknown ∙ known in absurd (cc);
-  few = λ unknown. let no : false ≡ true = sym unknown ∙ known in absurd (cc);
-}
-
 -- the next verdict cannot be returned
 pub few_heard : (is_heard is_ready : Bool) (teller : Teller) (read told : ℕ) → (is_heard ≡ true → told < read → is_ready ≡ true)
     → is_ready ≡ false → (is_heard ≡ false → WaitsForOne teller read told) → WaitsForOne teller read told

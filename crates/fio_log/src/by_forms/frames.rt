@@ -111,10 +111,7 @@ impl FormReader {
         }
         let is_alone = self.is_alone(line.text, heard);
         let is_quiet = self.tell_seconds(line, heard.said.found.end, told);
-        if !is_alone {
-            return (Kind::Frames, Reason::More);
-        }
-        if !is_quiet {
+        if !is_alone || !is_quiet {
             return (Kind::Frames, Reason::More);
         }
         (Kind::Frames, Reason::None)

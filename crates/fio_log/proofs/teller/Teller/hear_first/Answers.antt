@@ -1,7 +1,8 @@
 use Rattle.std.proofs.Common.{◌≡◌, ◌∙◌, None, length, ap, refl, rules, sym}
 use Rattle.fio_log.specs.Heard.{Above}
 use Rattle.fio_log.specs.declared.rows.MessageRows.{MessageRows}
-use Rattle.fio_log.proofs.FollowingLemmas.{heard_follows, hears_line}
+use Rattle.fio_log.proofs.FollowingLemmas.{heard_follows}
+use Rattle.fio_log.proofs.LineVerdictLemmas.{hears_line}
 use Rattle.fio_log.proofs.KnowingLemmas.{same_window}
 use Rattle.fio_log.proofs.teller.Teller.hear_first.Goals as goal
 

@@ -1,6 +1,6 @@
 use Rattle.std.proofs.Common.{◌+◌, ◌∙◌}
 use Rattle.fio_log.proofs.KnowingLemmas.{says_of}
-use Rattle.fio_log.proofs.FollowingLemmas.{line_told, whole_left}
+use Rattle.fio_log.proofs.LineVerdictLemmas.{line_told, whole_left}
 use Rattle.fio_log.proofs.teller.Teller.tell_heard.Goals as goal
 
 pub returns-clause-said : goal.returns-clause-said

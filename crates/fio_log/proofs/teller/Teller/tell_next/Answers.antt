@@ -3,7 +3,8 @@ use Rattle.fio_rows.specs.Lines.{is_message_whole}
 use Rattle.fio_rows.specs.Rows.{state_of}
 use Rattle.fio_rows.specs.declared.rows.Reading.{Reading}
 use Rattle.fio_log.specs.Heard.{above_of}
-use Rattle.fio_log.proofs.FollowingLemmas.{below_follows, none_ends, same_then, tells_of}
+use Rattle.fio_log.proofs.FollowingLemmas.{below_follows, same_then}
+use Rattle.fio_log.proofs.LineVerdictLemmas.{none_ends, tells_of}
 use Rattle.fio_log.proofs.KnowingLemmas.{before_of, same_window}
 use Rattle.fio_log.proofs.teller.Teller.tell_next.Goals as goal
 

@@ -3,7 +3,8 @@ use Rattle.fio_rows.specs.Lines.{is_message_whole}
 use Rattle.fio_rows.specs.Rows.{state_of}
 use Rattle.fio_log.specs.Heard.{above_of}
 use Rattle.fio_log.specs.declared.rows.MessageRows.{MessageRows}
-use Rattle.fio_log.proofs.FollowingLemmas.{both, end_told, false_unless, heard_ends, heard_follows, heard_whole, hears_line, last_follows, last_line, log_told, none_ends, not_last, tells_of}
+use Rattle.fio_log.proofs.FollowingLemmas.{heard_follows, last_follows}
+use Rattle.fio_log.proofs.LineVerdictLemmas.{both, end_told, false_unless, heard_ends, heard_whole, hears_line, last_line, log_told, none_ends, not_last, tells_of}
 use Rattle.fio_log.proofs.teller.Teller.tell_waiting.Goals as goal
 
 pub returns-then-at-clause-tells : goal.returns-then-at-clause-tells
