@@ -1,0 +1,3 @@
+mod Senders
+mod Reports
+mod WrittenLogs

@@ -1,0 +1,10 @@
+//! Laws of the definitions. Each function states one in its contract, and does nothing.
+ghost use Rattle.fio_logs.specs.WrittenLogs.{LinesAccuseNone};
+
+/// No false accusation, from the lines of a log on: of the lines of a right link, each written in a form of one line that the reader
+/// knows, no outcome accuses either end. Frames may be missing at lines that are too long, or of which a part is gone; and lines that
+/// no form has may be anywhere.
+#[tactic(auto, using(crate::proofs::WrittenLogs::lines_accuse_none))]
+pub fn lines_of_a_right_link_accuse_none()
+    ensures { LinesAccuseNone }
+{}
