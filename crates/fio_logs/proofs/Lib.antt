@@ -1,3 +1,4 @@
 mod Senders
 mod Reports
 mod WrittenLogs
+mod Examples

@@ -43,7 +43,7 @@ lost_here loss events are = inr (MayHaveHeldFrame, are, λ is. absurd (cc is))
 
 unless_remarks : (loss : Bool) (reason : Reason) (kind : LogLineKind) → Remarks loss (events_of_line kind)
     → Remarks loss (events_of_line (unless_broken reason kind))
-unless_remarks loss reasons.Broken kind remarks = lost_here loss _ refl
+unless_remarks loss reasons.Broken kind remarks = lost_here loss (judged.Lost ∷ []) refl
 unless_remarks loss reason kind remarks = remarks
 
 passed_remarks : (octets : List ℕ) (reason : Reason) → SaysWords octets reason → Remarks (speaks_of_loss octets) (events_of_line (passed_kind reason))
@@ -58,18 +58,20 @@ damaged_lost reason = refl
 
 kind_remarks : (octets : List ℕ) (kind : Kind) (reason : Reason) → is_of_others kind ≡ true → SaysWords octets reason
     → Remarks (speaks_of_loss octets) (events_of_line (line_kind kind reason))
-kind_remarks octets kinds.Blank reason other says = unless_remarks _ reason lines.Other (inl refl)
+kind_remarks octets kinds.Blank reason other says = unless_remarks (speaks_of_loss octets) reason lines.Other (inl refl)
 kind_remarks octets kinds.Possible reason other says =
-    unless_remarks _ reason lines.Possible (inr (SaysMessage, refl, λ is. absurd (cc is)))
-kind_remarks octets kinds.Damaged reason other says = lost_here _ _ (damaged_lost reason)
-kind_remarks octets kinds.PassedOver reason other says = unless_remarks _ reason (passed_kind reason) (passed_remarks octets reason says)
+    unless_remarks (speaks_of_loss octets) reason lines.Possible (inr (SaysMessage, refl, λ is. absurd (cc is)))
+kind_remarks octets kinds.Damaged reason other says =
+    lost_here (speaks_of_loss octets) (events_of_line (line_kind kinds.Damaged reason)) (damaged_lost reason)
+kind_remarks octets kinds.PassedOver reason other says =
+    unless_remarks (speaks_of_loss octets) reason (passed_kind reason) (passed_remarks octets reason says)
 kind_remarks octets kinds.Frames reason other says = absurd (cc)
 kind_remarks octets kinds.Part reason other says = absurd (cc)
 
 alone : (loss : Bool) (events : List LogEvent) → Remarks loss events → Remarks loss (events ++ [])
 alone loss events remarks = elim remarks [
   | inl none ↦ inl (ap (λ (o : List LogEvent). o ++ []) none)
-  | inr one ↦ inr (one.0, ap (λ (o : List LogEvent). o ++ []) one.1.0, one.1.1)
+  | inr one ↦ inr (one.0, ap (λ (o : List LogEvent). o ++ []) one.1, one.2)
 ]
 
 -- a line that no form has
@@ -79,7 +81,7 @@ other_remarks as_said line octets other has says =
     let none : line.told.frames ≡ [] = without_frames line.told.kind line.told.frames other has in
     let kind = line_kind line.told.kind line.told.reason in
     subst (λ (frames : List (List ℕ)). Remarks (speaks_of_loss octets) (events_of_line kind ++ flat_map (events_of_reported_frame as_said kind line.named) frames))
-    (sym none) (alone _ (events_of_line kind) (kind_remarks octets line.told.kind line.told.reason other says))
+    (sym none) (alone (speaks_of_loss octets) (events_of_line kind) (kind_remarks octets line.told.kind line.told.reason other says))
 
 -- a damaged line
 pub damaged_events : (as_said : Bool) (line : ReportedLine) → line.told.kind ≡ kinds.Damaged → HasItsFrames line

@@ -4,21 +4,23 @@ use Rattle.std.specs.List.{AllByRecursion, flat_map}
 use Rattle.fio_module.specs.Settings.{Settings}
 use Rattle.fio_log.specs.Blanks.{Texts}
 use Rattle.fio_log.specs.Heard.{is_of_others}
-use Rattle.fio_log.specs.LineLogs.{AreToldRight, Gone, IsToldAs, LineIs, Message, Other}
+use Rattle.fio_log.specs.LineLogs.{AreToldRight, Gone, IsToldAs, LineIs, Message, Other, Spoilt}
 use Rattle.fio_log.specs.Wordings.{speaks_of_loss}
+use Rattle.fio_log.specs.declared.verdict.Kind.{Kind}
+use Rattle.fio_log.specs.declared.verdict.Kind.TheVariants as kinds
+use Rattle.fio_log.specs.declared.verdict.Reason.{Reason}
 use Rattle.fio_log.proofs.LineLogLemmas.{told_right}
-use Rattle.fio_check.specs.LogJudges.{LogEvent}
-use Rattle.fio_check.specs.LogJudges as judged
+use Rattle.fio_check.specs.LogJudges.{LogEvent, log_starting, outcomes_in_log}
 use Rattle.fio_link.specs.declared.event.Event.{Event}
 use Rattle.fio_link.specs.Link.{Machine, after, start}
-use Rattle.fio_ends.specs.EventLogs.{AreLostWhereSaid, BeginsPart, FewAreUnderWayInParts, LogJudgeAccusesNone, MayHaveHeldFrame, Remark, Remarked, SaysMessage, Seen, SeenAbove, SeenStep, SpeaksOfLoss, Unseen, below_frames, below_remark, event_of_remark, events_seen, found_saying, log_seen, lost_if, nothing_seen, starts_begun}
+use Rattle.fio_ends.specs.EventLogs.{AccusesNeitherInLog, AreLostWhereSaid, BeginsPart, FewAreUnderWayInParts, LogJudgeAccusesNone, MayHaveHeldFrame, Remark, Remarked, SaysMessage, Seen, SeenAbove, SeenStep, SpeaksOfLoss, Unseen, below_frames, below_remark, event_of_remark, events_seen, found_saying, log_seen, lost_if, nothing_seen, starts_begun}
 use Rattle.fio_ends.specs.LinkLogs.{AreUnderWay, AreUnderWayAt}
 use Rattle.fio_ends.specs.PromptRuns.{is_command}
 use Rattle.fio_ends.specs.Transcripts.{CpuFrame, frames_at}
 use Rattle.fio_ends.proofs.EventLogs.{log_judge_accuses_none}
 use Rattle.fio_ends.proofs.SeenAbove.{one_frame}
 use Rattle.fio_logs.specs.ReportedLines.{HasItsFrames, NamesSender, ReportedLine, SayTheirWords, events_of_reported, lines_told}
-use Rattle.fio_logs.specs.WrittenLogs.{AreMissingWhereGone, FewAreUnderWayInLines, GoneLine, LineStep, LinesAbove, LinesAccuseNone, Logged, Missing, OtherLine, WrittenLine, below_gone, below_logged, below_other, events_of_steps, line_of_frame, lines_from, no_lines, other_of_loss, written_lines}
+use Rattle.fio_logs.specs.WrittenLogs.{AreMissingBelowLost, FewAreUnderWayInLines, GoneLine, LineStep, LinesAbove, LinesAccuseNone, Logged, Missing, OtherLine, SpoiltLine, WrittenLine, below_lost, below_logged, below_other, events_of_steps, line_of_frame, lines_from, no_lines, other_of_loss, written_lines}
 use Rattle.fio_logs.proofs.Reports.{Remarks, damaged_events, message_events, other_remarks}
 use Rattle.fio_logs.proofs.Senders.{AreAnswers, IsOfSender, answers_after, answers_below, of_senders}
 
@@ -40,19 +42,19 @@ tail_same same = cc
 
 -- the place is lost where the lines lose it; and few loads may be under way
 record IsAs (above : LinesAbove) (seen : SeenAbove) : Type 0 where
-  pub lost : above.gone ≡ true → seen.lost ≡ true
+  pub lost : above.lost ≡ true → seen.lost ≡ true
   pub warned : seen.warned ≡ true → above.loss ≡ true
   pub begins : (seen.begins ≡ above.begins) ⊎ ((seen.begins ≡ Some 1) × (above.other ≡ true))
 
-as_gone : (above : LinesAbove) (seen : SeenAbove) → IsAs above seen → IsAs (below_gone above) (lost_if true seen)
-as_gone above seen is = record { lost = λ gone. refl; warned = is.warned; begins = inl refl }
+as_lost_line : (above : LinesAbove) (seen : SeenAbove) → IsAs above seen → IsAs (below_lost above) (lost_if true seen)
+as_lost_line above seen is = record { lost = λ lost. refl; warned = is.warned; begins = inl refl }
 
 begins_other : (above : LinesAbove) (seen : SeenAbove) → IsAs above seen → (seen.begins ≡ above.begins) ⊎ ((seen.begins ≡ Some 1) × (true ≡ true))
 begins_other above seen is = elim is.begins [ inl same ↦ inl same | inr one ↦ inr (one.0, refl) ]
 
 as_lost : (loss lost : Bool) (above : LinesAbove) (seen : SeenAbove) → IsAs above seen → IsAs (below_other loss above) (lost_if lost seen)
 as_lost loss true above seen is =
-    record { lost = λ gone. refl; warned = λ warned. or_right loss above.loss (is.warned warned); begins = inr (refl, refl) }
+    record { lost = λ lost. refl; warned = λ warned. or_right loss above.loss (is.warned warned); begins = inr (refl, refl) }
 as_lost loss false above seen is =
     record { lost = is.lost; warned = λ warned. or_right loss above.loss (is.warned warned); begins = begins_other above seen is }
 
@@ -67,7 +69,7 @@ as_remark begun loss SpeaksOfLoss above seen says is =
 as_framed : (event : Event) (frame : CpuFrame) (above : LinesAbove) (seen : SeenAbove) → IsAs above seen
     → IsAs (below_logged event above (frame ∷ [])) (below_frames event seen (frame ∷ []))
 as_framed event frame above seen is =
-    record { lost = λ gone. absurd (cc gone); warned = is.warned; begins = by (is_command event) is.begins }
+    record { lost = λ lost. absurd (cc lost); warned = is.warned; begins = by (is_command event) is.begins }
   where
     by : (command : Bool) → (seen.begins ≡ above.begins) ⊎ ((seen.begins ≡ Some 1) × (above.other ≡ true))
         → ((if command then None else seen.begins) ≡ (if command then None else above.begins))
@@ -140,23 +142,28 @@ module _ (settings : Settings) (first : ℕ) where
       abbrev SeesAll : List LineStep → Type 0
       SeesAll steps = (lines : List ReportedLine) (told : ℕ) (above : LinesAbove) (seen : SeenAbove) (machine : Machine) → AreAnswers machine.to_cpu
           → AreRight told lines → written_lines texts told lines ≡ lines_from settings first machine steps
-          → AreMissingWhereGone settings first above machine steps → FewAreUnderWayInLines settings first above machine steps → IsAs above seen
+          → AreMissingBelowLost settings first above machine steps → FewAreUnderWayInLines settings first above machine steps → IsAs above seen
           → IsSeenAs seen machine (events_of_steps steps) (flat_map (events_of_reported as_said) lines)
 
       sees_none : SeesAll []
       sees_none [] told above seen machine answers are written missing few is = record { seen = []; are = refl; same = refl; lost = tt; few = tt }
       sees_none (line ∷ lines) told above seen machine answers are written missing few is = absurd (cc written)
 
-      sees_gone : (steps : List LineStep) → SeesAll steps → SeesAll (GoneLine ∷ steps)
-      sees_gone steps sees [] told above seen machine answers are written missing few is = absurd (cc written)
-      sees_gone steps sees (line ∷ lines) told above seen machine answers are written missing few is =
-          let gone : line.told.is ≡ Gone = ap (λ (w : WrittenLine). w.is) (head_same written) in
-          let right : IsToldAs Gone line.told.kind line.told.reason line.told.frames =
+      sees_lost : (lost : LineIs) (steps : List LineStep) → SeesAll steps → ((kind : Kind) (reason : Reason) (frames : List (List ℕ))
+          → IsToldAs lost kind reason frames → kind ≡ kinds.Damaged) → (lines : List ReportedLine) (told : ℕ) (above : LinesAbove) (seen : SeenAbove)
+          (machine : Machine) → AreAnswers machine.to_cpu → AreRight told lines
+          → written_lines texts told lines ≡ record { is = lost; loss = false } ∷ lines_from settings first machine steps
+          → AreMissingBelowLost settings first (below_lost above) machine steps → FewAreUnderWayInLines settings first (below_lost above) machine steps
+          → IsAs above seen → IsSeenAs seen machine (events_of_steps steps) (flat_map (events_of_reported as_said) lines)
+      sees_lost lost steps sees damaged [] told above seen machine answers are written missing few is = absurd (cc written)
+      sees_lost lost steps sees damaged (line ∷ lines) told above seen machine answers are written missing few is =
+          let gone : line.told.is ≡ lost = ap (λ (w : WrittenLine). w.is) (head_same written) in
+          let right : IsToldAs lost line.told.kind line.told.reason line.told.frames =
           subst (λ (is : LineIs). IsToldAs is line.told.kind line.told.reason line.told.frames) gone are.right.0 in
           with_remark seen machine (events_of_steps steps) (events_of_reported as_said line) (flat_map (events_of_reported as_said) lines) MayHaveHeldFrame
-          (damaged_events as_said line right are.frames.0)
-          (sees lines (told + 1) (below_gone above) (lost_if true seen) machine answers (below_first told line lines are) (tail_same written) missing few
-          (as_gone above seen is))
+          (damaged_events as_said line (damaged line.told.kind line.told.reason line.told.frames right) are.frames.0)
+          (sees lines (told + 1) (below_lost above) (lost_if true seen) machine answers (below_first told line lines are) (tail_same written) missing few
+          (as_lost_line above seen is))
 
       sees_other : (loss : Bool) (steps : List LineStep) → SeesAll steps → SeesAll (OtherLine loss ∷ steps)
       sees_other loss steps sees [] told above seen machine answers are written missing few is = absurd (cc written)
@@ -174,9 +181,9 @@ module _ (settings : Settings) (first : ℕ) where
             | inl none ↦ subst (λ (own : List LogEvent). IsSeenAs seen machine (events_of_steps steps) (own ++ more)) (sym none)
                 (sees lines (told + 1) (below_other loss above) seen machine answers (below_first told line lines are) (tail_same written) missing few
                 (as_lost loss false above seen is))
-            | inr one ↦ with_remark seen machine (events_of_steps steps) (events_of_reported as_said line) more one.0 one.1.0
+            | inr one ↦ with_remark seen machine (events_of_steps steps) (events_of_reported as_said line) more one.0 one.1
                 (sees lines (told + 1) (below_other loss above) (below_remark begun seen one.0) machine answers (below_first told line lines are)
-                (tail_same written) missing few (as_remark begun loss one.0 above seen one.1.1 is))
+                (tail_same written) missing few (as_remark begun loss one.0 above seen one.2 is))
           ]
 
       sees_missing : (event : Event) (steps : List LineStep) → SeesAll steps → SeesAll (Missing event ∷ steps)
@@ -193,7 +200,7 @@ module _ (settings : Settings) (first : ℕ) where
       sees_frame : (event : Event) (frame : CpuFrame) (steps : List LineStep) → SeesAll steps → (lines : List ReportedLine) (told : ℕ) (above : LinesAbove)
           (seen : SeenAbove) (machine : Machine) → frames_at first machine event ≡ frame ∷ [] → AreAnswers machine.to_cpu → AreRight told lines
           → written_lines texts told lines ≡ line_of_frame frame ∷ lines_from settings first (after settings first machine event) steps
-          → AreMissingWhereGone settings first above machine (Logged event ∷ steps) → FewAreUnderWayInLines settings first above machine (Logged event ∷ steps)
+          → AreMissingBelowLost settings first above machine (Logged event ∷ steps) → FewAreUnderWayInLines settings first above machine (Logged event ∷ steps)
           → IsAs above seen → IsSeenAs seen machine (event ∷ events_of_steps steps) (flat_map (events_of_reported as_said) lines)
       sees_frame event frame steps sees [] told above seen machine has answers are written missing few is = absurd (cc written)
       sees_frame event frame steps sees (line ∷ lines) told above seen machine has answers are written missing few is =
@@ -210,7 +217,7 @@ module _ (settings : Settings) (first : ℕ) where
           (subst (λ (frames : List CpuFrame). IsSeenAs (below_frames event seen frames) next (events_of_steps steps) more) (sym has)
           (sees lines (told + 1) (below_logged event above (frame ∷ [])) (below_frames event seen (frame ∷ [])) next
           (answers_after settings first machine event answers) (below_first told line lines are) (tail_same written)
-          (subst (λ (frames : List CpuFrame). AreMissingWhereGone settings first (below_logged event above frames) next steps) has missing)
+          (subst (λ (frames : List CpuFrame). AreMissingBelowLost settings first (below_logged event above frames) next steps) has missing)
           (subst (λ (frames : List CpuFrame). FewAreUnderWayInLines settings first (below_logged event above frames) next steps) has few.1)
           (as_framed event frame above seen is)))
 
@@ -226,7 +233,7 @@ module _ (settings : Settings) (first : ℕ) where
                 (subst (λ (frames : List CpuFrame). IsSeenAs (below_frames event seen frames) next (events_of_steps steps) more) (sym none.0)
                 (sees lines told above seen next (answers_after settings first machine event answers) are
                 (written ∙ ap (λ (frames : List CpuFrame). map line_of_frame frames ++ lines_from settings first next steps) none.0)
-                (subst (λ (frames : List CpuFrame). AreMissingWhereGone settings first (below_logged event above frames) next steps) none.0 missing)
+                (subst (λ (frames : List CpuFrame). AreMissingBelowLost settings first (below_logged event above frames) next steps) none.0 missing)
                 (subst (λ (frames : List CpuFrame). FewAreUnderWayInLines settings first (below_logged event above frames) next steps) none.0 few.1)
                 is))
             | inr one ↦ sees_frame event one.0 steps sees lines told above seen machine one.1 answers are
@@ -238,11 +245,12 @@ module _ (settings : Settings) (first : ℕ) where
       sees_all [] = sees_none
       sees_all (Logged event ∷ steps) = sees_logged event steps (sees_all steps)
       sees_all (Missing event ∷ steps) = sees_missing event steps (sees_all steps)
-      sees_all (GoneLine ∷ steps) = sees_gone steps (sees_all steps)
+      sees_all (GoneLine ∷ steps) = sees_lost Gone steps (sees_all steps) (λ kind reason frames is. is)
+      sees_all (SpoiltLine ∷ steps) = sees_lost Spoilt steps (sees_all steps) (λ kind reason frames is. is)
       sees_all (OtherLine loss ∷ steps) = sees_other loss steps (sees_all steps)
 
 at_start : (begun : Bool) → IsAs (no_lines begun) (nothing_seen begun)
-at_start begun = record { lost = λ gone. absurd (cc gone); warned = λ warned. absurd (cc warned); begins = inl refl }
+at_start begun = record { lost = λ lost. absurd (cc lost); warned = λ warned. absurd (cc warned); begins = inl refl }
 
 pub lines_accuse_none : LinesAccuseNone
 unfolding LinesAccuseNone LogJudgeAccusesNone
@@ -252,7 +260,8 @@ lines_accuse_none as_said texts told above lines place starts settings limits fi
     let answers : AreAnswers machine.to_cpu = answers_below settings first before start machine tt log.leads in
     let is = sees_all settings first begun as_said texts steps lines told (no_lines begun) (nothing_seen begun) machine answers
     (record { right = right; frames = are.frames; words = are.words; senders = are.senders }) written log.missing log.few (at_start begun) in
-    rw is.are (log_judge_accuses_none place starts settings limits first before is.seen machine last none (record {
+    subst (λ (events : List LogEvent). AllByRecursion AccusesNeitherInLog (outcomes_in_log (log_starting limits place starts) events)) (sym is.are)
+    (log_judge_accuses_none place starts settings limits first before is.seen machine last none (record {
       in_range = log.in_range;
       suit = log.suit;
       run = rw is.same log.run;

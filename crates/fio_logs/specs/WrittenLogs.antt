@@ -1,16 +1,18 @@
 -- Logs of a right link as lines: what the judge of a log is given of them accuses neither end.
-use Rattle.std.specs.Prelude.{◌≡◌, ℕ, ◌+◌, ◌&&◌, ◌||◌, not, Bool, true, false, List, [], ◌∷◌, ◌++◌, map, Option, Some, None}
+use Rattle.std.specs.Prelude.{◌≡◌, ℕ, ◌+◌, ◌&&◌, ◌||◌, not, Bool, true, false, List, [], ◌∷◌, ◌++◌, length, map, Option, Some, None}
 use Rattle.std.specs.List.{AllByRecursion, flat_map}
-use Rattle.fio_module.specs.Settings.{Settings, AreInRange}
+use Rattle.fio_module.specs.Settings.{Settings, AreInRange, standard_settings}
 use Rattle.fio_log.specs.Blanks.{Texts}
 use Rattle.fio_log.specs.Heard.{Above}
-use Rattle.fio_log.specs.LineLogs.{Gone, LineIs, Message, Other}
+use Rattle.fio_log.specs.LineLogs.{Gone, LineIs, Message, Other, Spoilt}
 use Rattle.fio_log.specs.Wordings.{speaks_of_loss}
 use Rattle.fio_check.specs.LogJudges.{late_starting, log_starting, outcomes_in_log}
+use Rattle.fio_check.specs.Rules.{standard_rule_limits}
 use Rattle.fio_check.specs.declared.limits.RuleLimits.{RuleLimits}
 use Rattle.fio_check.specs.declared.log_judge.LogStart.{LogStart}
 use Rattle.fio_check.specs.declared.outcome.LogPlace.{LogPlace}
 use Rattle.fio_link.specs.declared.event.Event.{Event}
+use Rattle.fio_link.specs.declared.event.Event.TheVariants.{ToCpu}
 use Rattle.fio_link.specs.Link.{Machine, Leads, after, start}
 use Rattle.fio_ends.specs.ContentPremises.{AreTimesNear}
 use Rattle.fio_ends.specs.ContentRuns.{MayBegin, judged_events, judged_from}
@@ -30,6 +32,8 @@ pub data LineStep : Type 0 where
   Missing : (event : Event) → LineStep
   -- a line that is too long, or of which a part is gone
   GoneLine : LineStep
+  -- one that a form has, and whose octets are damaged
+  SpoiltLine : LineStep
   -- one that no form has, and whether it speaks of loss
   OtherLine : (loss : Bool) → LineStep
 
@@ -39,6 +43,7 @@ events_of_steps [] = []
 events_of_steps (Logged event ∷ steps) = event ∷ events_of_steps steps
 events_of_steps (Missing event ∷ steps) = event ∷ events_of_steps steps
 events_of_steps (GoneLine ∷ steps) = events_of_steps steps
+events_of_steps (SpoiltLine ∷ steps) = events_of_steps steps
 events_of_steps (OtherLine loss ∷ steps) = events_of_steps steps
 
 -- what a line of a log is, and whether it speaks of loss, if no form has it
@@ -57,6 +62,7 @@ lines_from settings first machine (Logged event ∷ steps) =
     map line_of_frame (frames_at first machine event) ++ lines_from settings first (after settings first machine event) steps
 lines_from settings first machine (Missing event ∷ steps) = lines_from settings first (after settings first machine event) steps
 lines_from settings first machine (GoneLine ∷ steps) = record { is = Gone; loss = false } ∷ lines_from settings first machine steps
+lines_from settings first machine (SpoiltLine ∷ steps) = record { is = Spoilt; loss = false } ∷ lines_from settings first machine steps
 lines_from settings first machine (OtherLine loss ∷ steps) = record { is = Other; loss = loss } ∷ lines_from settings first machine steps
 
 -- whether a line that no form has speaks of loss
@@ -74,8 +80,8 @@ written_lines texts told (line ∷ lines) =
 
 -- what the lines of a log say above a line
 pub record LinesAbove : Type 0 where
-  -- a line that is gone is above, with no message between
-  pub gone : Bool
+  -- a line that is gone or damaged is above, with no message between
+  pub lost : Bool
   -- a line that no form has is above, with no command between
   pub other : Bool
   -- a line that no form has, and that speaks of loss, is above
@@ -85,32 +91,33 @@ pub record LinesAbove : Type 0 where
 
 -- above the first line
 abbrev pub no_lines : Bool → LinesAbove
-no_lines begun = record { gone = false; other = false; loss = false; begins = loads_at_start begun }
+no_lines begun = record { lost = false; other = false; loss = false; begins = loads_at_start begun }
 
 -- below the frames of an event, if it has any
 abbrev pub below_logged : Event → LinesAbove → List CpuFrame → LinesAbove
 below_logged event above [] = above
 below_logged event above (frame ∷ frames) =
-    record above { gone = false; other = not (is_command event) && above.other; begins = below_command event above.begins }
+    record above { lost = false; other = not (is_command event) && above.other; begins = below_command event above.begins }
 
--- below a line that is gone
-abbrev pub below_gone : LinesAbove → LinesAbove
-below_gone above = record above { gone = true; begins = Some 1 }
+-- below a line that is gone or damaged
+abbrev pub below_lost : LinesAbove → LinesAbove
+below_lost above = record above { lost = true; begins = Some 1 }
 
 -- below one that no form has
 abbrev pub below_other : Bool → LinesAbove → LinesAbove
 below_other loss above = record above { other = true; loss = loss || above.loss }
 
--- frames are missing only below a line that is gone, with no message between
-abbrev pub AreMissingWhereGone : Settings → ℕ → LinesAbove → Machine → List LineStep → Type 0
-AreMissingWhereGone settings first above machine [] = Unit {0}
-AreMissingWhereGone settings first above machine (Logged event ∷ steps) =
-    AreMissingWhereGone settings first (below_logged event above (frames_at first machine event)) (after settings first machine event) steps
-AreMissingWhereGone settings first above machine (Missing event ∷ steps) =
-    (above.gone ≡ true) × AreMissingWhereGone settings first above (after settings first machine event) steps
-AreMissingWhereGone settings first above machine (GoneLine ∷ steps) = AreMissingWhereGone settings first (below_gone above) machine steps
-AreMissingWhereGone settings first above machine (OtherLine loss ∷ steps) =
-    AreMissingWhereGone settings first (below_other loss above) machine steps
+-- frames are missing only below a line that is gone or damaged, with no message between
+abbrev pub AreMissingBelowLost : Settings → ℕ → LinesAbove → Machine → List LineStep → Type 0
+AreMissingBelowLost settings first above machine [] = Unit {0}
+AreMissingBelowLost settings first above machine (Logged event ∷ steps) =
+    AreMissingBelowLost settings first (below_logged event above (frames_at first machine event)) (after settings first machine event) steps
+AreMissingBelowLost settings first above machine (Missing event ∷ steps) =
+    (above.lost ≡ true) × AreMissingBelowLost settings first above (after settings first machine event) steps
+AreMissingBelowLost settings first above machine (GoneLine ∷ steps) = AreMissingBelowLost settings first (below_lost above) machine steps
+AreMissingBelowLost settings first above machine (SpoiltLine ∷ steps) = AreMissingBelowLost settings first (below_lost above) machine steps
+AreMissingBelowLost settings first above machine (OtherLine loss ∷ steps) =
+    AreMissingBelowLost settings first (below_other loss above) machine steps
 
 -- Few loads of the counter are under way at the first command that is logged: at most this number, if it is given. At most one is
 -- under way at the first command that is logged below a line without a message; and at each below one that speaks of loss.
@@ -122,13 +129,14 @@ FewAreUnderWayInLines settings first above machine (Logged event ∷ steps) =
     × FewAreUnderWayInLines settings first (below_logged event above (frames_at first machine event)) (after settings first machine event) steps
 FewAreUnderWayInLines settings first above machine (Missing event ∷ steps) =
     FewAreUnderWayInLines settings first above (after settings first machine event) steps
-FewAreUnderWayInLines settings first above machine (GoneLine ∷ steps) = FewAreUnderWayInLines settings first (below_gone above) machine steps
+FewAreUnderWayInLines settings first above machine (GoneLine ∷ steps) = FewAreUnderWayInLines settings first (below_lost above) machine steps
+FewAreUnderWayInLines settings first above machine (SpoiltLine ∷ steps) = FewAreUnderWayInLines settings first (below_lost above) machine steps
 FewAreUnderWayInLines settings first above machine (OtherLine loss ∷ steps) =
     FewAreUnderWayInLines settings first (below_other loss above) machine steps
 
 -- What the CPU's end logs of a prompt run, a frame a line, from the start of both ends or from any event on, though any frames may
--- be missing at lines that are gone, and lines that no form has may be anywhere. The judge's limits suit the module; few loads of the
--- counter are under way; and all that is compared is near.
+-- be missing at lines that are gone or damaged, and lines that no form has may be anywhere. The judge's limits suit the module; few
+-- loads of the counter are under way; and all that is compared is near.
 pub record IsLineLog (begun : Bool) (settings : Settings) (limits : RuleLimits) (first : ℕ) (before : List Event)
     (steps : List LineStep) (machine last : Machine) : Type 0 where
   pub in_range : AreInRange settings
@@ -136,7 +144,7 @@ pub record IsLineLog (begun : Bool) (settings : Settings) (limits : RuleLimits) 
   pub run : IsPromptRun settings first (before ++ events_of_steps steps) last
   pub leads : Leads settings first start before machine
   pub begins : MayBegin begun before
-  pub missing : AreMissingWhereGone settings first (no_lines begun) machine steps
+  pub missing : AreMissingBelowLost settings first (no_lines begun) machine steps
   pub few : FewAreUnderWayInLines settings first (no_lines begun) machine steps
   pub near : AreTimesNear begun settings first (judged_from begun settings first machine (events_of_steps steps))
       (judged_events begun (events_of_steps steps)) last
@@ -150,3 +158,15 @@ LinesAccuseNone =
     late_starting starts ≡ None → IsLineLog (starts_begun starts) settings limits first before steps machine last →
     AreReported as_said texts told above lines → written_lines texts told lines ≡ lines_from settings first machine steps →
     AllByRecursion AccusesNeitherInLog (outcomes_in_log (log_starting limits place starts) (flat_map (events_of_reported as_said) lines))
+
+-- the lines of what the CPU's end sends and hears of a module with the limits of TEES 2009, from the start of both ends on
+abbrev pub lines_begun : List LineStep → List WrittenLine
+lines_begun steps = lines_from (standard_settings 2) 0 start steps
+
+-- There is such a log of four lines, in which an answer is missing at a damaged line below one frame and above two.
+unfoldable pub LinesMayBeLost : Type 0
+LinesMayBeLost =
+    (above below : List LineStep) × (index : ℕ) × (last : Machine)
+    × IsLineLog true (standard_settings 2) standard_rule_limits 0 [] (above ++ SpoiltLine ∷ Missing (ToCpu index) ∷ below) start last
+    × (length (lines_begun above) ≡ 1)
+    × (length (lines_begun (above ++ SpoiltLine ∷ Missing (ToCpu index) ∷ below)) ≡ 4)
