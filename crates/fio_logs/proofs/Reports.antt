@@ -1,7 +1,8 @@
 -- What the judge of a log is given of a line, by what the line is.
-use Rattle.std.proofs.Common.{◌≡◌, ◌∙◌, ◌⊎◌, inl, inr, ℕ, Bool, true, false, List, [], ◌∷◌, ◌++◌, length, Option, Some, None, refl, sym, ap, ap₂, subst}
-use Rattle.std.specs.Prelude.{IfSome}
+use Rattle.std.proofs.Common.{◌≡◌, ◌∙◌, ◌⊎◌, inl, inr, ℕ, Bool, true, false, List, [], ◌∷◌, ◌++◌, length, Option, Some, None, refl, sym, ap, ap₂, subst, arith}
+use Rattle.std.specs.Prelude.{◌==◌, IfSome}
 use Rattle.std.specs.List.{AllByRecursion, flat_map}
+use Rattle.std.proofs.lemmas.Bool.Decides.{nat_tests}
 use Rattle.fio_log.specs.Heard.{is_of_others}
 use Rattle.fio_log.specs.LineLogs.{IsToldAs, Message}
 use Rattle.fio_log.specs.Verdicts.{has_frames}
@@ -26,15 +27,16 @@ use Rattle.fio_logs.proofs.Senders.{IsOfSender}
 abbrev pub Remarks : Bool → List LogEvent → Type 0
 Remarks loss events = (events ≡ []) ⊎ ((remark : Remark) × (events ≡ event_of_remark remark ∷ []) × (remark ≡ SpeaksOfLoss → loss ≡ true))
 
+none_if : (frames : List (List ℕ)) → (length frames == 0) ≡ true → frames ≡ []
+none_if [] none = refl
+none_if (frame ∷ frames) none =
+    let empty : length (frame ∷ frames) ≡ 0 = grind (arith, nat_tests, none) in absurd (omega (arith, empty))
+
 without_frames : (kind : Kind) (frames : List (List ℕ)) → is_of_others kind ≡ true → has_frames kind (length frames) ≡ true → frames ≡ []
-without_frames kinds.Blank [] other has = refl
-without_frames kinds.Possible [] other has = refl
-without_frames kinds.Damaged [] other has = refl
-without_frames kinds.PassedOver [] other has = refl
-without_frames kinds.Blank (frame ∷ frames) other has = absurd (cc)
-without_frames kinds.Possible (frame ∷ frames) other has = absurd (cc)
-without_frames kinds.Damaged (frame ∷ frames) other has = absurd (cc)
-without_frames kinds.PassedOver (frame ∷ frames) other has = absurd (cc)
+without_frames kinds.Blank frames other has = none_if frames has
+without_frames kinds.Possible frames other has = none_if frames has
+without_frames kinds.Damaged frames other has = none_if frames has
+without_frames kinds.PassedOver frames other has = none_if frames has
 without_frames kinds.Frames frames other has = absurd (cc)
 without_frames kinds.Part frames other has = absurd (cc)
 
@@ -89,7 +91,7 @@ pub damaged_events : (as_said : Bool) (line : ReportedLine) → line.told.kind �
 damaged_events as_said line damaged has =
     let none : line.told.frames ≡ [] = without_frames line.told.kind line.told.frames (ap is_of_others damaged) has in
     ap₂ (λ (kind : Kind) (frames : List (List ℕ)). events_of_line (line_kind kind line.told.reason)
-        ++ flat_map (events_of_reported_frame as_said (line_kind kind line.told.reason) line.named) frames) damaged none
+    ++ flat_map (events_of_reported_frame as_said (line_kind kind line.told.reason) line.named) frames) damaged none
     ∙ ap (λ (events : List LogEvent). events ++ []) (damaged_lost line.told.reason)
 
 -- ---- a message by itself
@@ -106,7 +108,7 @@ pub message_events : (as_said : Bool) (line : ReportedLine) (frame : CpuFrame)
 message_events as_said line frame told names sent =
     let named : as_said ≡ true → IfSome line.named (λ by_cpu. by_cpu ≡ is_from_cpu frame.octets) =
     λ is. (subst (λ (frames : List (List ℕ)). AllByRecursion (λ octets. IfSome line.named (λ by_cpu. by_cpu ≡ is_from_cpu octets)) frames)
-        told.2 (names is)).0 in
+    told.2 (names is)).0 in
     ap₂ (λ (kind : LogLineKind) (frames : List (List ℕ)). events_of_line kind ++ flat_map (events_of_reported_frame as_said kind line.named) frames)
     (ap₂ line_kind told.0 told.1) told.2
     ∙ ap (λ (from_cpu : Bool). Found from_cpu line.named frame.octets ∷ []) (sent_same as_said line.named frame.octets named ∙ sent)

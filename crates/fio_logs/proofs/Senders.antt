@@ -1,5 +1,5 @@
 -- Each frame of a run has a type of its sender.
-use Rattle.std.proofs.Common.{◌≡◌, ℕ, zero, suc, Bool, true, false, List, [], ◌∷◌, ◌++◌, Option, Some, None, slice_get, if◌then◌else◌, refl, sym, subst}
+use Rattle.std.proofs.Common.{◌≡◌, ℕ, zero, suc, true, false, List, [], ◌∷◌, ◌++◌, Option, Some, None, slice_get, if◌then◌else◌, refl, sym, subst}
 use Rattle.std.specs.Prelude.{◌==◌, ◌+◌}
 use Rattle.std.specs.List.{AllByRecursion}
 use Rattle.fio_message.specs.Answers.{answer_octets}

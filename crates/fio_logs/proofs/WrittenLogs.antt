@@ -3,7 +3,6 @@ use Rattle.std.proofs.Common.{◌≡◌, ◌∙◌, ◌⊎◌, ◌+◌, ◌||◌
 use Rattle.std.specs.List.{AllByRecursion, flat_map}
 use Rattle.fio_module.specs.Settings.{Settings}
 use Rattle.fio_log.specs.Blanks.{Texts}
-use Rattle.fio_log.specs.Heard.{is_of_others}
 use Rattle.fio_log.specs.LineLogs.{AreToldRight, Gone, IsToldAs, LineIs, Message, Other, Spoilt}
 use Rattle.fio_log.specs.Wordings.{speaks_of_loss}
 use Rattle.fio_log.specs.declared.verdict.Kind.{Kind}
@@ -121,7 +120,7 @@ module _ (settings : Settings) (first : ℕ) where
       lost = is.lost;
       few = (
         λ command. subst (λ (rest : List Event). AreUnderWayAt above.begins settings first machine (event ∷ rest)
-        × (above.warned ≡ true → AreUnderWay 1 settings first machine (event ∷ rest))) (sym is.same) (few command),
+            × (above.warned ≡ true → AreUnderWay 1 settings first machine (event ∷ rest))) (sym is.same) (few command),
         is.few,
       );
     }

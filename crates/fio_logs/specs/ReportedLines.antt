@@ -1,5 +1,5 @@
 -- What the judge of a log is given of the lines that a reader of logs reports.
-use Rattle.std.specs.Prelude.{◌≡◌, ℕ, nat_lt, Bool, true, false, List, [], ◌∷◌, ◌++◌, ◌+◌, length, map, Option, Some, None, IfSome, slice_get, unwrap_or}
+use Rattle.std.specs.Prelude.{◌≡◌, ℕ, nat_lt, Bool, true, false, List, [], ◌∷◌, ◌++◌, ◌+◌, length, map, Option, Some, IfSome, slice_get, unwrap_or}
 use Rattle.std.specs.List.{AllByRecursion, flat_map}
 use Rattle.fio_message.specs.declared.types.TheConstants.{ANSWER}
 use Rattle.fio_rows.specs.Lines.{is_message_open}
