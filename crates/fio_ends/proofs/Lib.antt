@@ -121,8 +121,8 @@ pub mod RestartedLife
 pub mod Restarted
 pub mod JudgeExamples
 mod MakersAnswers
-mod SeenAbove
-mod EventLogs
+pub mod SeenAbove
+pub mod EventLogs
 pub mod LateRules
 pub mod LateJudges
 pub mod LateKnown

@@ -8,5 +8,6 @@ pub mod FollowingLemmas
 pub mod LineVerdictLemmas
 pub mod KnowingLemmas
 pub mod HeardLemmas
+mod LostLineLemmas
 pub mod LineLogLemmas
 pub mod SecondLemmas

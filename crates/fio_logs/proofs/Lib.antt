@@ -1,0 +1,4 @@
+mod Senders
+mod Reports
+mod WrittenLogs
+mod Examples
