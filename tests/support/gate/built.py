@@ -56,7 +56,7 @@ class Built:
         """Makes the archives, for which the other checks wait, and runs what needs only them. Meanwhile the copy takes the libraries for
         wrong bodies."""
         self.take('fio_c')
-        taking = threading.Thread(target=lambda: (self.take('fio_ends', 'fio_tool'), write(self.taken)), daemon=True)
+        taking = threading.Thread(target=lambda: (self.take('fio_logs', 'fio_tool'), write(self.taken)), daemon=True)
         taking.start()
         # If that fails beside the proofs, as for want of memory, it is tried again after them.
         fault = self.make()
