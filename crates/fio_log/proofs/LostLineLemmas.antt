@@ -1,4 +1,4 @@
--- What is told of lines that are lost: those that are too long or lack a part, and those whose octets are damaged.
+-- What is reported of lost lines: those that are too long or lack a part, and those whose octets are damaged.
 use Rattle.std.proofs.Common.{◌≡◌, ◌∙◌, ◌≤◌, ℕ, Bool, true, false, not, ◌&&◌, ◌||◌, List, length, drop, MatchBool, slice_get, refl, sym, ap, ap₂, arith, inl, inr}
 use Rattle.std.specs.Prelude.{nat_le}
 use Rattle.std.proofs.lemmas.Bool.{cases_Bool}

@@ -39,8 +39,8 @@ pub record IsMessageLine (forms : List LineForm) (text : Text) (message : List �
 abbrev pub read_alone : List LineForm → Text → Rows → Rows
 read_alone forms text above = first forms text.octets (first_places forms text.octets).end above
 
--- A line is spoilt, whatever was read above it: its octets are not what the first form that has it says; or digits go on after them,
--- of which it is not known whether they are octets.
+-- A line is spoilt, whatever was read above it: by the first form that has it, its octets are damaged, as if some are missing; or
+-- digits follow its octets that may be one more.
 abbrev pub IsSpoiltLine : List LineForm → Text → Type 0
 IsSpoiltLine forms text = (above : Rows)
     → ((read_alone forms text above).said ≡ said.Damaged)

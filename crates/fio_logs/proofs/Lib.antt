@@ -2,3 +2,4 @@ mod Senders
 mod Reports
 mod WrittenLogs
 mod Examples
+mod ReturnedVerdicts

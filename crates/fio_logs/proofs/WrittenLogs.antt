@@ -18,7 +18,7 @@ use Rattle.fio_ends.specs.PromptRuns.{is_command}
 use Rattle.fio_ends.specs.Transcripts.{CpuFrame, frames_at}
 use Rattle.fio_ends.proofs.EventLogs.{log_judge_accuses_none}
 use Rattle.fio_ends.proofs.SeenAbove.{one_frame}
-use Rattle.fio_logs.specs.ReportedLines.{HasItsFrames, NamesSender, ReportedLine, SayTheirWords, events_of_reported, lines_told}
+use Rattle.fio_logs.specs.ReportedLines.{HasItsFrames, NamesSender, ReportedLine, HaveTrueReasons, events_of_reported, lines_told}
 use Rattle.fio_logs.specs.WrittenLogs.{AreMissingBelowLost, FewAreUnderWayInLines, GoneLine, LineStep, LinesAbove, LinesAccuseNone, Logged, Missing, OtherLine, SpoiltLine, WrittenLine, below_lost, below_logged, below_other, events_of_steps, line_of_frame, lines_from, no_lines, other_of_loss, written_lines}
 use Rattle.fio_logs.proofs.Reports.{Remarks, damaged_events, message_events, other_remarks}
 use Rattle.fio_logs.proofs.Senders.{AreAnswers, IsOfSender, answers_after, answers_below, of_senders}
@@ -126,18 +126,18 @@ module _ (settings : Settings) (first : ℕ) where
     }
 
     module _ (as_said : Bool) (texts : Texts) where
-      -- lines that are told right
+      -- lines that are reported right
       record AreRight (told : ℕ) (lines : List ReportedLine) : Type 0 where
         pub right : AreToldRight (lines_told lines)
         pub frames : AllByRecursion HasItsFrames lines
-        pub words : SayTheirWords texts told lines
+        pub words : HaveTrueReasons texts told lines
         pub senders : as_said ≡ true → AllByRecursion NamesSender lines
 
       below_first : (told : ℕ) (line : ReportedLine) (lines : List ReportedLine) → AreRight told (line ∷ lines) → AreRight (told + 1) lines
       below_first told line lines are =
           record { right = are.right.1; frames = are.frames.1; words = are.words.1; senders = λ is. (are.senders is).1 }
 
-      -- what is told of the lines of a right link is such a log
+      -- what is reported of the lines of a right link is such a log
       abbrev SeesAll : List LineStep → Type 0
       SeesAll steps = (lines : List ReportedLine) (told : ℕ) (above : LinesAbove) (seen : SeenAbove) (machine : Machine) → AreAnswers machine.to_cpu
           → AreRight told lines → written_lines texts told lines ≡ lines_from settings first machine steps

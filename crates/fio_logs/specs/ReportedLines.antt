@@ -51,7 +51,7 @@ line_kind kinds.PassedOver reason = unless_broken reason (passed_kind reason)
 
 -- ---- what a line is to it
 
--- a line that a reader tells, and whom it names as the sender, if it names one: the CPU's end, or not
+-- a line that a reader reports, and whether it names the CPU's end as the sender, if it names one
 pub record ReportedLine : Type 0 where
   pub told : ToldLine
   pub named : Option Bool
@@ -60,7 +60,7 @@ pub record ReportedLine : Type 0 where
 abbrev pub is_from_cpu : List ℕ → Bool
 is_from_cpu octets = nat_lt (unwrap_or (slice_get octets 0) 0) ANSWER
 
--- whether it sent a frame: by its line, if lines count and this one names the sender, else by its type
+-- whether it sent a frame: by its line, if it counts whom lines name and this one names an end; else by its type
 abbrev pub is_sent_by : Bool → Option Bool → List ℕ → Bool
 is_sent_by true (Some by_cpu) octets = by_cpu
 is_sent_by as_said named octets = is_from_cpu octets
@@ -89,17 +89,18 @@ HasItsFrames line = has_frames line.told.kind (length line.told.frames) ≡ true
 abbrev pub NamesSender : ReportedLine → Type 0
 NamesSender line = AllByRecursion (λ octets. IfSome line.named (λ by_cpu. by_cpu ≡ is_from_cpu octets)) line.told.frames
 
--- what the reasons of the next lines say of their words is true
-abbrev pub SayTheirWords : Texts → ℕ → List ReportedLine → Type 0
-SayTheirWords texts told [] = Unit {0}
-SayTheirWords texts told (line ∷ lines) = SaysWords (texts (told + 1)).octets line.told.reason × SayTheirWords texts (told + 1) lines
+-- the reasons of the next lines are true of their texts
+abbrev pub HaveTrueReasons : Texts → ℕ → List ReportedLine → Type 0
+HaveTrueReasons texts told [] = Unit {0}
+HaveTrueReasons texts told (line ∷ lines) = SaysWords (texts (told + 1)).octets line.told.reason × HaveTrueReasons texts (told + 1) lines
 
--- The next lines of a log are what they are, by forms of one line; and a reader that knows the forms reports them, with no message
--- open above them. If lines count, none names another sender.
+-- Lines of a log, the next ones after a number of lines, are written in forms of one line, and a reader that knows these forms reports
+-- them: `line`, `agreed` of `told`, and `words` of `Reader::verdict` ensure it of each verdict. No message is open above them. If it
+-- counts whom lines name, none names another sender.
 pub record AreReported (as_said : Bool) (texts : Texts) (told : ℕ) (above : Above) (lines : List ReportedLine) : Type 0 where
   pub closed : is_message_open above.state.pending ≡ false
   pub such : AreSuchLines texts told (lines_told lines)
   pub in_turn : AreToldInTurn texts told above (lines_told lines)
   pub frames : AllByRecursion HasItsFrames lines
-  pub words : SayTheirWords texts told lines
+  pub words : HaveTrueReasons texts told lines
   pub senders : as_said ≡ true → AllByRecursion NamesSender lines

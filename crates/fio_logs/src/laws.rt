@@ -1,4 +1,5 @@
 //! Laws of the definitions. Each function states one in its contract, and does nothing.
+ghost use Rattle.fio_logs.specs.ReturnedVerdicts.{VerdictsAccuseNone};
 ghost use Rattle.fio_logs.specs.WrittenLogs.{LinesAccuseNone, LinesMayBeLost};
 
 /// No false accusation, from the lines of a log on: of the lines of a right link, each written in a form of one line that the reader
@@ -7,6 +8,12 @@ ghost use Rattle.fio_logs.specs.WrittenLogs.{LinesAccuseNone, LinesMayBeLost};
 #[tactic(auto, using(crate::proofs::WrittenLogs::lines_accuse_none))]
 pub fn lines_of_a_right_link_accuse_none()
     ensures { LinesAccuseNone }
+{}
+
+/// So the verdicts that a reader returns of such lines accuse neither end, by what `Reader::verdict` ensures of each.
+#[tactic(auto, using(crate::proofs::ReturnedVerdicts::verdicts_accuse_none))]
+pub fn verdicts_of_a_right_link_accuse_none()
+    ensures { VerdictsAccuseNone }
 {}
 
 /// Such a log exists: one of four lines, in which an answer is missing at a damaged line below one frame and above two.
