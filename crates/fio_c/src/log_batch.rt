@@ -43,7 +43,7 @@ pub struct LogVerdict {
     pub said: u8,
     /// The address of its frames, which stands before their messages, if all have one and the same; else 0.
     pub address: u8,
-    /// The control octet, which stands behind the address; of a line with `foreign` 55, 180 or 181 how many octets of inputs or of outputs
+    /// The control octet, which follows the address; of a line with `foreign` 55, 180 or 181 how many octets of inputs or of outputs
     /// it has; else 0.
     pub control: u8,
     /// How many of these there are: 0, 1 for the address alone, or 2.
