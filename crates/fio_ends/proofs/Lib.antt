@@ -139,3 +139,4 @@ pub mod TapCommands
 pub mod TapBlocks
 pub mod TapAnswers
 pub mod TapRuns
+pub mod TapExamples

@@ -1,12 +1,17 @@
 -- Logs of a right link that were taken at a tap on the line: frames may be lost, repeated at once and delayed on both sides of it.
 use Rattle.std.specs.Prelude.{◌≡◌, ◌⊎◌, ℕ, Bool, true, false, List, [], ◌∷◌, ◌++◌, length, map, Option, Some, None}
 use Rattle.std.specs.List.{AllByRecursion}
-use Rattle.fio_module.specs.Settings.{Settings, AreInRange}
+use Rattle.fio_module.specs.Settings.{Settings, AreInRange, standard_settings}
 use Rattle.fio_check.specs.LinkJudges.{is_at_cpu}
 use Rattle.fio_check.specs.LogJudges.{LogEvent, log_starting, outcomes_in_log}
+use Rattle.fio_check.specs.Rules.{standard_rule_limits}
 use Rattle.fio_check.specs.declared.limits.RuleLimits.{RuleLimits}
+use Rattle.fio_check.specs.declared.log_judge.LogOutcome.TheVariants.{LateAbove, Link}
 use Rattle.fio_check.specs.declared.log_judge.LogStart.TheVariants.{LateAnswers as StartLate}
+use Rattle.fio_check.specs.declared.outcome.Excuse.TheVariants.{Unheard}
+use Rattle.fio_check.specs.declared.outcome.FrameOutcome.TheVariants.{Excused, Kept}
 use Rattle.fio_check.specs.declared.outcome.LogPlace.{LogPlace}
+use Rattle.fio_check.specs.declared.outcome.LogPlace.TheVariants.{Bus}
 use Rattle.fio_link.specs.declared.event.Event.{Event}
 use Rattle.fio_link.specs.declared.event.Event.TheVariants.{ToCpu, ToModule}
 use Rattle.fio_link.specs.Headline.{IsNotRestart}
@@ -109,3 +114,10 @@ TapsBreakNoRule =
     AreTapped settings first start untapped (before ++ later) →
     AllByRecursion IsNoBreach
     (outcomes_in_log (log_starting limits (Some place) StartLate) (log_tapped settings first (machine_below settings first start before) later))
+
+-- There is such a log with a poll that its CPU's end sends since it heard an answer later than the tap: it is excused.
+unfoldable pub TapsExcusePolls : Type 0
+TapsExcusePolls =
+    (steps : List TapStep) × AreTapped (standard_settings 2) 0 start untapped steps
+    × (outcomes_in_log (log_starting standard_rule_limits (Some Bus) StartLate) (log_tapped (standard_settings 2) 0 start steps)
+    ≡ Link Kept ∷ Link Kept ∷ Link (Excused Unheard) ∷ LateAbove ∷ [])

@@ -16,7 +16,7 @@ ghost use Rattle.fio_ends.specs.Pollers.{GoodIsOfPoller};
 ghost use Rattle.fio_ends.specs.PromptRuns.{FromCommand, HasNoBreach, HasNoBreachAnywhere, IsGood, NeverAccuses, NeverAccusesLater};
 ghost use Rattle.fio_ends.specs.RestartedLogs.{JudgeFindsRestarts, JudgeFindsRestartsAnywhere, RestartsAreFound};
 ghost use Rattle.fio_ends.specs.RunRecords.{KeepsRecord};
-ghost use Rattle.fio_ends.specs.TapLogs.{TapsBreakNoRule};
+ghost use Rattle.fio_ends.specs.TapLogs.{TapsBreakNoRule, TapsExcusePolls};
 ghost use Rattle.fio_ends.specs.SharedLines.{AtDecoders, AtModules, EachFrameMayComeToAll, HeadlineOverSharedLines, SharedLinesAreABus, SharedLinesBringRecords};
 
 /// A good transcript comes from a right CPU's end: a poller that starts with the first poll's number has at each poll that
@@ -340,4 +340,10 @@ pub fn answers_may_be_late()
 #[tactic(auto, using(crate::proofs::TapRuns::taps_break_no_rule))]
 pub fn taps_break_no_rule()
     ensures { TapsBreakNoRule }
+{}
+
+/// There is a log of a tap in which a right CPU's end sends a poll that is excused there, since it heard an answer later than the tap.
+#[tactic(auto, using(crate::proofs::TapExamples::taps_excuse_polls))]
+pub fn taps_excuse_polls()
+    ensures { TapsExcusePolls }
 {}
