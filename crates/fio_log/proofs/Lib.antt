@@ -7,5 +7,6 @@ pub mod WaitingLemmas
 pub mod FollowingLemmas
 pub mod KnowingLemmas
 pub mod HeardLemmas
+mod LostLineLemmas
 pub mod LineLogLemmas
 pub mod SecondLemmas

@@ -16,7 +16,7 @@ use Rattle.fio_form.specs.Messages.{is_message}
 use Rattle.fio_rows.proofs.OtherLines.{none_other}
 use Rattle.fio_rows.specs.GoingOn.{is_full, may_go_on}
 use Rattle.fio_rows.specs.Laws.{is_other}
-use Rattle.fio_rows.specs.Lines.{begun_line, first_line_in, has, is_message_broken, is_message_open, is_message_whole, is_stray, is_stream, line_goes_on, offset_after, offset_of, read_in, row_of, says_message}
+use Rattle.fio_rows.specs.Lines.{begun_line, first_line_in, has, is_message_broken, is_message_open, is_message_whole, is_stray, is_stream, offset_after, offset_of, read_in, row_of, says_message}
 use Rattle.fio_rows.specs.Places.{Places, first_places, places_in}
 use Rattle.fio_rows.specs.RowLaws.{IsReadInRows}
 use Rattle.fio_rows.specs.Rows.{Rows, open_after, say, say_whole, whole_before}
@@ -27,8 +27,8 @@ use Rattle.fio_rows.specs.declared.saying.Open.{Open}
 use Rattle.fio_rows.specs.declared.saying.Open.TheVariants as opens
 use Rattle.fio_log.specs.Blanks.{Texts}
 use Rattle.fio_log.specs.Following.{TellsLine}
-use Rattle.fio_log.specs.Heard.{Above, HasNoOther, HasRowRoom, IsHeardOf, Known, Tells, TellsEcho, TellsMessage, TellsSaid, is_lost, is_odd_by, is_of_echoes, is_of_message, is_of_others, has_nul, is_spoilt, is_whole_text, says_octets}
-use Rattle.fio_log.specs.LineLogs.{AreSuchLines, AreOfOneLine, AreToldInTurn, AreToldRight, Gone, IsSuchLine, IsMessageLine, IsToldAs, LineIs, Message, Other, ToldLine}
+use Rattle.fio_log.specs.Heard.{Above, HasNoOther, HasRowRoom, IsHeardOf, Known, Tells, TellsEcho, TellsMessage, TellsSaid, is_lost, is_odd_by, is_of_echoes, is_of_message, is_of_others, is_spoilt, is_whole_text, says_octets}
+use Rattle.fio_log.specs.LineLogs.{AreSuchLines, AreOfOneLine, AreToldInTurn, AreToldRight, Gone, IsSuchLine, IsMessageLine, IsToldAs, LineIs, Message, Other, Spoilt, ToldLine}
 use Rattle.fio_log.specs.Lines.{Text}
 use Rattle.fio_log.specs.Spoilt.{are_odd_by, width_of}
 use Rattle.fio_log.specs.declared.by_forms.LineHeard.{LineHeard}
@@ -36,6 +36,7 @@ use Rattle.fio_log.specs.declared.verdict.Kind.{Kind}
 use Rattle.fio_log.specs.declared.verdict.Kind.TheVariants as kinds
 use Rattle.fio_log.specs.declared.verdict.Reason.{Reason}
 use Rattle.fio_log.proofs.FollowingLemmas.{false_unless, none_ends}
+use Rattle.fio_log.proofs.LostLineLemmas.{by_false, gone_told, goes_on_never, places_first, spoilt_told}
 
 -- ---- No message is open below a line of such forms
 
@@ -114,26 +115,6 @@ told_here : (ends : Bool) (forms : List LineForm) (text : Text) (above : Above) 
 told_here true forms text above kind reason frames below never tells = absurd (cc)
 told_here false forms text above kind reason frames below never tells = tells.tells
 
--- ---- A line that is too long, or of which a part is gone
-
-lost_if_gone : (long nul odd : Bool) → (not long && not nul) ≡ false → (long || (nul || odd)) ≡ true
-lost_if_gone true nul odd gone = refl
-lost_if_gone false true odd gone = refl
-lost_if_gone false false odd gone = absurd (cc)
-
-by_true : (P Q : Type 0) (b : Bool) → b ≡ true → MatchBool b P Q → P
-by_true P Q true is p = p
-by_true P Q false is p = absurd (cc)
-
-by_false : (P Q : Type 0) (b : Bool) → b ≡ false → MatchBool b P Q → Q
-by_false P Q true is q = absurd (cc)
-by_false P Q false is q = q
-
-gone_told : (known : Known) (text : Text) (above : Rows) (heard : LineHeard) (after : Reading) (kind : Kind) (reason : Reason) (frames : List (List ℕ))
-    → is_whole_text text ≡ false → IsHeardOf known.forms text above heard after → Tells known text.octets heard kind reason frames → kind ≡ kinds.Damaged
-gone_told known text above heard after kind reason frames gone is tells =
-    by_true (kind ≡ kinds.Damaged) (TellsSaid heard.said.said known text.octets heard kind reason frames) (is_lost known.forms text.octets heard) (rw (is.long, is.gap) (lost_if_gone text.is_long (has_nul text.octets) (is_spoilt known.forms text.octets heard.said) gone)) tells
-
 -- ---- A line that no form has
 
 said_other : (says : Said) → is_other says ≡ true → says ≡ said.Other
@@ -192,18 +173,9 @@ not_cut : (tail : List ℕ) → tail ≡ [] → is_cut_short tail ≡ false
 unfolding is_cut_short
 not_cut tail none = rw none refl
 
-goes_on_never : (forms : List LineForm) (line : List ℕ) (state : Rows) → is_message_open state.pending ≡ false → line_goes_on forms line state ≡ false
-unfolding line_goes_on
-goes_on_never forms line state none = rw none refl
-
 broken_never : (forms : List LineForm) (line : List ℕ) (state : Rows) → is_message_open state.pending ≡ false → is_message_broken forms line state ≡ false
 unfolding is_message_broken
 broken_never forms line state none = rw none refl
-
-places_first : (forms : List LineForm) (line : List ℕ) (state : Rows) → is_message_open state.pending ≡ false
-    → places_in forms line state ≡ first_places forms line
-unfolding places_in
-places_first forms line state none = rw (goes_on_never forms line state none) refl
 
 front_place : (at : ℕ) (line front : List ℕ) → at ≤ length line → drop at line ≡ front → at ≡ length line - length front
 front_place at line front within same =
@@ -296,6 +268,8 @@ line_told (Message message) forms text above kind reason frames below ends are c
     message_told _ text above.state tells.heard tells.after kind reason frames message are line closed refl tells.is (told_here ends forms text above kind reason frames below never tells)
 line_told Gone forms text above kind reason frames below ends are closed line never tells =
     gone_told _ text above.state tells.heard tells.after kind reason frames line tells.is (told_here ends forms text above kind reason frames below never tells)
+line_told Spoilt forms text above kind reason frames below ends are closed line never tells =
+    spoilt_told _ text above.state tells.heard tells.after kind reason frames line closed tells.is (told_here ends forms text above kind reason frames below never tells)
 line_told Other forms text above kind reason frames below ends are closed line never tells =
     other_told _ text above.state tells.heard tells.after kind reason frames line closed tells.is (told_here ends forms text above kind reason frames below never tells)
 

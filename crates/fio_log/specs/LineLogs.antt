@@ -1,15 +1,17 @@
 -- Logs of lines by themselves, and what a reader tells of them.
-use Rattle.std.specs.Prelude.{◌≡◌, ℕ, ◌+◌, ◌-◌, ◌<◌, true, false, List, [], ◌∷◌, length, take}
+use Rattle.std.specs.Prelude.{◌≡◌, ℕ, ◌+◌, ◌-◌, ◌<◌, ◌⊎◌, true, false, List, [], ◌∷◌, length, slice_get, take}
 use Rattle.std.specs.List.{AllByRecursion}
 use Rattle.fio_form.specs.Reading.{Frame, octets_by, read_line}
 use Rattle.fio_form.specs.declared.form.LineForm.{LineForm}
 use Rattle.fio_form.specs.declared.form.LineRows.TheVariants.{One}
 use Rattle.fio_form.specs.declared.octets.TheConstants.{OCTETS}
-use Rattle.fio_rows.specs.Lines.{has}
+use Rattle.fio_rows.specs.Lines.{first, has}
 use Rattle.fio_rows.specs.Places.{first_places}
+use Rattle.fio_rows.specs.Rows.{Rows}
+use Rattle.fio_rows.specs.declared.said.Said.TheVariants as said
 use Rattle.fio_log.specs.Blanks.{Texts}
 use Rattle.fio_log.specs.Following.{TellsOf}
-use Rattle.fio_log.specs.Heard.{Above, HasNoLine, is_of_others, is_whole_text}
+use Rattle.fio_log.specs.Heard.{Above, HasNoLine, is_odd_by, is_of_others, is_whole_text, says_octets}
 use Rattle.fio_log.specs.Lines.{Text}
 use Rattle.fio_log.specs.declared.verdict.Kind.{Kind}
 use Rattle.fio_log.specs.declared.verdict.Kind.TheVariants.{Damaged, Frames}
@@ -33,12 +35,26 @@ pub record IsMessageLine (forms : List LineForm) (text : Text) (message : List �
   pub end : (first_places forms text.octets).end ≡ []
   pub room : AllByRecursion (λ form. length (octets_by form text.octets) < OCTETS) forms
 
+-- what the forms say of a line, read as if the log began there
+abbrev pub read_alone : List LineForm → Text → Rows → Rows
+read_alone forms text above = first forms text.octets (first_places forms text.octets).end above
+
+-- A line is spoilt, whatever was read above it: by the first form that has it, its octets are damaged, as if some are missing; or
+-- digits follow its octets that may be one more.
+abbrev pub IsSpoiltLine : List LineForm → Text → Type 0
+IsSpoiltLine forms text = (above : Rows)
+    → ((read_alone forms text above).said ≡ said.Damaged)
+    ⊎ ((says_octets (read_alone forms text above).said ≡ true)
+    × (is_odd_by (slice_get forms (read_alone forms text above).form) (first_places forms text.octets).end ≡ true))
+
 -- what a line is
 pub data LineIs : Type 0 where
   -- a message by itself
   Message : (message : List ℕ) → LineIs
   -- too long, or a part of it is gone
   Gone : LineIs
+  -- one that a form has, and whose octets are damaged
+  Spoilt : LineIs
   -- one that no form has
   Other : LineIs
 
@@ -46,12 +62,14 @@ pub data LineIs : Type 0 where
 abbrev pub IsSuchLine : List LineForm → Text → LineIs → Type 0
 IsSuchLine forms text (Message message) = IsMessageLine forms text message
 IsSuchLine forms text Gone = is_whole_text text ≡ false
+IsSuchLine forms text Spoilt = IsSpoiltLine forms text
 IsSuchLine forms text Other = AllByRecursion (λ form. has form text.octets ≡ false) forms
 
 -- what is told of such a line: of a message that message alone, and nothing beside it
 abbrev pub IsToldAs : LineIs → Kind → Reason → List (List ℕ) → Type 0
 IsToldAs (Message message) kind reason frames = (kind ≡ Frames) × (reason ≡ None) × (frames ≡ message ∷ [])
 IsToldAs Gone kind reason frames = kind ≡ Damaged
+IsToldAs Spoilt kind reason frames = kind ≡ Damaged
 IsToldAs Other kind reason frames = is_of_others kind ≡ true
 
 -- a line, the forms that a reader knows when it tells the line, and what it tells

@@ -12,8 +12,8 @@ pub fn lines_are_cut_anywhere()
 {}
 
 /// Lines by themselves are told as what they are, below no open message, if each form that the reader knows when it tells them writes
-/// a message in one line: of a message by itself that message alone, and nothing beside it; a line that is too long, or of which a part
-/// is gone, is damaged; and one that no form has gives no frames.
+/// a message in one line: of a message by itself that message alone, and nothing beside it; a line that is too long, of which a part
+/// is gone, or whose octets are damaged, is damaged; and one that no form has gives no frames.
 #[tactic(auto, using(crate::proofs::LineLogLemmas::told_right))]
 pub fn lines_by_themselves_are_told()
     ensures { (texts : Texts) (told : ℕ) (above : Above) (lines : List ToldLine) → is_message_open above.state.pending ≡ false

@@ -50,7 +50,8 @@
 //! `Reading::read` of `fio_rows` reads of it below what is open above it, and this is what was read of the lines above, from the
 //! beginning of the log on, where nothing is open (`begins`, `stands`). If the line says a message, that is its first frame, and its
 //! only one if the line ends with its octets and no form has a line in what is before them; so messages by themselves are told, and
-//! nothing beside them (`lines_by_themselves_are_told`). Octets that may go on are a part, and octets without a message are passed over. Such a line is damaged only if it is too long, has NULs, or
+//! nothing beside them, and lines whose octets are damaged are damaged (`lines_by_themselves_are_told`). Octets that may go on are a
+//! part, and octets without a message are passed over. Such a line is damaged only if it is too long, has NULs, or
 //! digits that go on behind its octets, or would be the 513th row of a message. A message of any length that ends with a line, since the
 //! next one does not go on with it or the log ends, is its only frame.
 //!
