@@ -119,5 +119,5 @@ pub mod AnewFrames
 pub mod Restarted
 pub mod JudgeExamples
 mod MakersAnswers
-mod SeenAbove
-mod EventLogs
+pub mod SeenAbove
+pub mod EventLogs

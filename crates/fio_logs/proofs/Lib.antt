@@ -1,0 +1,5 @@
+mod Senders
+mod Reports
+mod WrittenLogs
+mod Examples
+mod ReturnedVerdicts
