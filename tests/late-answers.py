@@ -41,7 +41,7 @@ def fault_of_right_runs(runs):
 
 
 def fault_of_taps(runs):
-    """At a tap no right end is accused; taken for logs of the CPU's end, most of these logs break `advance`, and no other rule."""
+    """At a tap no right end is accused; judged as logs of the CPU's end, most of these logs break `advance`."""
     from support.late_runs import run_at_tap
     accused = 0
     for seed in range(runs):
@@ -49,10 +49,7 @@ def fault_of_taps(runs):
         found = found_in(log, 'bus')[0] or found_in(log, 'module')[0]
         if found:
             return seed, found
-        found, _ = found_in(log)
-        accused += bool(found)
-        if set(found) - {'advance'}:
-            return seed, found
+        accused += 'advance' in found_in(log)[0]
     return None if accused > runs // 2 else 'only %d runs break advance' % accused
 
 
