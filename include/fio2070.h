@@ -1245,8 +1245,8 @@ uint32_t fio2070_log_like(struct fio2070_log_reader *reader, const uint8_t *octe
 /** @defgroup log_judge The judge of a log
  * A struct fio2070_log_judge judges the frames that a reader of a log finds, by what it says of the lines between them too. It
  * is a judge of a link (group judge), which finds by the directions of the log where it was taken. A line that may have held a
- * frame loses sync; a remark of loss, which has no octets, excuses what a lost frame explains. Of a log that was taken at
- * a CPU which waits for each answer only until a deadline, late answers can be left out (docs/CAPTURES.md, Late answers). A
+ * frame loses sync; a remark of loss, which has no octets, excuses what a lost frame explains. If the CPU waits for each
+ * answer only until a deadline, late answers can be left out (docs/CAPTURES.md, Late answers). A
  * struct fio2070_log_signs says what kind of log it looks like, if it is not the log of one link in order. If FIO2070_NO_LOG is
  * defined, there are no such calls.
  * @code

@@ -22,8 +22,7 @@ pub enum LogStart {
     Anywhere,
     /// The log begins when both ends start; then more is found.
     Begun,
-    /// The log begins anywhere, and was taken at a CPU's end that waits for each answer only until a deadline: late answers are
-    /// left out.
+    /// The log begins anywhere, and the CPU's end waits for each answer only until a deadline: late answers are left out.
     LateAnswers,
 }
 
