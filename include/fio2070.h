@@ -1309,7 +1309,8 @@ struct fio2070_log_judge {
  * FIO2070_LOG_TAKEN_AUTO finds the place of each frame: a frame whose line says no direction was logged on the bus; another one
  * at the CPU's end, if down to it at least four of five directions agree with the types of their messages; at the module, if at
  * least four of five contradict them, as they do where the module's driver writes `TX` for an answer; else on the bus.
- * FIO2070_LOG_BEGINS_WITH_ENDS can accuse a right link in a log that begins elsewhere. FIO2070_LOG_LEAVES_OUT_LATE is for a log that was taken at the CPU's end. */
+ * FIO2070_LOG_BEGINS_WITH_ENDS can accuse a right link in a log that begins elsewhere.
+ * With FIO2070_LOG_LEAVES_OUT_LATE the rule `advance` is judged only in a log that was taken at the CPU's end. */
 FIO2070_MUST_USE
 uint8_t fio2070_log_judge_start(struct fio2070_log_judge *judge, struct fio2070_limits limits, uint8_t place, uint8_t start);
 /** Takes a line that may have held a frame, such as a damaged one: up to the next poll nothing is judged. Call it also for the heading

@@ -91,8 +91,9 @@ class LogJudge:
                  late_answers: bool = False, never_loads: bool = False) -> None:
         """`per_block` and `waiting` are as for `LinkJudge`. `place` says where the log was taken: 'cpu', 'module' or 'bus'; 'auto'
         finds it by the directions that the lines say. With `begun` the log begins with the start of both ends: more is found then.
-        With `late_answers` its CPU waits for each answer only until a deadline, and late answers are left out; a log can't be both. With `never_loads` its CPU never loads the counter: down to a load in the log no lost line is taken
-        for one, and more is found."""
+        With `late_answers` its CPU waits for each answer only until a deadline, and late answers are left out; a log
+        can't be both. With `never_loads` its CPU never loads the counter: down to a load in the log no lost line is
+        taken for one, and more is found."""
         check_limits(per_block, waiting)
         if place not in _PLACES:
             raise ValueError('the place is auto, cpu, module or bus')
