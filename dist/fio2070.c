@@ -8,7 +8,7 @@
  * access outside the arguments of a call, which the proof excludes, ends in FIO2070_TRAP(). FIO2070_UNCHECKED leaves
  * the tests of accesses out. FIO2070_FAST makes the code longer and faster.
  *
- * Sources: 37da1a670311014f2e4fa1242114f5ee34455817608ccc3c681ac25edc972f18 (SHA-256; packaging/release-files --sources)
+ * Sources: 6918377ce1cd5840458945e4b72e632c51d42d5935d1d136780805c0cb14effb (SHA-256; packaging/release-files --sources)
  * Kit: rattle-kit-13f logic dac8208d650f15bf
  * Proof: logic=proved functions=231 target=wasm64-unknown-unknown sum=dac8208d650f15bf native=nat,char,string
  * Made by `make release-files`: do not edit.
@@ -31693,7 +31693,7 @@ static void arrayvec_array_vec_ArrayVec_T_CAP_new(struct machine *m, uint64_t v0
 static void fio_sniff_streams_Streams_divide(struct machine *m, uint64_t v0, uint64_t v1, uint32_t v2);
 static void fio_rows_stream_Stream_end(struct machine *m, uint64_t v0, uint64_t v1);
 static void fio_sniff_streams_Streams_tell(struct machine *m, uint64_t v0, uint64_t v1, uint64_t v2);
-static uint32_t fio_log_reader_read_line(struct machine *m, uint32_t v0, uint64_t v1, uint64_t v2, uint64_t v3, uint64_t v4, uint64_t v5);
+static uint32_t fio_log_reader_sources_read_line(struct machine *m, uint32_t v0, uint64_t v1, uint64_t v2, uint64_t v3, uint64_t v4, uint64_t v5);
 static void fio_log_by_forms_FormReader_add(struct machine *m, uint64_t v0, uint64_t v1, uint64_t v2);
 static uint32_t fio_log_teller_Teller_hear_next(struct machine *m, uint64_t v0, uint64_t v1, uint64_t v2);
 static void fio_log_teller_Teller_know(struct machine *m, uint64_t v0, uint64_t v1);
@@ -40283,23 +40283,23 @@ j0 = load8(p3 + 0);
 i0 = (uint32_t)j0;
 switch (i0) {
 case 0:
-goto l21;
+goto l17;
 case 1:
-goto l20;
+goto l16;
 case 2:
-goto l19;
+goto l15;
 case 3:
 goto l2;
 case 4:
-goto l17;
+goto l13;
 case 5:
-goto l17;
+goto l13;
 case 6:
-goto l18;
+goto l14;
 default:
-goto l21;
+goto l17;
 }
-l21:;
+l17:;
 j0 = v3;
 j0 = load64(p3 + 16);
 v20 = j0;
@@ -40426,14 +40426,14 @@ i1 = load8(p12 + 57576);
 i2 = UINT32_C(255);
 i1 = i1 & i2;
 i0 = (i0 == i1);
-if (i0) { goto l25; }
+if (i0) { goto l21; }
 i0 = UINT32_C(2);
 v18 = i0;
 goto l2;
 }
 j0 = v3;
 i0 = (j0 == 0);
-if (i0) { goto l24; }
+if (i0) { goto l20; }
 j0 = UINT64_C(0);
 v2 = j0;
 j0 = v6;
@@ -40448,7 +40448,7 @@ v2 = j0;
 j0 = v3;
 j1 = UINT64_C(1);
 i0 = (j0 == j1);
-if (i0) { goto l24; }
+if (i0) { goto l20; }
 j0 = v1;
 j1 = UINT64_C(22369);
 j0 = j0 + j1;
@@ -40465,7 +40465,7 @@ v2 = j0;
 j0 = v3;
 j1 = UINT64_C(2);
 i0 = (j0 == j1);
-if (i0) { goto l24; }
+if (i0) { goto l20; }
 j0 = v1;
 j1 = UINT64_C(22370);
 j0 = j0 + j1;
@@ -40476,7 +40476,7 @@ j1 = j1 + j2;
 p15 = read_at(j1, m, 1u);
 i1 = load8(p15 + 0);
 i0 = (i0 == i1);
-if (i0) { goto l24; }
+if (i0) { goto l20; }
 }
 }
 i0 = UINT32_C(2);
@@ -40484,9 +40484,9 @@ v18 = i0;
 j0 = v2;
 j1 = v3;
 i0 = (j0 >= j1);
-if (i0) { goto l24; }
+if (i0) { goto l20; }
 goto l2;
-l25:;
+l21:;
 i0 = UINT32_C(2);
 v18 = i0;
 j0 = v6;
@@ -40495,7 +40495,7 @@ j2 = v4;
 i0 = core_cmp_slices_groups_equal_i8_31_core_cmp_numbers_U8PartialEq(m, j0, j1, j2);
 i0 = (i0 == 0);
 if (i0) { goto l2; }
-l24:;
+l20:;
 i0 = UINT32_C(9);
 v18 = i0;
 i0 = UINT32_C(5);
@@ -40554,14 +40554,14 @@ j1 = v9;
 store64(p17 + 0, j1);
 j0 = UINT64_C(0);
 v3 = j0;
-goto l10;
+goto l6;
 }
 j0 = v3;
 j1 = UINT64_C(512);
 i0 = (j0 != j1);
-if (i0) { goto l10; }
-goto l9;
-l20:;
+if (i0) { goto l6; }
+goto l5;
+l16:;
 j0 = v1;
 j1 = UINT64_C(42880);
 j0 = j0 + j1;
@@ -40612,13 +40612,13 @@ j1 = v9;
 store64(p19 + 0, j1);
 j0 = UINT64_C(0);
 v3 = j0;
-goto l34;
+goto l30;
 }
 j0 = v3;
 j1 = UINT64_C(512);
 i0 = (j0 == j1);
-if (i0) { goto l33; }
-l34:;
+if (i0) { goto l29; }
+l30:;
 j0 = v1;
 j1 = v3;
 j2 = UINT64_C(24);
@@ -40653,15 +40653,15 @@ v19 = i0;
 i0 = UINT32_C(0);
 v18 = i0;
 goto l2;
-l33:;
+l29:;
 j0 = v1;
 j1 = UINT64_C(20280);
 j0 = j0 + j1;
 i1 = UINT32_C(0);
 p22 = write_at(j0, m, 1u);
 store8(p22 + 0, i1);
-goto l9;
-l19:;
+goto l5;
+l15:;
 j0 = v1;
 j1 = UINT64_C(22360);
 j0 = j0 + j1;
@@ -40678,7 +40678,7 @@ j0 = v7;
 j1 = UINT64_C(2488);
 j0 = j0 + j1;
 v9 = j0;
-goto l37;
+goto l33;
 }
 j0 = v1;
 j1 = UINT64_C(8);
@@ -40690,7 +40690,7 @@ j0 = j0 + j1;
 p24 = read_at(j0, m, 8u);
 j0 = load64(p24 + 0);
 v2 = j0;
-l37:;
+l33:;
 j0 = v3;
 p25 = read_at(j0, m, 8u);
 j0 = load64(p25 + 0);
@@ -40717,7 +40717,7 @@ i0 = (i0 == 0);
 if (!i0) {
 i0 = UINT32_C(0);
 v22 = i0;
-goto l12;
+goto l8;
 }
 }
 j0 = v1;
@@ -40730,7 +40730,7 @@ i0 = (i0 == 0);
 if (!i0) {
 i0 = UINT32_C(0);
 v22 = i0;
-goto l12;
+goto l8;
 }
 j0 = v4;
 j1 = v17;
@@ -40738,7 +40738,7 @@ i0 = (j0 >= j1);
 if (!i0) {
 i0 = UINT32_C(1);
 v22 = i0;
-goto l12;
+goto l8;
 }
 i0 = UINT32_C(1);
 v22 = i0;
@@ -40747,7 +40747,7 @@ p26 = read_at(j0, m, 1u);
 i0 = load8(p26 + 0);
 i1 = UINT32_C(1);
 i0 = (i0 != i1);
-if (i0) { goto l12; }
+if (i0) { goto l8; }
 j0 = v1;
 j1 = UINT64_C(12552);
 j0 = j0 + j1;
@@ -40768,11 +40768,11 @@ j1 = UINT64_C(0);
 store64(p1 + 2424, j1);
 j0 = v23;
 i0 = (j0 == 0);
-if (i0) { goto l12; }
+if (i0) { goto l8; }
 j0 = v4;
 j1 = v17;
 i0 = (j0 == j1);
-if (i0) { goto l12; }
+if (i0) { goto l8; }
 j0 = v1;
 j1 = UINT64_C(82000);
 j0 = j0 + j1;
@@ -40787,7 +40787,7 @@ j0 = j0 - j1;
 v26 = j0;
 j1 = UINT64_C(1);
 i0 = (j0 == j1);
-if (i0) { goto l13; }
+if (i0) { goto l9; }
 j0 = v1;
 j1 = UINT64_C(8);
 j0 = j0 + j1;
@@ -40802,7 +40802,7 @@ j0 = v4;
 j1 = UINT64_C(18446744073709551615);
 j0 = j0 + j1;
 v30 = j0;
-l42:;
+l38:;
 j0 = v27;
 j1 = v28;
 j2 = UINT64_C(784);
@@ -40861,7 +40861,7 @@ i0 = (j0 <= j1);
 if (!i0) {
 i0 = UINT32_C(0);
 v22 = i0;
-goto l12;
+goto l8;
 }
 }
 }
@@ -40869,7 +40869,7 @@ j0 = v6;
 v4 = j0;
 j0 = v30;
 v2 = j0;
-l45:;
+l41:;
 j0 = v3;
 j1 = UINT64_C(512);
 j0 = j0 + j1;
@@ -40906,7 +40906,7 @@ v32 = i0;
 i0 = v18;
 i1 = UINT32_C(65);
 i0 = (i0 < i1);
-if (i0) { goto l47; }
+if (i0) { goto l43; }
 i0 = v18;
 i1 = UINT32_C(71);
 i0 = (i0 < i1);
@@ -40920,7 +40920,7 @@ i1 = UINT32_C(255);
 i0 = i0 & i1;
 i1 = UINT32_C(5);
 i0 = (i0 > i1);
-if (i0) { goto l47; }
+if (i0) { goto l43; }
 }
 }
 i0 = UINT32_C(16);
@@ -40944,7 +40944,7 @@ i0 = i0 & i1;
 v33 = i0;
 i1 = UINT32_C(65);
 i0 = (i0 < i1);
-if (i0) { goto l49; }
+if (i0) { goto l45; }
 i0 = v33;
 i1 = UINT32_C(71);
 i0 = (i0 < i1);
@@ -40962,20 +40962,20 @@ i3 = UINT32_C(6);
 i2 = (i2 < i3);
 i0 = i2 ? i0 : i1;
 v32 = i0;
-goto l49;
+goto l45;
 }
 i0 = v19;
 i1 = UINT32_C(4294967241);
 i0 = i0 + i1;
 v32 = i0;
-goto l49;
+goto l45;
 }
 i0 = v19;
 i1 = UINT32_C(4294967248);
 i0 = i0 + i1;
 v32 = i0;
 }
-l49:;
+l45:;
 i0 = v32;
 i1 = UINT32_C(255);
 i0 = i0 & i1;
@@ -40983,7 +40983,7 @@ i1 = UINT32_C(16);
 i0 = (i0 != i1);
 v32 = i0;
 }
-l47:;
+l43:;
 i0 = v18;
 i1 = UINT32_C(32);
 i0 = (i0 == i1);
@@ -40991,7 +40991,7 @@ if (!i0) {
 i0 = v18;
 i1 = UINT32_C(9);
 i0 = (i0 != i1);
-if (i0) { goto l52; }
+if (i0) { goto l48; }
 }
 i0 = v19;
 i1 = UINT32_C(255);
@@ -41004,40 +41004,40 @@ i2 = UINT32_C(32);
 i1 = (i1 == i2);
 i0 = i0 | i1;
 v13 = i0;
-l52:;
+l48:;
 j0 = v3;
 p32 = read_at(j0, m, 1u);
 j0 = load8(p32 + 0);
 i0 = (uint32_t)j0;
 switch (i0) {
 case 0:
-goto l54;
+goto l50;
 case 1:
-goto l56;
+goto l52;
 case 2:
-goto l57;
+goto l53;
 case 3:
-goto l58;
+goto l54;
 case 4:
-goto l55;
+goto l51;
 case 5:
-goto l54;
+goto l50;
 case 6:
-goto l54;
+goto l50;
 default:
-goto l54;
+goto l50;
 }
-l58:;
+l54:;
 i0 = v13;
 i0 = (i0 == 0);
-if (i0) { goto l54; }
-goto l46;
-l57:;
+if (i0) { goto l50; }
+goto l42;
+l53:;
 i0 = v32;
 i0 = (i0 == 0);
-if (i0) { goto l54; }
-goto l46;
-l56:;
+if (i0) { goto l50; }
+goto l42;
+l52:;
 i0 = v18;
 i1 = UINT32_C(4294967248);
 i0 = i0 + i1;
@@ -41045,7 +41045,7 @@ i1 = UINT32_C(255);
 i0 = i0 & i1;
 i1 = UINT32_C(9);
 i0 = (i0 > i1);
-if (i0) { goto l54; }
+if (i0) { goto l50; }
 i0 = v19;
 i1 = UINT32_C(4294967248);
 i0 = i0 + i1;
@@ -41053,14 +41053,14 @@ i1 = UINT32_C(255);
 i0 = i0 & i1;
 i1 = UINT32_C(10);
 i0 = (i0 < i1);
-if (i0) { goto l46; }
-goto l54;
-l55:;
+if (i0) { goto l42; }
+goto l50;
+l51:;
 i0 = v32;
 i1 = v13;
 i0 = i0 | i1;
-if (i0) { goto l46; }
-l54:;
+if (i0) { goto l42; }
+l50:;
 j0 = v7;
 j1 = UINT64_C(40);
 j0 = j0 + j1;
@@ -41105,12 +41105,12 @@ i0 = (j0 <= j1);
 if (!i0) {
 i0 = UINT32_C(0);
 v22 = i0;
-goto l12;
+goto l8;
 }
 }
 }
 }
-l46:;
+l42:;
 j0 = v4;
 j1 = UINT64_C(1);
 j0 = j0 + j1;
@@ -41121,7 +41121,7 @@ j2 = UINT64_C(18446744073709551615);
 j1 = j1 + j2;
 v2 = j1;
 i0 = (j0 != j1);
-if (i0) { goto l45; }
+if (i0) { goto l41; }
 }
 j0 = v28;
 j1 = UINT64_C(1);
@@ -41129,9 +41129,9 @@ j0 = j0 + j1;
 v28 = j0;
 j1 = v23;
 i0 = (j0 != j1);
-if (i0) { goto l42; }
-goto l12;
-l18:;
+if (i0) { goto l38; }
+goto l8;
+l14:;
 j0 = v2;
 p34 = read_at(j0 + UINT64_C(24), m, 8u);
 j0 = load64(p34 + 0);
@@ -41146,14 +41146,14 @@ j0 = v6;
 v3 = j0;
 j0 = v4;
 v2 = j0;
-l61:;
+l57:;
 j0 = v3;
 p35 = read_at(j0, m, 1u);
 j0 = load8(p35 + 0);
 v17 = j0;
 j1 = UINT64_C(32);
 i0 = (j0 > j1);
-if (i0) { goto l59; }
+if (i0) { goto l55; }
 j0 = UINT64_C(1);
 j1 = v17;
 j0 = j0 << (j1 & 63);
@@ -41161,7 +41161,7 @@ j1 = UINT64_C(4294981120);
 j0 = j0 & j1;
 j1 = UINT64_C(0);
 i0 = (j0 == j1);
-if (i0) { goto l59; }
+if (i0) { goto l55; }
 j0 = v3;
 j1 = UINT64_C(1);
 j0 = j0 + j1;
@@ -41172,7 +41172,7 @@ j0 = j0 + j1;
 v2 = j0;
 j1 = UINT64_C(0);
 i0 = (j0 != j1);
-if (i0) { goto l61; }
+if (i0) { goto l57; }
 }
 j0 = v1;
 j1 = UINT64_C(79904);
@@ -41256,7 +41256,7 @@ p38 += 16;
 }
 j0 = v14;
 i0 = (j0 == 0);
-if (i0) { goto l63; }
+if (i0) { goto l59; }
 }
 j0 = UINT64_C(1);
 j1 = UINT64_C(2);
@@ -41277,11 +41277,11 @@ j3 = v17;
 i2 = (j2 == j3);
 j0 = i2 ? j0 : j1;
 v2 = j0;
-l63:;
+l59:;
 j0 = v2;
 j1 = UINT64_C(1);
 i0 = (j0 > j1);
-if (i0) { goto l59; }
+if (i0) { goto l55; }
 }
 }
 j0 = v1;
@@ -41337,7 +41337,7 @@ j0 = j0 + j1;
 j0 = load64(p41 + 0);
 v5 = j0;
 i0 = (j0 == 0);
-if (i0) { goto l16; }
+if (i0) { goto l12; }
 j0 = v5;
 j1 = UINT64_C(3);
 j0 = j0 & j1;
@@ -41425,7 +41425,7 @@ p42 += 896;
 }
 j0 = v16;
 i0 = (j0 == 0);
-if (i0) { goto l67; }
+if (i0) { goto l63; }
 }
 j0 = v6;
 j1 = UINT64_C(224);
@@ -41464,7 +41464,7 @@ i0 = (j0 != j1);
 if (!i0) break;
 p43 += 224;
 }
-l67:;
+l63:;
 i0 = UINT32_C(0);
 v19 = i0;
 j0 = v4;
@@ -41556,7 +41556,7 @@ p44 += 896;
 }
 j0 = v12;
 i0 = (j0 == 0);
-if (i0) { goto l14; }
+if (i0) { goto l10; }
 }
 j0 = v4;
 j1 = UINT64_C(224);
@@ -41566,7 +41566,7 @@ j0 = j0 + j1;
 j1 = UINT64_C(12696);
 j0 = j0 + j1;
 v3 = j0;
-l73:;
+l69:;
 j0 = UINT64_C(18446744073709551615);
 j1 = v3;
 p45 = read_at(j1, m, 8u);
@@ -41590,10 +41590,10 @@ j0 = j0 + j1;
 v16 = j0;
 j1 = UINT64_C(0);
 i0 = (j0 != j1);
-if (i0) { goto l73; }
-goto l14;
+if (i0) { goto l69; }
+goto l10;
 }
-l59:;
+l55:;
 j0 = v1;
 j1 = UINT64_C(79904);
 j0 = j0 + j1;
@@ -41676,7 +41676,7 @@ p48 += 16;
 }
 j0 = v14;
 i0 = (j0 == 0);
-if (i0) { goto l76; }
+if (i0) { goto l72; }
 }
 j0 = UINT64_C(1);
 j1 = UINT64_C(2);
@@ -41697,11 +41697,11 @@ j3 = v17;
 i2 = (j2 == j3);
 j0 = i2 ? j0 : j1;
 v2 = j0;
-l76:;
+l72:;
 j0 = v2;
 j1 = UINT64_C(1);
 i0 = (j0 > j1);
-if (i0) { goto l74; }
+if (i0) { goto l70; }
 }
 }
 j0 = v1;
@@ -41718,7 +41718,7 @@ j0 = v1;
 j1 = UINT64_C(82000);
 j0 = j0 + j1;
 v29 = j0;
-goto l15;
+goto l11;
 }
 j0 = v1;
 j1 = UINT64_C(84056);
@@ -41735,7 +41735,7 @@ p51 = read_at(j0, m, 8u);
 j0 = load64(p51 + 0);
 v26 = j0;
 i0 = (j0 == 0);
-if (i0) { goto l15; }
+if (i0) { goto l11; }
 j0 = v1;
 j1 = UINT64_C(8);
 j0 = j0 + j1;
@@ -41769,7 +41769,7 @@ j0 = j0 + j1;
 v28 = j0;
 j0 = UINT64_C(0);
 v24 = j0;
-l80:;
+l76:;
 j0 = v27;
 j1 = v24;
 j2 = UINT64_C(784);
@@ -41782,12 +41782,12 @@ v10 = i0;
 if (!i0) {
 j0 = UINT64_C(0);
 v17 = j0;
-l86:;
+l82:;
 j0 = v4;
 j1 = v17;
 v2 = j1;
 i0 = (j0 == j1);
-if (i0) { goto l85; }
+if (i0) { goto l81; }
 j0 = v2;
 j1 = UINT64_C(1);
 j0 = j0 + j1;
@@ -41799,8 +41799,8 @@ p52 = read_at(j0, m, 1u);
 i0 = load8(p52 + 0);
 i1 = UINT32_C(48);
 i0 = (i0 == i1);
-if (i0) { goto l86; }
-l85:;
+if (i0) { goto l82; }
+l81:;
 j0 = v3;
 j1 = UINT64_C(512);
 j0 = j0 + j1;
@@ -41814,14 +41814,14 @@ j0 = v6;
 v17 = j0;
 j0 = v4;
 v15 = j0;
-l93:;
+l89:;
 j0 = v17;
 p54 = read_at(j0, m, 1u);
 i0 = load8(p54 + 0);
 v18 = i0;
 i1 = UINT32_C(48);
 i0 = (i0 < i1);
-if (i0) { goto l92; }
+if (i0) { goto l88; }
 i0 = v18;
 i1 = UINT32_C(58);
 i0 = (i0 < i1);
@@ -41829,7 +41829,7 @@ if (!i0) {
 i0 = v18;
 i1 = UINT32_C(65);
 i0 = (i0 < i1);
-if (i0) { goto l92; }
+if (i0) { goto l88; }
 i0 = v18;
 i1 = UINT32_C(71);
 i0 = (i0 < i1);
@@ -41841,7 +41841,7 @@ i1 = UINT32_C(255);
 i0 = i0 & i1;
 i1 = UINT32_C(5);
 i0 = (i0 > i1);
-if (i0) { goto l92; }
+if (i0) { goto l88; }
 }
 }
 j0 = v17;
@@ -41854,12 +41854,12 @@ j0 = j0 + j1;
 v15 = j0;
 j1 = UINT64_C(0);
 i0 = (j0 != j1);
-if (i0) { goto l93; }
+if (i0) { goto l89; }
 j0 = v4;
 j1 = v2;
 i0 = (j0 != j1);
-if (i0) { goto l83; }
-l92:;
+if (i0) { goto l79; }
+l88:;
 j0 = v3;
 j1 = UINT64_C(772);
 j0 = j0 + j1;
@@ -41867,8 +41867,8 @@ p55 = read_at(j0, m, 1u);
 i0 = load8(p55 + 0);
 i1 = UINT32_C(1);
 i0 = (i0 == i1);
-if (i0) { goto l90; }
-goto l89;
+if (i0) { goto l86; }
+goto l85;
 }
 j0 = UINT64_C(0);
 v2 = j0;
@@ -41879,20 +41879,20 @@ p56 = read_at(j0, m, 1u);
 i0 = load8(p56 + 0);
 i1 = UINT32_C(1);
 i0 = (i0 != i1);
-if (i0) { goto l88; }
-l90:;
+if (i0) { goto l84; }
+l86:;
 j0 = v6;
 v17 = j0;
 j0 = v4;
 v15 = j0;
-l95:;
+l91:;
 j0 = v17;
 p57 = read_at(j0, m, 1u);
 i0 = load8(p57 + 0);
 v18 = i0;
 i1 = UINT32_C(48);
 i0 = (i0 < i1);
-if (i0) { goto l83; }
+if (i0) { goto l79; }
 i0 = v18;
 i1 = UINT32_C(58);
 i0 = (i0 < i1);
@@ -41900,7 +41900,7 @@ if (!i0) {
 i0 = v18;
 i1 = UINT32_C(65);
 i0 = (i0 < i1);
-if (i0) { goto l83; }
+if (i0) { goto l79; }
 i0 = v18;
 i1 = UINT32_C(71);
 i0 = (i0 < i1);
@@ -41912,7 +41912,7 @@ i1 = UINT32_C(255);
 i0 = i0 & i1;
 i1 = UINT32_C(5);
 i0 = (i0 > i1);
-if (i0) { goto l83; }
+if (i0) { goto l79; }
 }
 }
 j0 = v17;
@@ -41927,10 +41927,10 @@ j0 = j0 + j1;
 v15 = j0;
 j1 = UINT64_C(0);
 i0 = (j0 != j1);
-if (i0) { goto l95; }
+if (i0) { goto l91; }
 i0 = v19;
-if (i0) { goto l88; }
-l89:;
+if (i0) { goto l84; }
+l85:;
 j0 = v3;
 j1 = UINT64_C(664);
 j0 = j0 + j1;
@@ -41947,11 +41947,11 @@ j0 = v28;
 v17 = j0;
 j0 = v5;
 v15 = j0;
-l97:;
+l93:;
 j0 = v4;
 j1 = v2;
 i0 = (j0 <= j1);
-if (i0) { goto l82; }
+if (i0) { goto l78; }
 j0 = v7;
 j1 = UINT64_C(304);
 j0 = j0 + j1;
@@ -41978,7 +41978,7 @@ j0 = v7;
 i0 = load8(p1 + 304);
 i1 = UINT32_C(1);
 i0 = (i0 != i1);
-if (i0) { goto l87; }
+if (i0) { goto l83; }
 j0 = v17;
 j1 = UINT64_C(2);
 j0 = j0 + j1;
@@ -41994,8 +41994,8 @@ j0 = j0 + j1;
 v15 = j0;
 i0 = (j0 == 0);
 i0 = (i0 == 0);
-if (i0) { goto l97; }
-l88:;
+if (i0) { goto l93; }
+l84:;
 j0 = v3;
 j1 = UINT64_C(521);
 j0 = j0 + j1;
@@ -42043,7 +42043,7 @@ store8(p1 + 324, i1);
 j0 = v4;
 j1 = v2;
 i0 = (j0 == j1);
-if (i0) { goto l82; }
+if (i0) { goto l78; }
 j0 = v6;
 j1 = v2;
 j0 = j0 + j1;
@@ -42052,7 +42052,7 @@ j0 = v35;
 j1 = v2;
 j0 = j0 - j1;
 v2 = j0;
-l99:;
+l95:;
 i0 = v18;
 j1 = v7;
 j2 = UINT64_C(2456);
@@ -42079,7 +42079,7 @@ i5 = v19;
 fio_form_octets_next_in(m, j0, i1, i2, j3, i4, i5);
 j0 = v7;
 i0 = load8(p1 + 320);
-if (i0) { goto l83; }
+if (i0) { goto l79; }
 j0 = v7;
 j1 = v7;
 i1 = load8(p1 + 323);
@@ -42096,32 +42096,32 @@ j0 = j0 + j1;
 v2 = j0;
 j1 = UINT64_C(18446744073709551615);
 i0 = (j0 != j1);
-if (i0) { goto l99; }
-goto l82;
-l87:;
+if (i0) { goto l95; }
+goto l78;
+l83:;
 j0 = UINT64_C(0);
 v17 = j0;
 i0 = v18;
 switch (i0) {
 case 0:
-goto l101;
+goto l97;
 case 1:
-goto l104;
+goto l100;
 case 2:
-goto l103;
+goto l99;
 case 3:
-goto l102;
+goto l98;
 case 4:
-goto l105;
+goto l101;
 case 5:
-goto l101;
+goto l97;
 case 6:
-goto l103;
+goto l99;
 default:
-goto l101;
+goto l97;
 }
-l105:;
-l107:;
+l101:;
+l103:;
 j0 = v9;
 p63 = read_at(j0, m, 1u);
 i0 = load8(p63 + 0);
@@ -42132,7 +42132,7 @@ if (!i0) {
 i0 = v18;
 i1 = UINT32_C(9);
 i0 = (i0 != i1);
-if (i0) { goto l106; }
+if (i0) { goto l102; }
 }
 j0 = v9;
 j1 = UINT64_C(1);
@@ -42144,15 +42144,15 @@ j0 = j0 + j1;
 v14 = j0;
 i0 = (j0 == 0);
 i0 = (i0 == 0);
-if (i0) { goto l107; }
-goto l82;
-l106:;
+if (i0) { goto l103; }
+goto l78;
+l102:;
 j0 = v14;
 i0 = (j0 == 0);
-if (i0) { goto l82; }
+if (i0) { goto l78; }
 j0 = UINT64_C(0);
 v2 = j0;
-l109:;
+l105:;
 j0 = v9;
 j1 = v2;
 j0 = j0 + j1;
@@ -42161,7 +42161,7 @@ i0 = load8(p64 + 0);
 v18 = i0;
 i1 = UINT32_C(48);
 i0 = (i0 < i1);
-if (i0) { goto l100; }
+if (i0) { goto l96; }
 i0 = v18;
 i1 = UINT32_C(58);
 i0 = (i0 < i1);
@@ -42169,7 +42169,7 @@ if (!i0) {
 i0 = v18;
 i1 = UINT32_C(65);
 i0 = (i0 < i1);
-if (i0) { goto l100; }
+if (i0) { goto l96; }
 i0 = v18;
 i1 = UINT32_C(71);
 i0 = (i0 < i1);
@@ -42181,7 +42181,7 @@ i1 = UINT32_C(255);
 i0 = i0 & i1;
 i1 = UINT32_C(5);
 i0 = (i0 > i1);
-if (i0) { goto l100; }
+if (i0) { goto l96; }
 }
 }
 j0 = v14;
@@ -42190,9 +42190,9 @@ j2 = UINT64_C(1);
 j1 = j1 + j2;
 v2 = j1;
 i0 = (j0 != j1);
-if (i0) { goto l109; }
-goto l82;
-l104:;
+if (i0) { goto l105; }
+goto l78;
+l100:;
 j0 = v6;
 j1 = v2;
 j0 = j0 + j1;
@@ -42203,7 +42203,7 @@ j0 = j0 - j1;
 v2 = j0;
 j0 = UINT64_C(0);
 v17 = j0;
-l111:;
+l107:;
 j0 = v15;
 j1 = v17;
 j0 = j0 + j1;
@@ -42215,16 +42215,16 @@ i1 = UINT32_C(255);
 i0 = i0 & i1;
 i1 = UINT32_C(9);
 i0 = (i0 > i1);
-if (i0) { goto l101; }
+if (i0) { goto l97; }
 j0 = v2;
 j1 = v17;
 j2 = UINT64_C(1);
 j1 = j1 + j2;
 v17 = j1;
 i0 = (j0 != j1);
-if (i0) { goto l111; }
-goto l82;
-l103:;
+if (i0) { goto l107; }
+goto l78;
+l99:;
 j0 = v6;
 j1 = v2;
 j0 = j0 + j1;
@@ -42235,7 +42235,7 @@ j0 = j0 - j1;
 v2 = j0;
 j0 = UINT64_C(0);
 v17 = j0;
-l112:;
+l108:;
 j0 = v15;
 j1 = v17;
 j0 = j0 + j1;
@@ -42244,7 +42244,7 @@ i0 = load8(p66 + 0);
 v18 = i0;
 i1 = UINT32_C(48);
 i0 = (i0 < i1);
-if (i0) { goto l101; }
+if (i0) { goto l97; }
 i0 = v18;
 i1 = UINT32_C(58);
 i0 = (i0 < i1);
@@ -42252,7 +42252,7 @@ if (!i0) {
 i0 = v18;
 i1 = UINT32_C(65);
 i0 = (i0 < i1);
-if (i0) { goto l101; }
+if (i0) { goto l97; }
 i0 = v18;
 i1 = UINT32_C(71);
 i0 = (i0 < i1);
@@ -42264,7 +42264,7 @@ i1 = UINT32_C(255);
 i0 = i0 & i1;
 i1 = UINT32_C(5);
 i0 = (i0 > i1);
-if (i0) { goto l101; }
+if (i0) { goto l97; }
 }
 }
 j0 = v2;
@@ -42273,9 +42273,9 @@ j2 = UINT64_C(1);
 j1 = j1 + j2;
 v17 = j1;
 i0 = (j0 != j1);
-if (i0) { goto l112; }
-goto l82;
-l102:;
+if (i0) { goto l108; }
+goto l78;
+l98:;
 j0 = v6;
 j1 = v2;
 j0 = j0 + j1;
@@ -42286,7 +42286,7 @@ j0 = j0 - j1;
 v2 = j0;
 j0 = UINT64_C(0);
 v17 = j0;
-l114:;
+l110:;
 j0 = v15;
 j1 = v17;
 j0 = j0 + j1;
@@ -42299,7 +42299,7 @@ if (!i0) {
 i0 = v18;
 i1 = UINT32_C(9);
 i0 = (i0 != i1);
-if (i0) { goto l101; }
+if (i0) { goto l97; }
 }
 j0 = v2;
 j1 = v17;
@@ -42307,20 +42307,20 @@ j2 = UINT64_C(1);
 j1 = j1 + j2;
 v17 = j1;
 i0 = (j0 != j1);
-if (i0) { goto l114; }
-goto l82;
-l101:;
+if (i0) { goto l110; }
+goto l78;
+l97:;
 j0 = v17;
 j1 = v14;
 i0 = (j0 == j1);
-if (i0) { goto l82; }
-goto l83;
-l100:;
+if (i0) { goto l78; }
+goto l79;
+l96:;
 j0 = v14;
 j1 = v2;
 i0 = (j0 != j1);
-if (i0) { goto l83; }
-goto l82;
+if (i0) { goto l79; }
+goto l78;
 }
 j0 = v3;
 j1 = UINT64_C(512);
@@ -42328,14 +42328,14 @@ j0 = j0 + j1;
 p68 = read_at(j0, m, 8u);
 j0 = load64(p68 + 0);
 v5 = j0;
-l83:;
+l79:;
 j0 = v5;
 i0 = (j0 == 0);
 i0 = (i0 == 0);
 if (!i0) {
 j0 = UINT64_C(0);
 v15 = j0;
-goto l116;
+goto l112;
 }
 j0 = v5;
 j1 = UINT64_C(18446744073709551615);
@@ -42351,7 +42351,7 @@ j0 = UINT64_C(1);
 v2 = j0;
 j0 = v25;
 v9 = j0;
-l118:;
+l114:;
 j0 = v16;
 j1 = UINT64_C(1);
 j0 = j0 + j1;
@@ -42423,7 +42423,7 @@ j3 = load64(p1 + 296);
 j4 = v29;
 j5 = v23;
 i0 = fio_log_cut_has_message(m, j0, j1, j2, j3, j4, j5);
-if (i0) { goto l82; }
+if (i0) { goto l78; }
 }
 j0 = v2;
 j1 = UINT64_C(1);
@@ -42439,14 +42439,14 @@ j0 = j0 + j1;
 v14 = j0;
 j1 = UINT64_C(18446744073709551615);
 i0 = (j0 != j1);
-if (i0) { goto l118; }
+if (i0) { goto l114; }
 j0 = v3;
 j1 = UINT64_C(512);
 j0 = j0 + j1;
 p71 = read_at(j0, m, 8u);
 j0 = load64(p71 + 0);
 v15 = j0;
-l116:;
+l112:;
 j0 = v7;
 j1 = UINT64_C(272);
 j0 = j0 + j1;
@@ -42486,14 +42486,14 @@ j0 = v6;
 v2 = j0;
 j0 = v4;
 v17 = j0;
-l123:;
+l119:;
 j0 = v2;
 p73 = read_at(j0, m, 1u);
 i0 = load8(p73 + 0);
 v18 = i0;
 i1 = UINT32_C(48);
 i0 = (i0 < i1);
-if (i0) { goto l122; }
+if (i0) { goto l118; }
 i0 = v18;
 i1 = UINT32_C(58);
 i0 = (i0 < i1);
@@ -42501,7 +42501,7 @@ if (!i0) {
 i0 = v18;
 i1 = UINT32_C(65);
 i0 = (i0 < i1);
-if (i0) { goto l122; }
+if (i0) { goto l118; }
 i0 = v18;
 i1 = UINT32_C(71);
 i0 = (i0 < i1);
@@ -42513,7 +42513,7 @@ i1 = UINT32_C(255);
 i0 = i0 & i1;
 i1 = UINT32_C(5);
 i0 = (i0 > i1);
-if (i0) { goto l122; }
+if (i0) { goto l118; }
 }
 }
 j0 = v2;
@@ -42526,14 +42526,14 @@ j0 = j0 + j1;
 v17 = j0;
 j1 = UINT64_C(0);
 i0 = (j0 != j1);
-if (i0) { goto l123; }
+if (i0) { goto l119; }
 j0 = v4;
 j1 = UINT64_C(2);
 i0 = (j0 > j1);
-if (i0) { goto l121; }
+if (i0) { goto l117; }
 }
 }
-l122:;
+l118:;
 j0 = v7;
 i1 = UINT32_C(1);
 store16(p1 + 320, i1);
@@ -42555,7 +42555,7 @@ j0 = j0 + j1;
 v9 = j0;
 i0 = UINT32_C(0);
 v19 = i0;
-l125:;
+l121:;
 i0 = v19;
 v13 = i0;
 j0 = v2;
@@ -42570,15 +42570,15 @@ v19 = i0;
 i0 = v18;
 i1 = UINT32_C(58);
 i0 = (i0 < i1);
-if (i0) { goto l126; }
+if (i0) { goto l122; }
 i0 = v18;
 i1 = UINT32_C(65);
 i0 = (i0 < i1);
-if (i0) { goto l127; }
+if (i0) { goto l123; }
 i0 = v18;
 i1 = UINT32_C(71);
 i0 = (i0 < i1);
-if (i0) { goto l126; }
+if (i0) { goto l122; }
 i0 = v18;
 i1 = UINT32_C(4294967199);
 i0 = i0 + i1;
@@ -42586,8 +42586,8 @@ i1 = UINT32_C(255);
 i0 = i0 & i1;
 i1 = UINT32_C(6);
 i0 = (i0 < i1);
-if (i0) { goto l126; }
-goto l127;
+if (i0) { goto l122; }
+goto l123;
 }
 i0 = v18;
 i1 = UINT32_C(32);
@@ -42595,9 +42595,9 @@ i0 = (i0 != i1);
 if (!i0) {
 i0 = v13;
 v19 = i0;
-goto l126;
+goto l122;
 }
-l127:;
+l123:;
 j0 = v7;
 i1 = v18;
 store8(p1 + 321, i1);
@@ -42614,8 +42614,8 @@ j3 = UINT64_C(320);
 j2 = j2 + j3;
 i0 = core_slice_reads_slice_T_contains(m, j0, j1, j2);
 i0 = (i0 == 0);
-if (i0) { goto l121; }
-l126:;
+if (i0) { goto l117; }
+l122:;
 j0 = v2;
 j1 = UINT64_C(1);
 j0 = j0 + j1;
@@ -42626,15 +42626,15 @@ j0 = j0 + j1;
 v17 = j0;
 i0 = (j0 == 0);
 i0 = (i0 == 0);
-if (i0) { goto l125; }
+if (i0) { goto l121; }
 i0 = v19;
 i1 = UINT32_C(1);
 i0 = i0 & i1;
-if (i0) { goto l82; }
+if (i0) { goto l78; }
 }
 }
 }
-l121:;
+l117:;
 j0 = v7;
 j1 = UINT64_C(256);
 j0 = j0 + j1;
@@ -42687,44 +42687,44 @@ j0 = j0 & j1;
 i0 = (uint32_t)j0;
 switch (i0) {
 case 0:
-goto l133;
+goto l129;
 case 1:
-goto l132;
+goto l128;
 case 2:
-goto l132;
+goto l128;
 case 3:
-goto l132;
+goto l128;
 case 4:
-goto l132;
+goto l128;
 case 5:
-goto l135;
+goto l131;
 case 6:
-goto l134;
+goto l130;
 case 7:
-goto l132;
+goto l128;
 case 8:
-goto l132;
+goto l128;
 case 9:
-goto l132;
+goto l128;
 default:
-goto l133;
+goto l129;
 }
-l135:;
+l131:;
 j0 = UINT64_C(3);
 v17 = j0;
 i0 = UINT32_C(1);
 v13 = i0;
 i0 = UINT32_C(0);
 v19 = i0;
-goto l133;
-l134:;
+goto l129;
+l130:;
 j0 = UINT64_C(8);
 v17 = j0;
 i0 = UINT32_C(0);
 v19 = i0;
 i0 = UINT32_C(0);
 v13 = i0;
-l133:;
+l129:;
 j0 = v9;
 j1 = v17;
 i0 = (j0 < j1);
@@ -42744,12 +42744,12 @@ i0 = UINT32_C(1);
 v36 = i0;
 i0 = UINT32_C(0);
 v32 = i0;
-goto l136;
+goto l132;
 }
 i0 = v8;
 i1 = UINT32_C(65);
 i0 = (i0 < i1);
-if (i0) { goto l137; }
+if (i0) { goto l133; }
 i0 = UINT32_C(1);
 v36 = i0;
 i0 = UINT32_C(0);
@@ -42757,7 +42757,7 @@ v32 = i0;
 i0 = v8;
 i1 = UINT32_C(71);
 i0 = (i0 < i1);
-if (i0) { goto l136; }
+if (i0) { goto l132; }
 i0 = v8;
 i1 = UINT32_C(4294967199);
 i0 = i0 + i1;
@@ -42766,33 +42766,33 @@ i1 = UINT32_C(255);
 i0 = i0 & i1;
 i1 = UINT32_C(6);
 i0 = (i0 < i1);
-if (i0) { goto l136; }
+if (i0) { goto l132; }
 i0 = v8;
 i1 = UINT32_C(95);
 i0 = (i0 == i1);
-if (i0) { goto l132; }
+if (i0) { goto l128; }
 i0 = v8;
 i1 = UINT32_C(91);
 i0 = (i0 < i1);
-if (i0) { goto l132; }
+if (i0) { goto l128; }
 i0 = v33;
 i1 = UINT32_C(255);
 i0 = i0 & i1;
 i1 = UINT32_C(26);
 i0 = (i0 >= i1);
-if (i0) { goto l137; }
-goto l132;
+if (i0) { goto l133; }
+goto l128;
 }
 i0 = v8;
 i1 = UINT32_C(32);
 i0 = (i0 == i1);
-if (i0) { goto l132; }
-l137:;
+if (i0) { goto l128; }
+l133:;
 i0 = UINT32_C(0);
 v36 = i0;
 i0 = UINT32_C(1);
 v32 = i0;
-l136:;
+l132:;
 j0 = v16;
 j1 = UINT64_C(1);
 j0 = j0 + j1;
@@ -42808,18 +42808,18 @@ i0 = (i0 >= i1);
 if (!i0) {
 i0 = UINT32_C(1);
 v33 = i0;
-goto l140;
+goto l136;
 }
 i0 = v8;
 i1 = UINT32_C(65);
 i0 = (i0 < i1);
-if (i0) { goto l141; }
+if (i0) { goto l137; }
 i0 = UINT32_C(1);
 v33 = i0;
 i0 = v8;
 i1 = UINT32_C(71);
 i0 = (i0 < i1);
-if (i0) { goto l140; }
+if (i0) { goto l136; }
 i0 = v8;
 i1 = UINT32_C(4294967199);
 i0 = i0 + i1;
@@ -42828,33 +42828,33 @@ i1 = UINT32_C(255);
 i0 = i0 & i1;
 i1 = UINT32_C(6);
 i0 = (i0 < i1);
-if (i0) { goto l140; }
+if (i0) { goto l136; }
 i0 = v8;
 i1 = UINT32_C(95);
 i0 = (i0 == i1);
-if (i0) { goto l132; }
+if (i0) { goto l128; }
 i0 = v8;
 i1 = UINT32_C(91);
 i0 = (i0 < i1);
-if (i0) { goto l132; }
+if (i0) { goto l128; }
 i0 = v37;
 i1 = UINT32_C(255);
 i0 = i0 & i1;
 i1 = UINT32_C(26);
 i0 = (i0 >= i1);
-if (i0) { goto l141; }
-goto l132;
+if (i0) { goto l137; }
+goto l128;
 }
 i0 = v8;
 i1 = UINT32_C(32);
 i0 = (i0 == i1);
-if (i0) { goto l132; }
-l141:;
+if (i0) { goto l128; }
+l137:;
 i0 = UINT32_C(1);
 v32 = i0;
 i0 = v36;
 v33 = i0;
-l140:;
+l136:;
 i0 = v19;
 if (!i0) {
 j0 = v16;
@@ -42872,18 +42872,18 @@ i0 = (i0 >= i1);
 if (!i0) {
 i0 = UINT32_C(1);
 v8 = i0;
-goto l145;
+goto l141;
 }
 i0 = v19;
 i1 = UINT32_C(65);
 i0 = (i0 < i1);
-if (i0) { goto l146; }
+if (i0) { goto l142; }
 i0 = UINT32_C(1);
 v8 = i0;
 i0 = v19;
 i1 = UINT32_C(71);
 i0 = (i0 < i1);
-if (i0) { goto l145; }
+if (i0) { goto l141; }
 i0 = v19;
 i1 = UINT32_C(4294967199);
 i0 = i0 + i1;
@@ -42892,39 +42892,39 @@ i1 = UINT32_C(255);
 i0 = i0 & i1;
 i1 = UINT32_C(6);
 i0 = (i0 < i1);
-if (i0) { goto l145; }
+if (i0) { goto l141; }
 i0 = v19;
 i1 = UINT32_C(95);
 i0 = (i0 == i1);
-if (i0) { goto l132; }
+if (i0) { goto l128; }
 i0 = v19;
 i1 = UINT32_C(91);
 i0 = (i0 < i1);
-if (i0) { goto l132; }
+if (i0) { goto l128; }
 i0 = v36;
 i1 = UINT32_C(255);
 i0 = i0 & i1;
 i1 = UINT32_C(26);
 i0 = (i0 >= i1);
-if (i0) { goto l146; }
-goto l132;
+if (i0) { goto l142; }
+goto l128;
 }
 i0 = v19;
 i1 = UINT32_C(32);
 i0 = (i0 == i1);
-if (i0) { goto l132; }
-l146:;
+if (i0) { goto l128; }
+l142:;
 i0 = UINT32_C(1);
 v32 = i0;
 i0 = v33;
 v8 = i0;
-l145:;
+l141:;
 i0 = v13;
 i0 = (i0 == 0);
 if (!i0) {
 i0 = v8;
 v33 = i0;
-goto l144;
+goto l140;
 }
 j0 = v16;
 j1 = UINT64_C(3);
@@ -42941,18 +42941,18 @@ i0 = (i0 >= i1);
 if (!i0) {
 i0 = UINT32_C(1);
 v13 = i0;
-goto l150;
+goto l146;
 }
 i0 = v19;
 i1 = UINT32_C(65);
 i0 = (i0 < i1);
-if (i0) { goto l151; }
+if (i0) { goto l147; }
 i0 = UINT32_C(1);
 v13 = i0;
 i0 = v19;
 i1 = UINT32_C(71);
 i0 = (i0 < i1);
-if (i0) { goto l150; }
+if (i0) { goto l146; }
 i0 = v19;
 i1 = UINT32_C(4294967199);
 i0 = i0 + i1;
@@ -42961,33 +42961,33 @@ i1 = UINT32_C(255);
 i0 = i0 & i1;
 i1 = UINT32_C(6);
 i0 = (i0 < i1);
-if (i0) { goto l150; }
+if (i0) { goto l146; }
 i0 = v19;
 i1 = UINT32_C(95);
 i0 = (i0 == i1);
-if (i0) { goto l132; }
+if (i0) { goto l128; }
 i0 = v19;
 i1 = UINT32_C(91);
 i0 = (i0 < i1);
-if (i0) { goto l132; }
+if (i0) { goto l128; }
 i0 = v33;
 i1 = UINT32_C(255);
 i0 = i0 & i1;
 i1 = UINT32_C(26);
 i0 = (i0 >= i1);
-if (i0) { goto l151; }
-goto l132;
+if (i0) { goto l147; }
+goto l128;
 }
 i0 = v19;
 i1 = UINT32_C(32);
 i0 = (i0 == i1);
-if (i0) { goto l132; }
-l151:;
+if (i0) { goto l128; }
+l147:;
 i0 = UINT32_C(1);
 v32 = i0;
 i0 = v8;
 v13 = i0;
-l150:;
+l146:;
 j0 = v16;
 j1 = UINT64_C(4);
 j0 = j0 + j1;
@@ -43003,18 +43003,18 @@ i0 = (i0 >= i1);
 if (!i0) {
 i0 = UINT32_C(1);
 v8 = i0;
-goto l154;
+goto l150;
 }
 i0 = v19;
 i1 = UINT32_C(65);
 i0 = (i0 < i1);
-if (i0) { goto l155; }
+if (i0) { goto l151; }
 i0 = UINT32_C(1);
 v8 = i0;
 i0 = v19;
 i1 = UINT32_C(71);
 i0 = (i0 < i1);
-if (i0) { goto l154; }
+if (i0) { goto l150; }
 i0 = v19;
 i1 = UINT32_C(4294967199);
 i0 = i0 + i1;
@@ -43023,33 +43023,33 @@ i1 = UINT32_C(255);
 i0 = i0 & i1;
 i1 = UINT32_C(6);
 i0 = (i0 < i1);
-if (i0) { goto l154; }
+if (i0) { goto l150; }
 i0 = v19;
 i1 = UINT32_C(95);
 i0 = (i0 == i1);
-if (i0) { goto l132; }
+if (i0) { goto l128; }
 i0 = v19;
 i1 = UINT32_C(91);
 i0 = (i0 < i1);
-if (i0) { goto l132; }
+if (i0) { goto l128; }
 i0 = v33;
 i1 = UINT32_C(255);
 i0 = i0 & i1;
 i1 = UINT32_C(26);
 i0 = (i0 >= i1);
-if (i0) { goto l155; }
-goto l132;
+if (i0) { goto l151; }
+goto l128;
 }
 i0 = v19;
 i1 = UINT32_C(32);
 i0 = (i0 == i1);
-if (i0) { goto l132; }
-l155:;
+if (i0) { goto l128; }
+l151:;
 i0 = UINT32_C(1);
 v32 = i0;
 i0 = v13;
 v8 = i0;
-l154:;
+l150:;
 j0 = v16;
 j1 = UINT64_C(5);
 j0 = j0 + j1;
@@ -43065,18 +43065,18 @@ i0 = (i0 >= i1);
 if (!i0) {
 i0 = UINT32_C(1);
 v13 = i0;
-goto l158;
+goto l154;
 }
 i0 = v19;
 i1 = UINT32_C(65);
 i0 = (i0 < i1);
-if (i0) { goto l159; }
+if (i0) { goto l155; }
 i0 = UINT32_C(1);
 v13 = i0;
 i0 = v19;
 i1 = UINT32_C(71);
 i0 = (i0 < i1);
-if (i0) { goto l158; }
+if (i0) { goto l154; }
 i0 = v19;
 i1 = UINT32_C(4294967199);
 i0 = i0 + i1;
@@ -43085,33 +43085,33 @@ i1 = UINT32_C(255);
 i0 = i0 & i1;
 i1 = UINT32_C(6);
 i0 = (i0 < i1);
-if (i0) { goto l158; }
+if (i0) { goto l154; }
 i0 = v19;
 i1 = UINT32_C(95);
 i0 = (i0 == i1);
-if (i0) { goto l132; }
+if (i0) { goto l128; }
 i0 = v19;
 i1 = UINT32_C(91);
 i0 = (i0 < i1);
-if (i0) { goto l132; }
+if (i0) { goto l128; }
 i0 = v33;
 i1 = UINT32_C(255);
 i0 = i0 & i1;
 i1 = UINT32_C(26);
 i0 = (i0 >= i1);
-if (i0) { goto l159; }
-goto l132;
+if (i0) { goto l155; }
+goto l128;
 }
 i0 = v19;
 i1 = UINT32_C(32);
 i0 = (i0 == i1);
-if (i0) { goto l132; }
-l159:;
+if (i0) { goto l128; }
+l155:;
 i0 = UINT32_C(1);
 v32 = i0;
 i0 = v8;
 v13 = i0;
-l158:;
+l154:;
 j0 = v16;
 j1 = UINT64_C(6);
 j0 = j0 + j1;
@@ -43127,18 +43127,18 @@ i0 = (i0 >= i1);
 if (!i0) {
 i0 = UINT32_C(1);
 v8 = i0;
-goto l162;
+goto l158;
 }
 i0 = v19;
 i1 = UINT32_C(65);
 i0 = (i0 < i1);
-if (i0) { goto l163; }
+if (i0) { goto l159; }
 i0 = UINT32_C(1);
 v8 = i0;
 i0 = v19;
 i1 = UINT32_C(71);
 i0 = (i0 < i1);
-if (i0) { goto l162; }
+if (i0) { goto l158; }
 i0 = v19;
 i1 = UINT32_C(4294967199);
 i0 = i0 + i1;
@@ -43147,33 +43147,33 @@ i1 = UINT32_C(255);
 i0 = i0 & i1;
 i1 = UINT32_C(6);
 i0 = (i0 < i1);
-if (i0) { goto l162; }
+if (i0) { goto l158; }
 i0 = v19;
 i1 = UINT32_C(95);
 i0 = (i0 == i1);
-if (i0) { goto l132; }
+if (i0) { goto l128; }
 i0 = v19;
 i1 = UINT32_C(91);
 i0 = (i0 < i1);
-if (i0) { goto l132; }
+if (i0) { goto l128; }
 i0 = v33;
 i1 = UINT32_C(255);
 i0 = i0 & i1;
 i1 = UINT32_C(26);
 i0 = (i0 >= i1);
-if (i0) { goto l163; }
-goto l132;
+if (i0) { goto l159; }
+goto l128;
 }
 i0 = v19;
 i1 = UINT32_C(32);
 i0 = (i0 == i1);
-if (i0) { goto l132; }
-l163:;
+if (i0) { goto l128; }
+l159:;
 i0 = UINT32_C(1);
 v32 = i0;
 i0 = v13;
 v8 = i0;
-l162:;
+l158:;
 j0 = v16;
 j1 = UINT64_C(7);
 j0 = j0 + j1;
@@ -43189,18 +43189,18 @@ i0 = (i0 >= i1);
 if (!i0) {
 i0 = UINT32_C(1);
 v33 = i0;
-goto l144;
+goto l140;
 }
 i0 = v19;
 i1 = UINT32_C(65);
 i0 = (i0 < i1);
-if (i0) { goto l166; }
+if (i0) { goto l162; }
 i0 = UINT32_C(1);
 v33 = i0;
 i0 = v19;
 i1 = UINT32_C(71);
 i0 = (i0 < i1);
-if (i0) { goto l144; }
+if (i0) { goto l140; }
 i0 = v19;
 i1 = UINT32_C(4294967199);
 i0 = i0 + i1;
@@ -43209,34 +43209,34 @@ i1 = UINT32_C(255);
 i0 = i0 & i1;
 i1 = UINT32_C(6);
 i0 = (i0 < i1);
-if (i0) { goto l144; }
+if (i0) { goto l140; }
 i0 = v19;
 i1 = UINT32_C(95);
 i0 = (i0 == i1);
-if (i0) { goto l132; }
+if (i0) { goto l128; }
 i0 = v19;
 i1 = UINT32_C(91);
 i0 = (i0 < i1);
-if (i0) { goto l132; }
+if (i0) { goto l128; }
 i0 = v13;
 i1 = UINT32_C(255);
 i0 = i0 & i1;
 i1 = UINT32_C(26);
 i0 = (i0 >= i1);
-if (i0) { goto l166; }
-goto l132;
+if (i0) { goto l162; }
+goto l128;
 }
 i0 = v19;
 i1 = UINT32_C(32);
 i0 = (i0 == i1);
-if (i0) { goto l132; }
-l166:;
+if (i0) { goto l128; }
+l162:;
 i0 = UINT32_C(1);
 v32 = i0;
 i0 = v8;
 v33 = i0;
 }
-l144:;
+l140:;
 i0 = v33;
 i0 = (i0 == 0);
 if (!i0) {
@@ -43250,8 +43250,8 @@ if (!i0) {
 j0 = v15;
 i0 = (j0 == 0);
 i0 = (i0 == 0);
-if (i0) { goto l82; }
-goto l132;
+if (i0) { goto l78; }
+goto l128;
 }
 j0 = v9;
 j1 = v17;
@@ -43276,7 +43276,7 @@ i0 = (i0 == 0);
 if (!i0) {
 j0 = UINT64_C(0);
 v15 = j0;
-goto l170;
+goto l166;
 }
 j0 = UINT64_C(0);
 v15 = j0;
@@ -43286,7 +43286,7 @@ j0 = v40;
 v5 = j0;
 j0 = UINT64_C(0);
 v12 = j0;
-l173:;
+l169:;
 j0 = v17;
 j1 = UINT64_C(18446744073709551615);
 j0 = j0 + j1;
@@ -43295,30 +43295,30 @@ j0 = load8(p86 + 0);
 i0 = (uint32_t)j0;
 switch (i0) {
 case 0:
-goto l176;
+goto l172;
 case 1:
-goto l175;
+goto l171;
 case 2:
-goto l174;
+goto l170;
 default:
-goto l176;
+goto l172;
 }
-l176:;
+l172:;
 j0 = UINT64_C(0);
 v12 = j0;
 j0 = v15;
 v20 = j0;
 j0 = v15;
 i0 = (j0 == 0);
-if (i0) { goto l174; }
-goto l172;
-l175:;
+if (i0) { goto l170; }
+goto l168;
+l171:;
 j0 = UINT64_C(0);
 v20 = j0;
 j0 = v15;
 j1 = v31;
 i0 = (j0 >= j1);
-if (i0) { goto l172; }
+if (i0) { goto l168; }
 j0 = v38;
 j1 = v15;
 j0 = j0 + j1;
@@ -43328,12 +43328,12 @@ j1 = v17;
 p88 = read_at(j1, m, 1u);
 i1 = load8(p88 + 0);
 i0 = (i0 != i1);
-if (i0) { goto l172; }
+if (i0) { goto l168; }
 j0 = v15;
 j1 = UINT64_C(1);
 j0 = j0 + j1;
 v12 = j0;
-l174:;
+l170:;
 j0 = v17;
 j1 = UINT64_C(2);
 j0 = j0 + j1;
@@ -43348,8 +43348,8 @@ j0 = j0 + j1;
 v5 = j0;
 i0 = (j0 == 0);
 i0 = (i0 == 0);
-if (i0) { goto l173; }
-l172:;
+if (i0) { goto l169; }
+l168:;
 j0 = v31;
 j1 = v20;
 j2 = v31;
@@ -43357,7 +43357,7 @@ j3 = v20;
 i2 = (j2 < j3);
 j0 = i2 ? j0 : j1;
 v15 = j0;
-l170:;
+l166:;
 j0 = v7;
 j1 = UINT64_C(240);
 j0 = j0 + j1;
@@ -43379,7 +43379,7 @@ j0 = v7;
 i0 = load8(p1 + 240);
 i1 = UINT32_C(1);
 i0 = (i0 != i1);
-if (i0) { goto l82; }
+if (i0) { goto l78; }
 j0 = v3;
 j1 = UINT64_C(520);
 j0 = j0 + j1;
@@ -43410,7 +43410,7 @@ if (!i0) {
 j0 = v15;
 j1 = v12;
 i0 = (j0 <= j1);
-if (i0) { goto l82; }
+if (i0) { goto l78; }
 j0 = v17;
 j1 = v5;
 j0 = j0 + j1;
@@ -43423,7 +43423,7 @@ if (!i0) {
 i0 = v19;
 i1 = UINT32_C(48);
 i0 = (i0 < i1);
-if (i0) { goto l82; }
+if (i0) { goto l78; }
 i0 = v19;
 i1 = UINT32_C(58);
 i0 = (i0 < i1);
@@ -43431,7 +43431,7 @@ if (!i0) {
 i0 = v19;
 i1 = UINT32_C(65);
 i0 = (i0 < i1);
-if (i0) { goto l82; }
+if (i0) { goto l78; }
 i0 = v19;
 i1 = UINT32_C(91);
 i0 = (i0 < i1);
@@ -43439,18 +43439,18 @@ if (!i0) {
 i0 = v19;
 i1 = UINT32_C(97);
 i0 = (i0 < i1);
-if (i0) { goto l82; }
+if (i0) { goto l78; }
 i0 = v19;
 i0 = (uint32_t)extend(i0 & 255, 7);
 i1 = UINT32_C(122);
 i0 = (SIGNED32(i0) > SIGNED32(i1));
-if (i0) { goto l82; }
+if (i0) { goto l78; }
 }
 }
 }
 j0 = v12;
 i0 = (j0 == 0);
-if (i0) { goto l132; }
+if (i0) { goto l128; }
 j0 = v5;
 j1 = UINT64_C(18446744073709551615);
 j0 = j0 + j1;
@@ -43459,7 +43459,7 @@ j0 = UINT64_C(0);
 v12 = j0;
 i0 = UINT32_C(0);
 v19 = i0;
-l179:;
+l175:;
 i0 = v19;
 i1 = UINT32_C(1);
 i0 = i0 & i1;
@@ -43470,7 +43470,7 @@ i0 = load8(p91 + 0);
 v19 = i0;
 i1 = UINT32_C(95);
 i0 = (i0 == i1);
-if (i0) { goto l181; }
+if (i0) { goto l177; }
 i0 = v19;
 i1 = UINT32_C(48);
 i0 = (i0 < i1);
@@ -43478,7 +43478,7 @@ if (!i0) {
 i0 = v19;
 i1 = UINT32_C(58);
 i0 = (i0 < i1);
-if (i0) { goto l181; }
+if (i0) { goto l177; }
 i0 = v19;
 i1 = UINT32_C(65);
 i0 = (i0 < i1);
@@ -43486,7 +43486,7 @@ if (!i0) {
 i0 = v19;
 i1 = UINT32_C(91);
 i0 = (i0 < i1);
-if (i0) { goto l181; }
+if (i0) { goto l177; }
 i0 = v19;
 i1 = UINT32_C(97);
 i0 = (i0 < i1);
@@ -43495,32 +43495,32 @@ i0 = v19;
 i0 = (uint32_t)extend(i0 & 255, 7);
 i1 = UINT32_C(123);
 i0 = (SIGNED32(i0) < SIGNED32(i1));
-if (i0) { goto l181; }
+if (i0) { goto l177; }
 }
 }
 }
 }
 j0 = v15;
 i0 = (j0 == 0);
-if (i0) { goto l82; }
+if (i0) { goto l78; }
 j0 = v12;
 j1 = UINT64_C(1);
 j0 = j0 + j1;
 v12 = j0;
 i0 = UINT32_C(1);
 v19 = i0;
-goto l180;
-l181:;
+goto l176;
+l177:;
 j0 = v15;
 i0 = (j0 == 0);
-if (i0) { goto l132; }
+if (i0) { goto l128; }
 j0 = v12;
 j1 = UINT64_C(1);
 j0 = j0 + j1;
 v12 = j0;
 i0 = UINT32_C(0);
 v19 = i0;
-l180:;
+l176:;
 j0 = v17;
 j1 = UINT64_C(1);
 j0 = j0 + j1;
@@ -43529,19 +43529,19 @@ j0 = v15;
 j1 = UINT64_C(18446744073709551615);
 j0 = j0 + j1;
 v15 = j0;
-goto l179;
+goto l175;
 }
 j0 = v17;
 j1 = v5;
 j2 = UINT64_C(1049338);
 i0 = core_slice_reads_slice_T_contains_i8_31_core_cmp_numbers_U8PartialEq(m, j0, j1, j2);
-if (i0) { goto l82; }
-goto l131;
+if (i0) { goto l78; }
+goto l127;
 }
 }
 }
 }
-l132:;
+l128:;
 i0 = v18;
 i1 = UINT32_C(4294967286);
 i0 = i0 + i1;
@@ -43561,12 +43561,12 @@ i0 = (i0 == 0);
 if (!i0) {
 j0 = UINT64_C(0);
 v12 = j0;
-goto l129;
+goto l125;
 }
 j0 = v4;
 j1 = v2;
 i0 = (j0 == j1);
-if (i0) { goto l130; }
+if (i0) { goto l126; }
 j0 = v9;
 j1 = UINT64_C(10);
 j2 = v9;
@@ -43582,7 +43582,7 @@ j0 = UINT64_C(0);
 v15 = j0;
 j0 = v16;
 v12 = j0;
-l184:;
+l180:;
 j0 = v7;
 j1 = UINT64_C(224);
 j0 = j0 + j1;
@@ -43630,14 +43630,14 @@ i0 = (j0 >= j1);
 if (!i0) {
 j0 = v12;
 v2 = j0;
-l186:;
+l182:;
 j0 = v2;
 p95 = read_at(j0, m, 1u);
 i0 = load8(p95 + 0);
 v18 = i0;
 i1 = UINT32_C(48);
 i0 = (i0 < i1);
-if (i0) { goto l82; }
+if (i0) { goto l78; }
 i0 = v18;
 i1 = UINT32_C(58);
 i0 = (i0 < i1);
@@ -43645,7 +43645,7 @@ if (!i0) {
 i0 = v18;
 i1 = UINT32_C(65);
 i0 = (i0 < i1);
-if (i0) { goto l82; }
+if (i0) { goto l78; }
 i0 = v18;
 i1 = UINT32_C(71);
 i0 = (i0 < i1);
@@ -43657,7 +43657,7 @@ i1 = UINT32_C(255);
 i0 = i0 & i1;
 i1 = UINT32_C(5);
 i0 = (i0 > i1);
-if (i0) { goto l82; }
+if (i0) { goto l78; }
 }
 }
 j0 = v2;
@@ -43670,7 +43670,7 @@ j0 = j0 + j1;
 v17 = j0;
 j1 = UINT64_C(0);
 i0 = (j0 != j1);
-if (i0) { goto l186; }
+if (i0) { goto l182; }
 }
 }
 }
@@ -43680,7 +43680,7 @@ i0 = load8(p96 + 0);
 v18 = i0;
 i1 = UINT32_C(95);
 i0 = (i0 == i1);
-if (i0) { goto l131; }
+if (i0) { goto l127; }
 i0 = v18;
 i1 = UINT32_C(65);
 i0 = (i0 < i1);
@@ -43692,24 +43692,24 @@ if (!i0) {
 i0 = v18;
 i1 = UINT32_C(97);
 i0 = (i0 < i1);
-if (i0) { goto l189; }
+if (i0) { goto l185; }
 i0 = v18;
 i0 = (uint32_t)extend(i0 & 255, 7);
 i1 = UINT32_C(122);
 i0 = (SIGNED32(i0) > SIGNED32(i1));
-if (i0) { goto l189; }
+if (i0) { goto l185; }
 j0 = v15;
 j1 = UINT64_C(1);
 j0 = j0 + j1;
 v15 = j0;
 j1 = v31;
 i0 = (j0 >= j1);
-if (i0) { goto l131; }
+if (i0) { goto l127; }
 i0 = v18;
 i1 = UINT32_C(103);
 i0 = (i0 < i1);
-if (i0) { goto l188; }
-goto l131;
+if (i0) { goto l184; }
+goto l127;
 }
 j0 = v15;
 j1 = UINT64_C(1);
@@ -43717,22 +43717,22 @@ j0 = j0 + j1;
 v15 = j0;
 j1 = v31;
 i0 = (j0 >= j1);
-if (i0) { goto l131; }
+if (i0) { goto l127; }
 i0 = v18;
 i1 = UINT32_C(71);
 i0 = (i0 < i1);
-if (i0) { goto l188; }
-goto l131;
+if (i0) { goto l184; }
+goto l127;
 }
-l189:;
+l185:;
 j0 = v15;
 j1 = UINT64_C(1);
 j0 = j0 + j1;
 v15 = j0;
 j1 = v31;
 i0 = (j0 >= j1);
-if (i0) { goto l131; }
-l188:;
+if (i0) { goto l127; }
+l184:;
 j0 = v12;
 j1 = UINT64_C(1);
 j0 = j0 + j1;
@@ -43742,18 +43742,18 @@ j1 = UINT64_C(520);
 j0 = j0 + j1;
 i0 = load8(p76 + 0);
 v18 = i0;
-goto l184;
+goto l180;
 }
 }
 }
-l131:;
+l127:;
 j0 = v3;
 j1 = UINT64_C(512);
 j0 = j0 + j1;
 p97 = read_at(j0, m, 8u);
 j0 = load64(p97 + 0);
 v12 = j0;
-l130:;
+l126:;
 j0 = v12;
 j1 = UINT64_C(2);
 i0 = (j0 < j1);
@@ -43772,23 +43772,23 @@ j0 = load8(p98 + 0);
 i0 = (uint32_t)j0;
 switch (i0) {
 case 0:
-goto l192;
+goto l188;
 case 1:
-goto l129;
+goto l125;
 case 2:
-goto l129;
+goto l125;
 case 3:
-goto l129;
+goto l125;
 case 4:
-goto l129;
+goto l125;
 case 5:
-goto l191;
+goto l187;
 case 6:
-goto l129;
+goto l125;
 default:
-goto l192;
+goto l188;
 }
-l192:;
+l188:;
 j0 = v17;
 j1 = UINT64_C(1);
 j0 = j0 + j1;
@@ -43797,11 +43797,11 @@ i0 = load8(p99 + 0);
 v18 = i0;
 i1 = UINT32_C(32);
 i0 = (i0 == i1);
-if (i0) { goto l129; }
+if (i0) { goto l125; }
 i0 = v18;
 i1 = UINT32_C(95);
 i0 = (i0 == i1);
-if (i0) { goto l129; }
+if (i0) { goto l125; }
 i0 = v18;
 i1 = UINT32_C(48);
 i0 = (i0 < i1);
@@ -43809,7 +43809,7 @@ if (!i0) {
 i0 = v18;
 i1 = UINT32_C(58);
 i0 = (i0 < i1);
-if (i0) { goto l129; }
+if (i0) { goto l125; }
 i0 = v18;
 i1 = UINT32_C(65);
 i0 = (i0 < i1);
@@ -43817,7 +43817,7 @@ if (!i0) {
 i0 = v18;
 i1 = UINT32_C(91);
 i0 = (i0 < i1);
-if (i0) { goto l129; }
+if (i0) { goto l125; }
 i0 = v18;
 i1 = UINT32_C(97);
 i0 = (i0 < i1);
@@ -43826,11 +43826,11 @@ i0 = v18;
 i0 = (uint32_t)extend(i0 & 255, 7);
 i1 = UINT32_C(122);
 i0 = (SIGNED32(i0) <= SIGNED32(i1));
-if (i0) { goto l129; }
+if (i0) { goto l125; }
 }
 }
 }
-l191:;
+l187:;
 j0 = v7;
 j1 = UINT64_C(208);
 j0 = j0 + j1;
@@ -43848,11 +43848,11 @@ j0 = v7;
 i0 = load8(p1 + 208);
 i1 = UINT32_C(1);
 i0 = (i0 == i1);
-if (i0) { goto l82; }
+if (i0) { goto l78; }
 }
-l129:;
+l125:;
 i0 = v10;
-if (i0) { goto l81; }
+if (i0) { goto l77; }
 j0 = v3;
 j1 = UINT64_C(520);
 j0 = j0 + j1;
@@ -43865,7 +43865,7 @@ i1 = UINT32_C(255);
 i0 = i0 & i1;
 i1 = UINT32_C(3);
 i0 = (i0 < i1);
-if (i0) { goto l81; }
+if (i0) { goto l77; }
 j0 = UINT64_C(0);
 v2 = j0;
 j0 = v4;
@@ -43874,7 +43874,7 @@ j0 = v6;
 v15 = j0;
 j0 = v35;
 v17 = j0;
-l194:;
+l190:;
 j0 = v6;
 j1 = v2;
 j0 = j0 + j1;
@@ -43882,7 +43882,7 @@ p101 = read_at(j0, m, 1u);
 i0 = load8(p101 + 0);
 i1 = UINT32_C(32);
 i0 = (i0 != i1);
-if (i0) { goto l193; }
+if (i0) { goto l189; }
 j0 = v9;
 j1 = UINT64_C(18446744073709551615);
 j0 = j0 + j1;
@@ -43901,13 +43901,13 @@ j2 = UINT64_C(1);
 j1 = j1 + j2;
 v2 = j1;
 i0 = (j0 != j1);
-if (i0) { goto l194; }
-goto l81;
-l193:;
+if (i0) { goto l190; }
+goto l77;
+l189:;
 j0 = v4;
 j1 = v2;
 i0 = (j0 == j1);
-if (i0) { goto l81; }
+if (i0) { goto l77; }
 j0 = v4;
 j1 = v2;
 j0 = j0 - j1;
@@ -43916,14 +43916,14 @@ j0 = v9;
 v16 = j0;
 j0 = v15;
 v14 = j0;
-l196:;
+l192:;
 j0 = v14;
 p102 = read_at(j0, m, 1u);
 i0 = load8(p102 + 0);
 v18 = i0;
 i1 = UINT32_C(48);
 i0 = (i0 < i1);
-if (i0) { goto l195; }
+if (i0) { goto l191; }
 i0 = v18;
 i1 = UINT32_C(58);
 i0 = (i0 < i1);
@@ -43931,7 +43931,7 @@ if (!i0) {
 i0 = v18;
 i1 = UINT32_C(65);
 i0 = (i0 < i1);
-if (i0) { goto l195; }
+if (i0) { goto l191; }
 i0 = v18;
 i1 = UINT32_C(71);
 i0 = (i0 < i1);
@@ -43943,7 +43943,7 @@ i1 = UINT32_C(255);
 i0 = i0 & i1;
 i1 = UINT32_C(5);
 i0 = (i0 > i1);
-if (i0) { goto l195; }
+if (i0) { goto l191; }
 }
 }
 j0 = v14;
@@ -43956,16 +43956,16 @@ j0 = j0 + j1;
 v16 = j0;
 j1 = UINT64_C(0);
 i0 = (j0 != j1);
-if (i0) { goto l196; }
+if (i0) { goto l192; }
 j0 = v5;
 j1 = UINT64_C(18446744073709551605);
 j0 = j0 + j1;
 j1 = UINT64_C(18446744073709551609);
 i0 = (j0 < j1);
-if (i0) { goto l82; }
+if (i0) { goto l78; }
 j0 = v12;
 i0 = (j0 == 0);
-if (i0) { goto l81; }
+if (i0) { goto l77; }
 i0 = UINT32_C(1);
 j1 = v3;
 p103 = read_at(j1, m, 1u);
@@ -43974,16 +43974,16 @@ i0 = i0 << (i1 & 31);
 i1 = UINT32_C(86);
 i0 = i0 & i1;
 i0 = (i0 == 0);
-if (i0) { goto l82; }
+if (i0) { goto l78; }
 j0 = v12;
 j1 = UINT64_C(18446744073709551615);
 j0 = j0 + j1;
 v17 = j0;
 i0 = (j0 == 0);
-if (i0) { goto l81; }
+if (i0) { goto l77; }
 j0 = v25;
 v2 = j0;
-l198:;
+l194:;
 i0 = UINT32_C(1);
 j1 = v2;
 p104 = read_at(j1, m, 1u);
@@ -43992,7 +43992,7 @@ i0 = i0 << (i1 & 31);
 i1 = UINT32_C(41);
 i0 = i0 & i1;
 i0 = (i0 == 0);
-if (i0) { goto l82; }
+if (i0) { goto l78; }
 j0 = v2;
 j1 = UINT64_C(2);
 j0 = j0 + j1;
@@ -44003,9 +44003,9 @@ j0 = j0 + j1;
 v17 = j0;
 i0 = (j0 == 0);
 i0 = (i0 == 0);
-if (i0) { goto l198; }
-goto l81;
-l195:;
+if (i0) { goto l194; }
+goto l77;
+l191:;
 j0 = v5;
 j1 = UINT64_C(10);
 i0 = (j0 > j1);
@@ -44021,7 +44021,7 @@ j0 = UINT64_C(0);
 v14 = j0;
 i0 = UINT32_C(0);
 v19 = i0;
-l200:;
+l196:;
 i0 = v19;
 v13 = i0;
 j0 = v15;
@@ -44038,15 +44038,15 @@ v19 = i0;
 i0 = v18;
 i1 = UINT32_C(58);
 i0 = (i0 < i1);
-if (i0) { goto l201; }
+if (i0) { goto l197; }
 i0 = v18;
 i1 = UINT32_C(65);
 i0 = (i0 < i1);
-if (i0) { goto l202; }
+if (i0) { goto l198; }
 i0 = v18;
 i1 = UINT32_C(71);
 i0 = (i0 < i1);
-if (i0) { goto l201; }
+if (i0) { goto l197; }
 i0 = v18;
 i1 = UINT32_C(4294967199);
 i0 = i0 + i1;
@@ -44054,8 +44054,8 @@ i1 = UINT32_C(255);
 i0 = i0 & i1;
 i1 = UINT32_C(6);
 i0 = (i0 < i1);
-if (i0) { goto l201; }
-goto l202;
+if (i0) { goto l197; }
+goto l198;
 }
 i0 = v18;
 i1 = UINT32_C(32);
@@ -44063,9 +44063,9 @@ i0 = (i0 != i1);
 if (!i0) {
 i0 = v13;
 v19 = i0;
-goto l201;
+goto l197;
 }
-l202:;
+l198:;
 j0 = v7;
 i1 = v18;
 store8(p1 + 321, i1);
@@ -44082,24 +44082,24 @@ j3 = UINT64_C(320);
 j2 = j2 + j3;
 i0 = core_slice_reads_slice_T_contains(m, j0, j1, j2);
 i0 = (i0 == 0);
-if (i0) { goto l199; }
-l201:;
+if (i0) { goto l195; }
+l197:;
 j0 = v9;
 j1 = v14;
 j2 = UINT64_C(1);
 j1 = j1 + j2;
 v14 = j1;
 i0 = (j0 != j1);
-if (i0) { goto l200; }
+if (i0) { goto l196; }
 i0 = v19;
 i1 = UINT32_C(1);
 i0 = i0 & i1;
-if (i0) { goto l82; }
+if (i0) { goto l78; }
 }
-l199:;
+l195:;
 j0 = v4;
 v9 = j0;
-l206:;
+l202:;
 j0 = v30;
 j1 = v9;
 j0 = j0 + j1;
@@ -44110,31 +44110,31 @@ i1 = UINT32_C(4294967262);
 i0 = i0 + i1;
 switch (i0) {
 case 0:
-goto l205;
+goto l201;
 case 1:
-goto l204;
+goto l200;
 case 2:
-goto l204;
+goto l200;
 case 3:
-goto l204;
+goto l200;
 case 4:
-goto l204;
+goto l200;
 case 5:
-goto l205;
+goto l201;
 case 6:
-goto l204;
+goto l200;
 case 7:
-goto l207;
+goto l203;
 case 8:
-goto l204;
+goto l200;
 case 9:
-goto l204;
+goto l200;
 case 10:
-goto l207;
+goto l203;
 default:
-goto l208;
+goto l204;
 }
-l208:;
+l204:;
 i0 = v18;
 i1 = UINT32_C(125);
 i0 = (i0 == i1);
@@ -44142,9 +44142,9 @@ if (!i0) {
 i0 = v18;
 i1 = UINT32_C(93);
 i0 = (i0 != i1);
-if (i0) { goto l204; }
+if (i0) { goto l200; }
 }
-l207:;
+l203:;
 j0 = v17;
 j1 = UINT64_C(18446744073709551615);
 j0 = j0 + j1;
@@ -44155,9 +44155,9 @@ j2 = UINT64_C(18446744073709551615);
 j1 = j1 + j2;
 v9 = j1;
 i0 = (j0 != j1);
-if (i0) { goto l206; }
-goto l204;
-l205:;
+if (i0) { goto l202; }
+goto l200;
+l201:;
 j0 = v7;
 i1 = UINT32_C(1);
 store16(p1 + 320, i1);
@@ -44173,7 +44173,7 @@ j0 = j0 + j1;
 v2 = j0;
 i0 = UINT32_C(0);
 v19 = i0;
-l209:;
+l205:;
 i0 = v19;
 v13 = i0;
 j0 = v15;
@@ -44188,15 +44188,15 @@ v19 = i0;
 i0 = v18;
 i1 = UINT32_C(58);
 i0 = (i0 < i1);
-if (i0) { goto l210; }
+if (i0) { goto l206; }
 i0 = v18;
 i1 = UINT32_C(65);
 i0 = (i0 < i1);
-if (i0) { goto l211; }
+if (i0) { goto l207; }
 i0 = v18;
 i1 = UINT32_C(71);
 i0 = (i0 < i1);
-if (i0) { goto l210; }
+if (i0) { goto l206; }
 i0 = v18;
 i1 = UINT32_C(4294967199);
 i0 = i0 + i1;
@@ -44204,8 +44204,8 @@ i1 = UINT32_C(255);
 i0 = i0 & i1;
 i1 = UINT32_C(6);
 i0 = (i0 < i1);
-if (i0) { goto l210; }
-goto l211;
+if (i0) { goto l206; }
+goto l207;
 }
 i0 = v18;
 i1 = UINT32_C(32);
@@ -44213,9 +44213,9 @@ i0 = (i0 != i1);
 if (!i0) {
 i0 = v13;
 v19 = i0;
-goto l210;
+goto l206;
 }
-l211:;
+l207:;
 j0 = v7;
 i1 = v18;
 store8(p1 + 321, i1);
@@ -44232,8 +44232,8 @@ j3 = UINT64_C(320);
 j2 = j2 + j3;
 i0 = core_slice_reads_slice_T_contains(m, j0, j1, j2);
 i0 = (i0 == 0);
-if (i0) { goto l204; }
-l210:;
+if (i0) { goto l200; }
+l206:;
 j0 = v15;
 j1 = UINT64_C(1);
 j0 = j0 + j1;
@@ -44244,13 +44244,13 @@ j0 = j0 + j1;
 v17 = j0;
 i0 = (j0 == 0);
 i0 = (i0 == 0);
-if (i0) { goto l209; }
+if (i0) { goto l205; }
 i0 = v19;
 i1 = UINT32_C(1);
 i0 = i0 & i1;
-if (i0) { goto l82; }
+if (i0) { goto l78; }
 }
-l204:;
+l200:;
 j0 = v3;
 j1 = UINT64_C(528);
 j0 = j0 + j1;
@@ -44259,7 +44259,7 @@ j0 = UINT64_C(0);
 v15 = j0;
 j0 = v6;
 v9 = j0;
-l213:;
+l209:;
 j0 = v7;
 j1 = UINT64_C(192);
 j0 = j0 + j1;
@@ -44307,14 +44307,14 @@ i0 = (j0 >= j1);
 if (!i0) {
 j0 = v9;
 v2 = j0;
-l215:;
+l211:;
 j0 = v2;
 p112 = read_at(j0, m, 1u);
 i0 = load8(p112 + 0);
 v18 = i0;
 i1 = UINT32_C(48);
 i0 = (i0 < i1);
-if (i0) { goto l82; }
+if (i0) { goto l78; }
 i0 = v18;
 i1 = UINT32_C(58);
 i0 = (i0 < i1);
@@ -44322,7 +44322,7 @@ if (!i0) {
 i0 = v18;
 i1 = UINT32_C(65);
 i0 = (i0 < i1);
-if (i0) { goto l82; }
+if (i0) { goto l78; }
 i0 = v18;
 i1 = UINT32_C(71);
 i0 = (i0 < i1);
@@ -44334,7 +44334,7 @@ i1 = UINT32_C(255);
 i0 = i0 & i1;
 i1 = UINT32_C(5);
 i0 = (i0 > i1);
-if (i0) { goto l82; }
+if (i0) { goto l78; }
 }
 }
 j0 = v2;
@@ -44347,7 +44347,7 @@ j0 = j0 + j1;
 v17 = j0;
 j1 = UINT64_C(0);
 i0 = (j0 != j1);
-if (i0) { goto l215; }
+if (i0) { goto l211; }
 }
 }
 }
@@ -44369,7 +44369,7 @@ if (!i0) {
 i0 = v18;
 i1 = UINT32_C(65);
 i0 = (i0 < i1);
-if (i0) { goto l218; }
+if (i0) { goto l214; }
 i0 = v18;
 i1 = UINT32_C(71);
 i0 = (i0 < i1);
@@ -44381,7 +44381,7 @@ i1 = UINT32_C(255);
 i0 = i0 & i1;
 i1 = UINT32_C(5);
 i0 = (i0 > i1);
-if (i0) { goto l218; }
+if (i0) { goto l214; }
 }
 }
 j0 = v15;
@@ -44390,10 +44390,10 @@ j0 = j0 + j1;
 v15 = j0;
 j1 = v34;
 i0 = (j0 >= j1);
-if (i0) { goto l81; }
-goto l217;
+if (i0) { goto l77; }
+goto l213;
 }
-l218:;
+l214:;
 j0 = v7;
 i1 = v18;
 store8(p1 + 321, i1);
@@ -44413,11 +44413,11 @@ j0 = j0 + j1;
 v15 = j0;
 j1 = v34;
 i0 = (j0 >= j1);
-if (i0) { goto l81; }
+if (i0) { goto l77; }
 i0 = v18;
 i0 = (i0 == 0);
-if (i0) { goto l81; }
-l217:;
+if (i0) { goto l77; }
+l213:;
 j0 = v9;
 j1 = UINT64_C(1);
 j0 = j0 + j1;
@@ -44427,8 +44427,8 @@ j1 = UINT64_C(520);
 j0 = j0 + j1;
 i0 = load8(p100 + 0);
 v10 = i0;
-goto l213;
-l82:;
+goto l209;
+l78:;
 j0 = v3;
 j1 = UINT64_C(768);
 j0 = j0 + j1;
@@ -44436,8 +44436,8 @@ p114 = read_at(j0, m, 1u);
 i0 = load8(p114 + 0);
 i1 = UINT32_C(1);
 i0 = (i0 != i1);
-if (i0) { goto l74; }
-l81:;
+if (i0) { goto l70; }
+l77:;
 j0 = v21;
 j1 = UINT64_C(784);
 j0 = j0 + j1;
@@ -44456,9 +44456,9 @@ j0 = j0 + j1;
 v24 = j0;
 j1 = v26;
 i0 = (j0 == j1);
-if (i0) { goto l15; }
-goto l80;
-l74:;
+if (i0) { goto l11; }
+goto l76;
+l70:;
 j0 = v1;
 j1 = UINT64_C(44936);
 j0 = j0 + j1;
@@ -44568,21 +44568,21 @@ j0 = j0 + j1;
 j1 = UINT64_C(0);
 p123 = write_at(j0, m, 8u);
 store64(p123 + 0, j1);
-l17:;
+l13:;
 i0 = UINT32_C(4);
 v19 = i0;
 i0 = UINT32_C(2);
 v18 = i0;
 goto l2;
-l16:;
+l12:;
 i0 = UINT32_C(0);
 v19 = i0;
 j0 = v17;
 j1 = UINT64_C(15);
 i0 = (j0 > j1);
-if (i0) { goto l14; }
+if (i0) { goto l10; }
 goto l2;
-l15:;
+l11:;
 j0 = v6;
 j1 = v4;
 j0 = fio_log_shapes_sum_of(m, j0, j1);
@@ -44602,7 +44602,7 @@ j0 = j0 + j1;
 v3 = j0;
 j0 = v15;
 v2 = j0;
-l232:;
+l228:;
 j0 = v3;
 j1 = UINT64_C(18446744073709551606);
 j0 = j0 + j1;
@@ -44610,7 +44610,7 @@ p125 = read_at(j0, m, 8u);
 j0 = load64(p125 + 0);
 j1 = v17;
 i0 = (j0 == j1);
-if (i0) { goto l231; }
+if (i0) { goto l227; }
 j0 = v3;
 j1 = UINT64_C(16);
 j0 = j0 + j1;
@@ -44620,9 +44620,9 @@ j1 = UINT64_C(18446744073709551615);
 j0 = j0 + j1;
 v2 = j0;
 i0 = (j0 == 0);
-if (i0) { goto l230; }
-goto l232;
-l231:;
+if (i0) { goto l226; }
+goto l228;
+l227:;
 j0 = v3;
 j1 = UINT64_C(18446744073709551614);
 j0 = j0 + j1;
@@ -44655,21 +44655,21 @@ v18 = i0;
 i0 = v19;
 i1 = UINT32_C(999);
 i0 = (i0 > i1);
-if (i0) { goto l228; }
+if (i0) { goto l224; }
 j0 = v2;
 i1 = v13;
 i2 = UINT32_C(1);
 i1 = i1 + i2;
 p127 = write_at(j0, m, 2u);
 store16(p127 + 0, i1);
-goto l228;
-l230:;
+goto l224;
+l226:;
 i0 = UINT32_C(0);
 v18 = i0;
 j0 = v15;
 j1 = UINT64_C(256);
 i0 = (j0 == j1);
-if (i0) { goto l228; }
+if (i0) { goto l224; }
 }
 j0 = v1;
 j1 = UINT64_C(16152);
@@ -44693,7 +44693,7 @@ p129 = write_at(j0, m, 8u);
 store64(p129 + 0, j1);
 i0 = UINT32_C(0);
 v18 = i0;
-l228:;
+l224:;
 j0 = UINT64_C(0);
 v15 = j0;
 j0 = UINT64_C(0);
@@ -44807,7 +44807,7 @@ p131 += 896;
 }
 j0 = v17;
 i0 = (j0 == 0);
-if (i0) { goto l233; }
+if (i0) { goto l229; }
 }
 j0 = v15;
 j1 = UINT64_C(224);
@@ -44845,7 +44845,7 @@ if (!i0) break;
 p132 += 224;
 }
 }
-l233:;
+l229:;
 j0 = v24;
 j1 = UINT64_C(18446744073709551615);
 j2 = v31;
@@ -44893,7 +44893,7 @@ j0 = j0 + j1;
 v16 = j0;
 j0 = UINT64_C(0);
 v3 = j0;
-l239:;
+l235:;
 j0 = v6;
 j1 = v3;
 j0 = j0 + j1;
@@ -44902,7 +44902,7 @@ i0 = load8(p135 + 0);
 v18 = i0;
 i1 = UINT32_C(47);
 i0 = (i0 <= i1);
-if (i0) { goto l238; }
+if (i0) { goto l234; }
 i0 = v18;
 i1 = UINT32_C(58);
 i0 = (i0 < i1);
@@ -44910,7 +44910,7 @@ if (!i0) {
 i0 = v18;
 i1 = UINT32_C(65);
 i0 = (i0 < i1);
-if (i0) { goto l238; }
+if (i0) { goto l234; }
 i0 = v18;
 i1 = UINT32_C(71);
 i0 = (i0 < i1);
@@ -44922,7 +44922,7 @@ i1 = UINT32_C(255);
 i0 = i0 & i1;
 i1 = UINT32_C(5);
 i0 = (i0 > i1);
-if (i0) { goto l238; }
+if (i0) { goto l234; }
 }
 }
 j0 = v4;
@@ -44931,9 +44931,9 @@ j2 = UINT64_C(1);
 j1 = j1 + j2;
 v3 = j1;
 i0 = (j0 != j1);
-if (i0) { goto l239; }
-goto l237;
-l238:;
+if (i0) { goto l235; }
+goto l233;
+l234:;
 j0 = UINT64_C(0);
 v2 = j0;
 i0 = UINT32_C(0);
@@ -44942,7 +44942,7 @@ i0 = UINT32_C(0);
 v10 = i0;
 j0 = UINT64_C(0);
 v3 = j0;
-l241:;
+l237:;
 i0 = v19;
 v11 = i0;
 j0 = UINT64_C(18446744073709551615);
@@ -44973,7 +44973,7 @@ i0 = (i0 >= i1);
 if (!i0) {
 i0 = UINT32_C(0);
 v13 = i0;
-goto l242;
+goto l238;
 }
 i0 = v18;
 i1 = UINT32_C(58);
@@ -44981,19 +44981,19 @@ i0 = (i0 >= i1);
 if (!i0) {
 i0 = UINT32_C(1);
 v11 = i0;
-goto l237;
+goto l233;
 }
 i0 = UINT32_C(0);
 v13 = i0;
 i0 = v18;
 i1 = UINT32_C(65);
 i0 = (i0 < i1);
-if (i0) { goto l242; }
+if (i0) { goto l238; }
 i0 = v18;
 i1 = UINT32_C(71);
 i0 = (i0 < i1);
-if (i0) { goto l244; }
-goto l243;
+if (i0) { goto l240; }
+goto l239;
 }
 i0 = UINT32_C(0);
 v19 = i0;
@@ -45005,7 +45005,7 @@ i0 = (i0 >= i1);
 if (!i0) {
 i0 = UINT32_C(0);
 v13 = i0;
-goto l242;
+goto l238;
 }
 i0 = v18;
 i1 = UINT32_C(103);
@@ -45014,19 +45014,19 @@ if (!i0) {
 i0 = v18;
 i1 = UINT32_C(123);
 i0 = (i0 < i1);
-if (i0) { goto l243; }
+if (i0) { goto l239; }
 i0 = UINT32_C(0);
 v13 = i0;
 i0 = v18;
 i0 = (uint32_t)extend(i0 & 255, 7);
 i1 = UINT32_C(4294967295);
 i0 = (SIGNED32(i0) > SIGNED32(i1));
-if (i0) { goto l242; }
+if (i0) { goto l238; }
 i0 = UINT32_C(1);
 v11 = i0;
-goto l237;
+goto l233;
 }
-l244:;
+l240:;
 i0 = v11;
 j1 = v17;
 j2 = UINT64_C(2);
@@ -45037,8 +45037,8 @@ j0 = v17;
 v2 = j0;
 i0 = v11;
 v19 = i0;
-goto l242;
-l243:;
+goto l238;
+l239:;
 j0 = v17;
 j1 = UINT64_C(2);
 i0 = (j0 > j1);
@@ -45047,7 +45047,7 @@ i0 = UINT32_C(1);
 v19 = i0;
 j0 = v17;
 v2 = j0;
-l242:;
+l238:;
 i0 = v10;
 i1 = v13;
 i0 = i0 | i1;
@@ -45058,7 +45058,7 @@ j2 = UINT64_C(1);
 j1 = j1 + j2;
 v3 = j1;
 i0 = (j0 != j1);
-if (i0) { goto l241; }
+if (i0) { goto l237; }
 i0 = v8;
 i1 = v10;
 i2 = UINT32_C(1);
@@ -45080,7 +45080,7 @@ j0 = v1;
 j1 = UINT64_C(12752);
 j0 = j0 + j1;
 v17 = j0;
-l250:;
+l246:;
 j0 = v16;
 j1 = UINT64_C(216);
 j0 = j0 + j1;
@@ -45101,7 +45101,7 @@ j0 = UINT64_C(0);
 v3 = j0;
 i0 = UINT32_C(0);
 v18 = i0;
-l252:;
+l248:;
 i0 = v18;
 i1 = UINT32_C(1);
 i0 = i0 & i1;
@@ -45109,7 +45109,7 @@ i0 = (i0 == 0);
 if (!i0) {
 i0 = UINT32_C(1);
 v18 = i0;
-goto l253;
+goto l249;
 }
 i0 = UINT32_C(0);
 v18 = i0;
@@ -45123,29 +45123,29 @@ i1 = UINT32_C(4294967264);
 i0 = i0 + i1;
 switch (i0) {
 case 0:
-goto l253;
+goto l249;
 case 1:
-goto l256;
+goto l252;
 case 2:
-goto l256;
+goto l252;
 case 3:
-goto l253;
+goto l249;
 default:
-goto l257;
+goto l253;
 }
-l257:;
+l253:;
 i0 = v19;
 i1 = UINT32_C(95);
 i0 = (i0 == i1);
-if (i0) { goto l255; }
-l256:;
+if (i0) { goto l251; }
+l252:;
 i0 = v19;
 i1 = UINT32_C(48);
 i0 = (i0 >= i1);
 if (!i0) {
 i0 = UINT32_C(1);
 v18 = i0;
-goto l253;
+goto l249;
 }
 i0 = v19;
 i1 = UINT32_C(58);
@@ -45157,7 +45157,7 @@ i0 = (i0 >= i1);
 if (!i0) {
 i0 = UINT32_C(1);
 v18 = i0;
-goto l253;
+goto l249;
 }
 i0 = v19;
 i1 = UINT32_C(91);
@@ -45169,7 +45169,7 @@ i0 = (i0 >= i1);
 if (!i0) {
 i0 = UINT32_C(1);
 v18 = i0;
-goto l253;
+goto l249;
 }
 i0 = UINT32_C(1);
 v18 = i0;
@@ -45177,20 +45177,20 @@ i0 = v19;
 i0 = (uint32_t)extend(i0 & 255, 7);
 i1 = UINT32_C(122);
 i0 = (SIGNED32(i0) > SIGNED32(i1));
-if (i0) { goto l253; }
+if (i0) { goto l249; }
 }
 }
-l255:;
+l251:;
 i0 = UINT32_C(0);
 v18 = i0;
-l253:;
+l249:;
 j0 = v2;
 j1 = v3;
 j2 = UINT64_C(1);
 j1 = j1 + j2;
 v3 = j1;
 i0 = (j0 != j1);
-if (i0) { goto l252; }
+if (i0) { goto l248; }
 i0 = v18;
 i0 = (i0 == 0);
 if (!i0) {
@@ -45207,7 +45207,7 @@ j1 = UINT64_C(0);
 store64(p1 + 320, j1);
 j0 = UINT64_C(0);
 v15 = j0;
-l262:;
+l258:;
 j0 = v3;
 j1 = UINT64_C(16);
 i0 = (j0 != j1);
@@ -45224,7 +45224,7 @@ j0 = v7;
 j1 = v7;
 j1 = load64(p1 + 320);
 store64(p1 + 2400, j1);
-goto l261;
+goto l257;
 }
 i0 = UINT32_C(39);
 i1 = UINT32_C(35);
@@ -45262,7 +45262,7 @@ j0 = v3;
 j1 = UINT64_C(1);
 j0 = j0 + j1;
 v3 = j0;
-goto l265;
+goto l261;
 }
 j0 = v7;
 j1 = UINT64_C(320);
@@ -45280,7 +45280,7 @@ p142 = read_at(j0, m, 1u);
 i0 = load8(p142 + 0);
 i1 = UINT32_C(35);
 i0 = (i0 == i1);
-if (i0) { goto l264; }
+if (i0) { goto l260; }
 }
 j0 = v14;
 i1 = UINT32_C(35);
@@ -45290,18 +45290,18 @@ j0 = v3;
 j1 = UINT64_C(1);
 j0 = j0 + j1;
 v3 = j0;
-l265:;
+l261:;
 j0 = v7;
 j1 = v3;
 store64(p1 + 336, j1);
-l264:;
+l260:;
 j0 = v4;
 j1 = v15;
 j2 = UINT64_C(1);
 j1 = j1 + j2;
 v15 = j1;
 i0 = (j0 != j1);
-if (i0) { goto l262; }
+if (i0) { goto l258; }
 j0 = v7;
 j1 = v7;
 j1 = load64(p1 + 336);
@@ -45314,7 +45314,7 @@ j0 = v7;
 j1 = v7;
 j1 = load64(p1 + 320);
 store64(p1 + 2400, j1);
-l261:;
+l257:;
 j0 = UINT64_C(0);
 v3 = j0;
 j0 = v7;
@@ -45328,7 +45328,7 @@ j1 = UINT64_C(0);
 store64(p1 + 320, j1);
 j0 = v4;
 v15 = j0;
-l269:;
+l265:;
 j0 = v3;
 j1 = UINT64_C(16);
 i0 = (j0 != j1);
@@ -45345,7 +45345,7 @@ j0 = v7;
 j1 = v7;
 j1 = load64(p1 + 320);
 store64(p1 + 2376, j1);
-goto l268;
+goto l264;
 }
 i0 = UINT32_C(39);
 i1 = UINT32_C(35);
@@ -45383,7 +45383,7 @@ j0 = v3;
 j1 = UINT64_C(1);
 j0 = j0 + j1;
 v3 = j0;
-goto l272;
+goto l268;
 }
 j0 = v7;
 j1 = UINT64_C(320);
@@ -45401,7 +45401,7 @@ p146 = read_at(j0, m, 1u);
 i0 = load8(p146 + 0);
 i1 = UINT32_C(35);
 i0 = (i0 == i1);
-if (i0) { goto l271; }
+if (i0) { goto l267; }
 }
 j0 = v14;
 i1 = UINT32_C(35);
@@ -45411,18 +45411,18 @@ j0 = v3;
 j1 = UINT64_C(1);
 j0 = j0 + j1;
 v3 = j0;
-l272:;
+l268:;
 j0 = v7;
 j1 = v3;
 store64(p1 + 336, j1);
-l271:;
+l267:;
 j0 = v15;
 j1 = UINT64_C(18446744073709551615);
 j0 = j0 + j1;
 v15 = j0;
 j1 = UINT64_C(0);
 i0 = (j0 != j1);
-if (i0) { goto l269; }
+if (i0) { goto l265; }
 j0 = v7;
 j1 = v7;
 j1 = load64(p1 + 336);
@@ -45435,7 +45435,7 @@ j0 = v7;
 j1 = v7;
 j1 = load64(p1 + 320);
 store64(p1 + 2376, j1);
-l268:;
+l264:;
 j0 = v7;
 j1 = v7;
 j1 = load64(p1 + 2400);
@@ -45476,14 +45476,14 @@ v18 = i0;
 if (!i0) {
 j0 = UINT64_C(0);
 v15 = j0;
-l276:;
+l272:;
 j0 = v14;
 j1 = v15;
 i0 = (j0 != j1);
 if (!i0) {
 j0 = v14;
 v15 = j0;
-goto l275;
+goto l271;
 }
 j0 = v9;
 j1 = v15;
@@ -45498,18 +45498,18 @@ j1 = j1 + j2;
 p150 = read_at(j1, m, 1u);
 i1 = load8(p150 + 0);
 i0 = (i0 != i1);
-if (i0) { goto l275; }
+if (i0) { goto l271; }
 j0 = v12;
 j1 = v15;
 j2 = UINT64_C(1);
 j1 = j1 + j2;
 v15 = j1;
 i0 = (j0 != j1);
-if (i0) { goto l276; }
+if (i0) { goto l272; }
 j0 = v12;
 v15 = j0;
 }
-l275:;
+l271:;
 j0 = v15;
 j1 = v12;
 i0 = (j0 != j1);
@@ -45521,14 +45521,14 @@ v19 = i0;
 j0 = v7;
 j0 = load64(p1 + 2440);
 v15 = j0;
-l279:;
+l275:;
 j0 = v15;
 j1 = v3;
 i0 = (j0 != j1);
 if (!i0) {
 j0 = v15;
 v3 = j0;
-goto l278;
+goto l274;
 }
 j0 = v17;
 j1 = v3;
@@ -45543,17 +45543,17 @@ j1 = j1 + j2;
 p152 = read_at(j1, m, 1u);
 i1 = load8(p152 + 0);
 i0 = (i0 != i1);
-if (i0) { goto l278; }
+if (i0) { goto l274; }
 j0 = v2;
 j1 = v3;
 j2 = UINT64_C(1);
 j1 = j1 + j2;
 v3 = j1;
 i0 = (j0 != j1);
-if (i0) { goto l279; }
+if (i0) { goto l275; }
 j0 = v2;
 v3 = j0;
-l278:;
+l274:;
 j0 = v3;
 j1 = v2;
 i0 = (j0 == j1);
@@ -45564,14 +45564,14 @@ i0 = i0 | i1;
 v13 = i0;
 j0 = UINT64_C(0);
 v3 = j0;
-l282:;
+l278:;
 j0 = v15;
 j1 = v3;
 i0 = (j0 != j1);
 if (!i0) {
 j0 = v15;
 v3 = j0;
-goto l281;
+goto l277;
 }
 j0 = v17;
 j1 = v3;
@@ -45586,29 +45586,29 @@ j1 = j1 + j2;
 p154 = read_at(j1, m, 1u);
 i1 = load8(p154 + 0);
 i0 = (i0 != i1);
-if (i0) { goto l281; }
+if (i0) { goto l277; }
 j0 = v2;
 j1 = v3;
 j2 = UINT64_C(1);
 j1 = j1 + j2;
 v3 = j1;
 i0 = (j0 != j1);
-if (i0) { goto l282; }
+if (i0) { goto l278; }
 j0 = v2;
 v3 = j0;
-l281:;
+l277:;
 i0 = v18;
 if (!i0) {
 j0 = UINT64_C(0);
 v2 = j0;
-l286:;
+l282:;
 j0 = v14;
 j1 = v2;
 i0 = (j0 != j1);
 if (!i0) {
 j0 = v14;
 v2 = j0;
-goto l285;
+goto l281;
 }
 j0 = v9;
 j1 = v2;
@@ -45623,17 +45623,17 @@ j1 = j1 + j2;
 p156 = read_at(j1, m, 1u);
 i1 = load8(p156 + 0);
 i0 = (i0 != i1);
-if (i0) { goto l285; }
+if (i0) { goto l281; }
 j0 = v12;
 j1 = v2;
 j2 = UINT64_C(1);
 j1 = j1 + j2;
 v2 = j1;
 i0 = (j0 != j1);
-if (i0) { goto l286; }
+if (i0) { goto l282; }
 j0 = v12;
 v2 = j0;
-l285:;
+l281:;
 i0 = v19;
 i1 = v13;
 j2 = v14;
@@ -45659,7 +45659,7 @@ j0 = v7;
 j1 = UINT64_C(2456);
 j0 = j0 + j1;
 v14 = j0;
-l289:;
+l285:;
 i0 = v18;
 i1 = UINT32_C(1);
 i0 = i0 & i1;
@@ -45670,7 +45670,7 @@ i0 = load8(p157 + 0);
 v18 = i0;
 j0 = v2;
 i0 = (j0 == 0);
-if (i0) { goto l288; }
+if (i0) { goto l284; }
 i0 = v18;
 i1 = UINT32_C(35);
 i0 = (i0 != i1);
@@ -45683,18 +45683,18 @@ j0 = v12;
 j1 = UINT64_C(1);
 j0 = j0 + j1;
 v12 = j0;
-goto l290;
+goto l286;
 }
 j0 = v2;
 i0 = (j0 == 0);
-if (i0) { goto l249; }
+if (i0) { goto l245; }
 j0 = v12;
 j1 = UINT64_C(1);
 j0 = j0 + j1;
 v12 = j0;
 i0 = UINT32_C(1);
 v18 = i0;
-l290:;
+l286:;
 j0 = v14;
 j1 = UINT64_C(1);
 j0 = j0 + j1;
@@ -45703,26 +45703,26 @@ j0 = v2;
 j1 = UINT64_C(18446744073709551615);
 j0 = j0 + j1;
 v2 = j0;
-goto l289;
-l288:;
+goto l285;
+l284:;
 i0 = v18;
 i1 = UINT32_C(4294967264);
 i0 = i0 + i1;
 switch (i0) {
 case 0:
-goto l284;
+goto l280;
 case 1:
-goto l249;
+goto l245;
 case 2:
-goto l249;
+goto l245;
 case 3:
-goto l284;
+goto l280;
 default:
-goto l249;
+goto l245;
 }
 }
 }
-l284:;
+l280:;
 i0 = v13;
 i1 = v19;
 j2 = v15;
@@ -45745,7 +45745,7 @@ j0 = v7;
 j1 = UINT64_C(2424);
 j0 = j0 + j1;
 v3 = j0;
-l292:;
+l288:;
 i0 = v18;
 i1 = UINT32_C(1);
 i0 = i0 & i1;
@@ -45753,7 +45753,7 @@ i0 = (i0 == 0);
 if (!i0) {
 i0 = UINT32_C(1);
 v18 = i0;
-goto l293;
+goto l289;
 }
 i0 = UINT32_C(0);
 v18 = i0;
@@ -45765,29 +45765,29 @@ i1 = UINT32_C(4294967264);
 i0 = i0 + i1;
 switch (i0) {
 case 0:
-goto l293;
+goto l289;
 case 1:
-goto l296;
+goto l292;
 case 2:
-goto l296;
+goto l292;
 case 3:
-goto l293;
+goto l289;
 default:
-goto l297;
+goto l293;
 }
-l297:;
+l293:;
 i0 = v19;
 i1 = UINT32_C(95);
 i0 = (i0 == i1);
-if (i0) { goto l295; }
-l296:;
+if (i0) { goto l291; }
+l292:;
 i0 = v19;
 i1 = UINT32_C(48);
 i0 = (i0 >= i1);
 if (!i0) {
 i0 = UINT32_C(1);
 v18 = i0;
-goto l293;
+goto l289;
 }
 i0 = v19;
 i1 = UINT32_C(58);
@@ -45799,7 +45799,7 @@ i0 = (i0 >= i1);
 if (!i0) {
 i0 = UINT32_C(1);
 v18 = i0;
-goto l293;
+goto l289;
 }
 i0 = v19;
 i1 = UINT32_C(91);
@@ -45811,7 +45811,7 @@ i0 = (i0 >= i1);
 if (!i0) {
 i0 = UINT32_C(1);
 v18 = i0;
-goto l293;
+goto l289;
 }
 i0 = UINT32_C(1);
 v18 = i0;
@@ -45819,13 +45819,13 @@ i0 = v19;
 i0 = (uint32_t)extend(i0 & 255, 7);
 i1 = UINT32_C(122);
 i0 = (SIGNED32(i0) > SIGNED32(i1));
-if (i0) { goto l293; }
+if (i0) { goto l289; }
 }
 }
-l295:;
+l291:;
 i0 = UINT32_C(0);
 v18 = i0;
-l293:;
+l289:;
 j0 = v3;
 j1 = UINT64_C(1);
 j0 = j0 + j1;
@@ -45836,13 +45836,13 @@ j0 = j0 + j1;
 v2 = j0;
 i0 = (j0 == 0);
 i0 = (i0 == 0);
-if (i0) { goto l292; }
+if (i0) { goto l288; }
 i0 = v18;
 i0 = (i0 == 0);
 if (!i0) {
 i0 = UINT32_C(1);
 v11 = i0;
-goto l237;
+goto l233;
 }
 }
 }
@@ -45866,11 +45866,11 @@ j0 = j0 + j1;
 v20 = j0;
 j1 = UINT64_C(0);
 i0 = (j0 != j1);
-if (i0) { goto l250; }
+if (i0) { goto l246; }
 i0 = UINT32_C(0);
 v11 = i0;
-goto l237;
-l249:;
+goto l233;
+l245:;
 i0 = UINT32_C(1);
 v11 = i0;
 }
@@ -45878,7 +45878,7 @@ v11 = i0;
 }
 }
 }
-l237:;
+l233:;
 j0 = v1;
 p159 = read_at(j0, m, 1u);
 i0 = load8(p159 + 0);
@@ -45891,7 +45891,7 @@ j0 = v7;
 j1 = UINT64_C(2488);
 j0 = j0 + j1;
 v2 = j0;
-goto l301;
+goto l297;
 }
 j0 = v1;
 j1 = UINT64_C(8);
@@ -45903,7 +45903,7 @@ j0 = j0 + j1;
 p160 = read_at(j0, m, 8u);
 j0 = load64(p160 + 0);
 v3 = j0;
-l301:;
+l297:;
 j0 = v2;
 j1 = v3;
 j2 = v6;
@@ -45938,7 +45938,7 @@ i0 = (j0 == 0);
 if (!i0) {
 j0 = UINT64_C(0);
 v24 = j0;
-l307:;
+l303:;
 j0 = v31;
 j1 = v24;
 j2 = UINT64_C(784);
@@ -45979,7 +45979,7 @@ j0 = v6;
 v2 = j0;
 j0 = v4;
 v17 = j0;
-l309:;
+l305:;
 j0 = v7;
 j1 = UINT64_C(176);
 j0 = j0 + j1;
@@ -46029,7 +46029,7 @@ j3 = load64(p1 + 184);
 j4 = v29;
 j5 = v23;
 i0 = fio_log_cut_has_message(m, j0, j1, j2, j3, j4, j5);
-if (i0) { goto l304; }
+if (i0) { goto l300; }
 }
 j0 = v2;
 j1 = UINT64_C(1);
@@ -46041,7 +46041,7 @@ j0 = j0 + j1;
 v17 = j0;
 j1 = UINT64_C(0);
 i0 = (j0 != j1);
-if (i0) { goto l309; }
+if (i0) { goto l305; }
 }
 }
 j0 = v24;
@@ -46050,12 +46050,12 @@ j0 = j0 + j1;
 v24 = j0;
 j1 = v20;
 i0 = (j0 != j1);
-if (i0) { goto l307; }
+if (i0) { goto l303; }
 j0 = v1;
 i0 = load8(p161 + 0);
 i1 = UINT32_C(1);
 i0 = (i0 != i1);
-if (i0) { goto l305; }
+if (i0) { goto l301; }
 j0 = v1;
 j1 = UINT64_C(12552);
 j0 = j0 + j1;
@@ -46068,7 +46068,7 @@ i0 = (j0 == 0);
 if (!i0) {
 j0 = UINT64_C(0);
 v3 = j0;
-l311:;
+l307:;
 j0 = v31;
 j1 = v3;
 j2 = UINT64_C(784);
@@ -46157,13 +46157,13 @@ i0 = (j0 > j1);
 if (!i0) {
 j0 = UINT64_C(3);
 v17 = j0;
-l314:;
+l310:;
 j0 = v9;
 v14 = j0;
 j0 = v15;
 j1 = v17;
 i0 = (j0 == j1);
-if (i0) { goto l313; }
+if (i0) { goto l309; }
 j0 = v7;
 j1 = UINT64_C(128);
 j0 = j0 + j1;
@@ -46178,7 +46178,7 @@ j0 = v7;
 i0 = load8(p1 + 128);
 i1 = UINT32_C(1);
 i0 = (i0 != i1);
-if (i0) { goto l313; }
+if (i0) { goto l309; }
 j0 = v17;
 j1 = UINT64_C(1);
 j0 = j0 + j1;
@@ -46188,11 +46188,11 @@ j0 = load64(p1 + 136);
 v9 = j0;
 j1 = v4;
 i0 = (j0 <= j1);
-if (i0) { goto l314; }
+if (i0) { goto l310; }
 }
 }
 }
-l313:;
+l309:;
 j0 = v7;
 i1 = UINT32_C(1);
 store16(p1 + 320, i1);
@@ -46216,7 +46216,7 @@ i0 = UINT32_C(0);
 v19 = i0;
 i0 = UINT32_C(0);
 v13 = i0;
-l315:;
+l311:;
 i0 = v19;
 v10 = i0;
 j0 = v17;
@@ -46234,7 +46234,7 @@ i0 = i0 & i1;
 v19 = i0;
 i1 = UINT32_C(95);
 i0 = (i0 == i1);
-if (i0) { goto l312; }
+if (i0) { goto l308; }
 i0 = UINT32_C(1);
 v13 = i0;
 i0 = v19;
@@ -46243,7 +46243,7 @@ i0 = (i0 >= i1);
 if (!i0) {
 i0 = v10;
 v19 = i0;
-goto l316;
+goto l312;
 }
 i0 = v18;
 i1 = UINT32_C(255);
@@ -46251,14 +46251,14 @@ i0 = i0 & i1;
 v19 = i0;
 i1 = UINT32_C(58);
 i0 = (i0 < i1);
-if (i0) { goto l312; }
+if (i0) { goto l308; }
 i0 = v19;
 i1 = UINT32_C(65);
 i0 = (i0 >= i1);
 if (!i0) {
 i0 = v10;
 v19 = i0;
-goto l316;
+goto l312;
 }
 i0 = v18;
 i1 = UINT32_C(255);
@@ -46266,14 +46266,14 @@ i0 = i0 & i1;
 v19 = i0;
 i1 = UINT32_C(91);
 i0 = (i0 < i1);
-if (i0) { goto l312; }
+if (i0) { goto l308; }
 i0 = v19;
 i1 = UINT32_C(97);
 i0 = (i0 >= i1);
-if (i0) { goto l320; }
+if (i0) { goto l316; }
 i0 = v10;
 v19 = i0;
-goto l316;
+goto l312;
 }
 i0 = v18;
 i1 = UINT32_C(255);
@@ -46289,18 +46289,18 @@ v13 = i0;
 i0 = v32;
 i1 = UINT32_C(58);
 i0 = (i0 < i1);
-if (i0) { goto l316; }
+if (i0) { goto l312; }
 i0 = v18;
 i1 = UINT32_C(255);
 i0 = i0 & i1;
 v32 = i0;
 i1 = UINT32_C(65);
 i0 = (i0 < i1);
-if (i0) { goto l319; }
+if (i0) { goto l315; }
 i0 = v32;
 i1 = UINT32_C(71);
 i0 = (i0 < i1);
-if (i0) { goto l316; }
+if (i0) { goto l312; }
 i0 = v18;
 i1 = UINT32_C(4294967199);
 i0 = i0 + i1;
@@ -46308,24 +46308,24 @@ i1 = UINT32_C(255);
 i0 = i0 & i1;
 i1 = UINT32_C(6);
 i0 = (i0 < i1);
-if (i0) { goto l316; }
-goto l319;
+if (i0) { goto l312; }
+goto l315;
 }
 i0 = v32;
 i1 = UINT32_C(32);
 i0 = (i0 != i1);
-if (i0) { goto l319; }
-goto l318;
-l320:;
+if (i0) { goto l315; }
+goto l314;
+l316:;
 i0 = v10;
 v19 = i0;
 i0 = v18;
 i0 = (uint32_t)extend(i0 & 255, 7);
 i1 = UINT32_C(122);
 i0 = (SIGNED32(i0) > SIGNED32(i1));
-if (i0) { goto l316; }
-goto l312;
-l319:;
+if (i0) { goto l312; }
+goto l308;
+l315:;
 j0 = v7;
 i1 = v18;
 store8(p1 + 321, i1);
@@ -46346,38 +46346,38 @@ i0 = i0 & i1;
 v19 = i0;
 i1 = UINT32_C(95);
 i0 = (i0 == i1);
-if (i0) { goto l312; }
+if (i0) { goto l308; }
 i0 = UINT32_C(1);
 v13 = i0;
 i0 = v19;
 i1 = UINT32_C(65);
 i0 = (i0 >= i1);
-if (i0) { goto l317; }
+if (i0) { goto l313; }
 i0 = v10;
 v19 = i0;
-goto l316;
+goto l312;
 }
-l318:;
+l314:;
 i0 = UINT32_C(0);
 v13 = i0;
 i0 = v10;
 v19 = i0;
-goto l316;
-l317:;
+goto l312;
+l313:;
 i0 = v18;
 i1 = UINT32_C(255);
 i0 = i0 & i1;
 v19 = i0;
 i1 = UINT32_C(91);
 i0 = (i0 < i1);
-if (i0) { goto l312; }
+if (i0) { goto l308; }
 i0 = v19;
 i1 = UINT32_C(97);
 i0 = (i0 >= i1);
 if (!i0) {
 i0 = v10;
 v19 = i0;
-goto l316;
+goto l312;
 }
 i0 = v10;
 v19 = i0;
@@ -46385,8 +46385,8 @@ i0 = v18;
 i0 = (uint32_t)extend(i0 & 255, 7);
 i1 = UINT32_C(123);
 i0 = (SIGNED32(i0) < SIGNED32(i1));
-if (i0) { goto l312; }
-l316:;
+if (i0) { goto l308; }
+l312:;
 j0 = v17;
 j1 = UINT64_C(1);
 j0 = j0 + j1;
@@ -46397,28 +46397,28 @@ j0 = j0 + j1;
 v15 = j0;
 i0 = (j0 == 0);
 i0 = (i0 == 0);
-if (i0) { goto l315; }
+if (i0) { goto l311; }
 i0 = v19;
 i1 = UINT32_C(1);
 i0 = i0 & i1;
-if (i0) { goto l304; }
+if (i0) { goto l300; }
 }
 }
 }
 }
 }
 }
-l312:;
+l308:;
 j0 = v3;
 j1 = UINT64_C(1);
 j0 = j0 + j1;
 v3 = j0;
 j1 = v20;
 i0 = (j0 != j1);
-if (i0) { goto l311; }
+if (i0) { goto l307; }
 }
 }
-l305:;
+l301:;
 i0 = v11;
 i1 = UINT32_C(1);
 i0 = i0 & i1;
@@ -46438,8 +46438,8 @@ v18 = i1;
 p172 = write_at(j0, m, 1u);
 store8(p172 + 0, i1);
 i0 = v18;
-if (i0) { goto l303; }
-goto l326;
+if (i0) { goto l299; }
+goto l322;
 }
 j0 = v1;
 j1 = UINT64_C(90216);
@@ -46447,7 +46447,7 @@ j0 = j0 + j1;
 i1 = UINT32_C(0);
 p173 = write_at(j0, m, 1u);
 store8(p173 + 0, i1);
-l326:;
+l322:;
 j0 = v6;
 j1 = v4;
 i0 = fio_log_wordings_reason_without_octets(m, j0, j1);
@@ -46508,7 +46508,7 @@ p175 = write_at(j0, m, 8u);
 store64(p175 + 0, j1);
 i0 = UINT32_C(0);
 v19 = i0;
-goto l328;
+goto l324;
 }
 j0 = v1;
 j1 = UINT64_C(79824);
@@ -46526,14 +46526,14 @@ i0 = (i0 == i1);
 if (!i0) {
 i0 = UINT32_C(0);
 v19 = i0;
-goto l328;
+goto l324;
 }
 j0 = v4;
 i0 = (j0 == 0);
 if (!i0) {
 j0 = UINT64_C(0);
 v3 = j0;
-l332:;
+l328:;
 i0 = UINT32_C(0);
 v11 = i0;
 j0 = v6;
@@ -46548,7 +46548,7 @@ i0 = (i0 != i1);
 if (!i0) {
 i0 = UINT32_C(1);
 v10 = i0;
-goto l336;
+goto l332;
 }
 i0 = UINT32_C(3);
 v10 = i0;
@@ -46562,7 +46562,7 @@ i0 = (i0 >= i1);
 if (!i0) {
 i0 = UINT32_C(1);
 v10 = i0;
-goto l336;
+goto l332;
 }
 i0 = v19;
 i1 = UINT32_C(65);
@@ -46576,7 +46576,7 @@ i0 = (i0 >= i1);
 if (!i0) {
 i0 = UINT32_C(0);
 v10 = i0;
-goto l336;
+goto l332;
 }
 i0 = v19;
 i1 = UINT32_C(97);
@@ -46584,7 +46584,7 @@ i0 = (i0 >= i1);
 if (!i0) {
 i0 = UINT32_C(0);
 v11 = i0;
-goto l336;
+goto l332;
 }
 i0 = v19;
 i1 = UINT32_C(123);
@@ -46592,7 +46592,7 @@ i0 = (i0 >= i1);
 if (!i0) {
 i0 = UINT32_C(0);
 v10 = i0;
-goto l336;
+goto l332;
 }
 i0 = UINT32_C(0);
 v11 = i0;
@@ -46600,18 +46600,18 @@ i0 = v19;
 i0 = (uint32_t)extend(i0 & 255, 7);
 i1 = UINT32_C(0);
 i0 = (SIGNED32(i0) < SIGNED32(i1));
-if (i0) { goto l335; }
+if (i0) { goto l331; }
 }
 }
-l336:;
+l332:;
 j0 = v3;
 j1 = UINT64_C(1);
 j0 = j0 + j1;
 v15 = j0;
 j1 = v4;
 i0 = (j0 >= j1);
-if (i0) { goto l333; }
-l342:;
+if (i0) { goto l329; }
+l338:;
 i0 = UINT32_C(1);
 v19 = i0;
 j0 = v6;
@@ -46629,7 +46629,7 @@ i0 = (i0 >= i1);
 if (!i0) {
 i0 = UINT32_C(3);
 v19 = i0;
-goto l343;
+goto l339;
 }
 i0 = v13;
 i1 = UINT32_C(63);
@@ -46641,7 +46641,7 @@ i0 = (i0 >= i1);
 if (!i0) {
 i0 = UINT32_C(3);
 v19 = i0;
-goto l343;
+goto l339;
 }
 i0 = UINT32_C(0);
 v19 = i0;
@@ -46655,7 +46655,7 @@ i0 = (i0 >= i1);
 if (!i0) {
 i0 = UINT32_C(3);
 v19 = i0;
-goto l343;
+goto l339;
 }
 i0 = v13;
 i1 = UINT32_C(123);
@@ -46667,25 +46667,25 @@ i0 = v13;
 i0 = (uint32_t)extend(i0 & 255, 7);
 i1 = UINT32_C(0);
 i0 = (SIGNED32(i0) < SIGNED32(i1));
-if (i0) { goto l333; }
+if (i0) { goto l329; }
 }
 }
 }
 }
-l343:;
+l339:;
 i0 = v19;
 i1 = v10;
 i0 = (i0 != i1);
-if (i0) { goto l333; }
+if (i0) { goto l329; }
 j0 = v4;
 j1 = v15;
 j2 = UINT64_C(1);
 j1 = j1 + j2;
 v15 = j1;
 i0 = (j0 != j1);
-if (i0) { goto l342; }
-goto l334;
-l335:;
+if (i0) { goto l338; }
+goto l330;
+l331:;
 j0 = UINT64_C(1);
 v2 = j0;
 i0 = UINT32_C(0);
@@ -46698,8 +46698,8 @@ j0 = j0 + j1;
 v15 = j0;
 j1 = v4;
 i0 = (j0 >= j1);
-if (i0) { goto l333; }
-l347:;
+if (i0) { goto l329; }
+l343:;
 j0 = v6;
 j1 = v15;
 j0 = j0 + j1;
@@ -46708,7 +46708,7 @@ p179 = read_at(j0, m, 1u);
 i0 = (uint32_t)extend(load8(p179 + 0), 7);
 i1 = UINT32_C(4294967295);
 i0 = (SIGNED32(i0) > SIGNED32(i1));
-if (i0) { goto l333; }
+if (i0) { goto l329; }
 j0 = v2;
 j1 = UINT64_C(3);
 i0 = (j0 < j1);
@@ -46722,15 +46722,15 @@ i1 = UINT32_C(4294967152);
 i0 = i0 + i1;
 switch (i0) {
 case 0:
-goto l349;
+goto l345;
 case 1:
-goto l348;
+goto l344;
 case 2:
-goto l349;
+goto l345;
 default:
-goto l348;
+goto l344;
 }
-l349:;
+l345:;
 j0 = v17;
 j1 = UINT64_C(18446744073709551614);
 j0 = j0 + j1;
@@ -46746,10 +46746,10 @@ p182 = read_at(j0, m, 1u);
 i0 = load8(p182 + 0);
 i1 = UINT32_C(226);
 i0 = (i0 == i1);
-if (i0) { goto l333; }
+if (i0) { goto l329; }
 }
 }
-l348:;
+l344:;
 j0 = v2;
 j1 = UINT64_C(1);
 j0 = j0 + j1;
@@ -46760,11 +46760,11 @@ j2 = UINT64_C(1);
 j1 = j1 + j2;
 v15 = j1;
 i0 = (j0 != j1);
-if (i0) { goto l347; }
-l334:;
+if (i0) { goto l343; }
+l330:;
 j0 = v4;
 v15 = j0;
-l333:;
+l329:;
 j0 = v3;
 j1 = UINT64_C(0);
 i0 = (j0 != j1);
@@ -46782,7 +46782,7 @@ j0 = v7;
 i0 = load8(p1 + 120);
 i1 = UINT32_C(1);
 i0 = (i0 == i1);
-if (i0) { goto l328; }
+if (i0) { goto l324; }
 }
 i0 = v11;
 i0 = (i0 == 0);
@@ -46797,7 +46797,7 @@ j0 = j0 - j1;
 v14 = j0;
 j0 = UINT64_C(0);
 v9 = j0;
-l353:;
+l349:;
 j0 = v14;
 j1 = v9;
 j2 = UINT64_C(24);
@@ -46819,10 +46819,10 @@ j0 = v12;
 v3 = j0;
 j0 = v16;
 v17 = j0;
-l355:;
+l351:;
 j0 = v3;
 i0 = (j0 == 0);
-if (i0) { goto l352; }
+if (i0) { goto l348; }
 j0 = v17;
 p185 = read_at(j0, m, 1u);
 i0 = load8(p185 + 0);
@@ -46859,7 +46859,7 @@ i1 = i3 ? i1 : i2;
 i2 = UINT32_C(255);
 i1 = i1 & i2;
 i0 = (i0 == i1);
-if (i0) { goto l355; }
+if (i0) { goto l351; }
 }
 j0 = v9;
 j1 = UINT64_C(1);
@@ -46867,18 +46867,18 @@ j0 = j0 + j1;
 v9 = j0;
 j1 = UINT64_C(19);
 i0 = (j0 != j1);
-if (i0) { goto l353; }
+if (i0) { goto l349; }
 i0 = UINT32_C(0);
 v19 = i0;
-goto l328;
-l352:;
+goto l324;
+l348:;
 j0 = v9;
 j1 = UINT64_C(18);
 i0 = (j0 <= j1);
 if (!i0) {
 i0 = UINT32_C(0);
 v19 = i0;
-goto l328;
+goto l324;
 }
 }
 j0 = v15;
@@ -46886,11 +46886,11 @@ v3 = j0;
 j0 = v15;
 j1 = v4;
 i0 = (j0 < j1);
-if (i0) { goto l332; }
+if (i0) { goto l328; }
 }
 i0 = UINT32_C(1);
 v19 = i0;
-l328:;
+l324:;
 j0 = v1;
 j1 = UINT64_C(79832);
 j0 = j0 + j1;
@@ -46901,14 +46901,14 @@ i0 = UINT32_C(5);
 v19 = i0;
 goto l2;
 }
-l304:;
+l300:;
 j0 = v1;
 j1 = UINT64_C(90216);
 j0 = j0 + j1;
 i1 = UINT32_C(1);
 p188 = write_at(j0, m, 1u);
 store8(p188 + 0, i1);
-l303:;
+l299:;
 j0 = v6;
 j1 = v4;
 i0 = fio_log_wordings_is_heading(m, j0, j1);
@@ -46939,7 +46939,7 @@ j0 = j0 + j1;
 v3 = j0;
 j0 = v15;
 v2 = j0;
-l365:;
+l361:;
 j0 = v3;
 j1 = UINT64_C(18446744073709551606);
 j0 = j0 + j1;
@@ -46947,7 +46947,7 @@ p190 = read_at(j0, m, 8u);
 j0 = load64(p190 + 0);
 j1 = v17;
 i0 = (j0 == j1);
-if (i0) { goto l364; }
+if (i0) { goto l360; }
 j0 = v3;
 j1 = UINT64_C(16);
 j0 = j0 + j1;
@@ -46957,9 +46957,9 @@ j1 = UINT64_C(18446744073709551615);
 j0 = j0 + j1;
 v2 = j0;
 i0 = (j0 == 0);
-if (i0) { goto l363; }
-goto l365;
-l364:;
+if (i0) { goto l359; }
+goto l361;
+l360:;
 i0 = UINT32_C(0);
 j1 = v3;
 j2 = UINT64_C(18446744073709551614);
@@ -46981,7 +46981,7 @@ v10 = i0;
 i0 = v19;
 i1 = UINT32_C(999);
 i0 = (i0 > i1);
-if (i0) { goto l361; }
+if (i0) { goto l357; }
 j0 = v2;
 i1 = v19;
 i2 = UINT32_C(1);
@@ -47006,7 +47006,7 @@ v18 = i0;
 i0 = v19;
 i1 = UINT32_C(3);
 i0 = (i0 < i1);
-if (i0) { goto l358; }
+if (i0) { goto l354; }
 i0 = UINT32_C(3);
 v19 = i0;
 i0 = v13;
@@ -47014,13 +47014,13 @@ i1 = v10;
 i2 = UINT32_C(65535);
 i1 = i1 & i2;
 i0 = (i0 < i1);
-if (i0) { goto l360; }
+if (i0) { goto l356; }
 goto l2;
-l363:;
+l359:;
 j0 = v15;
 j1 = UINT64_C(256);
 i0 = (j0 == j1);
-if (i0) { goto l359; }
+if (i0) { goto l355; }
 }
 j0 = v1;
 j1 = UINT64_C(86112);
@@ -47050,21 +47050,21 @@ j2 = UINT64_C(1);
 j1 = j1 + j2;
 p194 = write_at(j0, m, 8u);
 store64(p194 + 0, j1);
-goto l359;
-l361:;
+goto l355;
+l357:;
 i0 = v13;
 i1 = v10;
 i2 = UINT32_C(65535);
 i1 = i1 & i2;
 i0 = (i0 >= i1);
-if (i0) { goto l359; }
-l360:;
+if (i0) { goto l355; }
+l356:;
 j0 = v1;
 p195 = read_at(j0, m, 1u);
 i0 = load8(p195 + 0);
 i1 = UINT32_C(1);
 i0 = (i0 != i1);
-if (i0) { goto l357; }
+if (i0) { goto l353; }
 j0 = v1;
 j1 = UINT64_C(12552);
 j0 = j0 + j1;
@@ -47072,7 +47072,7 @@ p196 = read_at(j0, m, 8u);
 j0 = load64(p196 + 0);
 v14 = j0;
 i0 = (j0 == 0);
-if (i0) { goto l357; }
+if (i0) { goto l353; }
 j0 = v1;
 j1 = UINT64_C(8);
 j0 = j0 + j1;
@@ -47085,13 +47085,13 @@ j0 = v4;
 i0 = (uint32_t)j0;
 switch (i0) {
 case 0:
-goto l368;
+goto l364;
 case 1:
-goto l367;
+goto l363;
 default:
-goto l368;
+goto l364;
 }
-l368:;
+l364:;
 j0 = v7;
 j1 = UINT64_C(0);
 store64(p1 + 2448, j1);
@@ -47118,11 +47118,11 @@ j0 = v7;
 i0 = load8(p1 + 2424);
 i1 = UINT32_C(1);
 i0 = (i0 == i1);
-if (i0) { goto l358; }
+if (i0) { goto l354; }
 j0 = v14;
 j1 = UINT64_C(1);
 i0 = (j0 == j1);
-if (i0) { goto l357; }
+if (i0) { goto l353; }
 j0 = v14;
 j1 = UINT64_C(18446744073709551615);
 j0 = j0 + j1;
@@ -47131,7 +47131,7 @@ j0 = v1;
 j1 = UINT64_C(792);
 j0 = j0 + j1;
 v3 = j0;
-l369:;
+l365:;
 j0 = v7;
 j1 = UINT64_C(0);
 store64(p1 + 344, j1);
@@ -47160,7 +47160,7 @@ j0 = load64(p198 + 0);
 v2 = j0;
 i0 = (j0 == 0);
 v19 = i0;
-if (i0) { goto l370; }
+if (i0) { goto l366; }
 i0 = v19;
 if (!i0) {
 j0 = v29;
@@ -47174,7 +47174,7 @@ j0 = j0 + j1;
 j1 = UINT64_C(0);
 p199 = write_at(j0, m, 8u);
 store64(p199 + 0, j1);
-goto l370;
+goto l366;
 }
 j0 = v7;
 j1 = UINT64_C(320);
@@ -47189,7 +47189,7 @@ j0 = v7;
 i0 = load8(p1 + 320);
 i1 = UINT32_C(1);
 i0 = (i0 == i1);
-if (i0) { goto l358; }
+if (i0) { goto l354; }
 j0 = v1;
 j1 = UINT64_C(84048);
 j0 = j0 + j1;
@@ -47213,7 +47213,7 @@ j1 = UINT64_C(0);
 p201 = write_at(j0, m, 8u);
 store64(p201 + 0, j1);
 }
-l370:;
+l366:;
 j0 = v3;
 j1 = UINT64_C(784);
 j0 = j0 + j1;
@@ -47223,14 +47223,14 @@ j1 = UINT64_C(18446744073709551615);
 j0 = j0 + j1;
 v4 = j0;
 i0 = (j0 == 0);
-if (i0) { goto l357; }
-goto l369;
-l367:;
+if (i0) { goto l353; }
+goto l365;
+l363:;
 j0 = v1;
 j1 = UINT64_C(776);
 j0 = j0 + j1;
 v3 = j0;
-l374:;
+l370:;
 j0 = v7;
 j1 = UINT64_C(104);
 j0 = j0 + j1;
@@ -47257,7 +47257,7 @@ j0 = v7;
 i0 = load8(p1 + 104);
 i1 = UINT32_C(1);
 i0 = (i0 == i1);
-if (i0) { goto l359; }
+if (i0) { goto l355; }
 j0 = v7;
 j1 = UINT64_C(0);
 store64(p1 + 320, j1);
@@ -47301,7 +47301,7 @@ j0 = v7;
 i0 = load8(p1 + 2456);
 i1 = UINT32_C(1);
 i0 = (i0 == i1);
-if (i0) { goto l359; }
+if (i0) { goto l355; }
 j0 = v1;
 j1 = UINT64_C(84048);
 j0 = j0 + j1;
@@ -47310,7 +47310,7 @@ j0 = load64(p204 + 0);
 v4 = j0;
 i0 = (j0 == 0);
 v18 = i0;
-if (i0) { goto l375; }
+if (i0) { goto l371; }
 i0 = v18;
 if (!i0) {
 j0 = v29;
@@ -47324,7 +47324,7 @@ j0 = j0 + j1;
 j1 = UINT64_C(0);
 p205 = write_at(j0, m, 8u);
 store64(p205 + 0, j1);
-goto l375;
+goto l371;
 }
 j0 = v7;
 j1 = UINT64_C(320);
@@ -47339,7 +47339,7 @@ j0 = v7;
 i0 = load8(p1 + 320);
 i1 = UINT32_C(1);
 i0 = (i0 == i1);
-if (i0) { goto l359; }
+if (i0) { goto l355; }
 j0 = v1;
 j1 = UINT64_C(84048);
 j0 = j0 + j1;
@@ -47363,7 +47363,7 @@ j1 = UINT64_C(0);
 p207 = write_at(j0, m, 8u);
 store64(p207 + 0, j1);
 }
-l375:;
+l371:;
 j0 = v3;
 j1 = UINT64_C(784);
 j0 = j0 + j1;
@@ -47373,8 +47373,8 @@ j1 = UINT64_C(18446744073709551615);
 j0 = j0 + j1;
 v14 = j0;
 i0 = (j0 == 0);
-if (i0) { goto l357; }
-goto l374;
+if (i0) { goto l353; }
+goto l370;
 }
 j0 = v6;
 j1 = UINT64_C(1);
@@ -47386,7 +47386,7 @@ j0 = j0 + j1;
 v5 = j0;
 j0 = UINT64_C(0);
 v12 = j0;
-l379:;
+l375:;
 j0 = v7;
 j1 = UINT64_C(0);
 store64(p1 + 2448, j1);
@@ -47430,12 +47430,12 @@ j0 = v7;
 i0 = load8(p1 + 88);
 i1 = UINT32_C(1);
 i0 = (i0 == i1);
-if (i0) { goto l359; }
+if (i0) { goto l355; }
 j0 = v20;
 v3 = j0;
 j0 = v5;
 v1 = j0;
-l380:;
+l376:;
 j0 = v3;
 p209 = read_at(j0 + UINT64_C(18446744073709551615), m, 2u);
 i0 = load8(p209 + 1);
@@ -47461,7 +47461,7 @@ v10 = i0;
 i0 = v18;
 i1 = UINT32_C(65);
 i0 = (i0 < i1);
-if (i0) { goto l381; }
+if (i0) { goto l377; }
 i0 = v18;
 i1 = UINT32_C(71);
 i0 = (i0 < i1);
@@ -47475,7 +47475,7 @@ i1 = UINT32_C(255);
 i0 = i0 & i1;
 i1 = UINT32_C(5);
 i0 = (i0 > i1);
-if (i0) { goto l381; }
+if (i0) { goto l377; }
 }
 }
 i0 = UINT32_C(16);
@@ -47495,7 +47495,7 @@ i0 = v19;
 i1 = UINT32_C(4294967248);
 i0 = i0 + i1;
 v10 = i0;
-goto l383;
+goto l379;
 }
 i0 = UINT32_C(16);
 v10 = i0;
@@ -47514,7 +47514,7 @@ i0 = v19;
 i1 = UINT32_C(4294967241);
 i0 = i0 + i1;
 v10 = i0;
-goto l383;
+goto l379;
 }
 i0 = v19;
 i1 = UINT32_C(4294967209);
@@ -47531,7 +47531,7 @@ i0 = i2 ? i0 : i1;
 v10 = i0;
 }
 }
-l383:;
+l379:;
 i0 = v10;
 i1 = UINT32_C(255);
 i0 = i0 & i1;
@@ -47539,7 +47539,7 @@ i1 = UINT32_C(16);
 i0 = (i0 != i1);
 v10 = i0;
 }
-l381:;
+l377:;
 i0 = v18;
 i1 = UINT32_C(32);
 i0 = (i0 == i1);
@@ -47547,7 +47547,7 @@ if (!i0) {
 i0 = v18;
 i1 = UINT32_C(9);
 i0 = (i0 != i1);
-if (i0) { goto l386; }
+if (i0) { goto l382; }
 }
 i0 = v19;
 i1 = UINT32_C(255);
@@ -47560,7 +47560,7 @@ i2 = UINT32_C(32);
 i1 = (i1 == i2);
 i0 = i0 | i1;
 v13 = i0;
-l386:;
+l382:;
 j0 = v2;
 i0 = (j0 == 0);
 if (!i0) {
@@ -47570,23 +47570,23 @@ j0 = load8(p210 + 0);
 i0 = (uint32_t)j0;
 switch (i0) {
 case 0:
-goto l389;
+goto l385;
 case 1:
-goto l393;
+goto l389;
 case 2:
-goto l390;
+goto l386;
 case 3:
-goto l392;
+goto l388;
 case 4:
-goto l391;
+goto l387;
 case 5:
-goto l389;
+goto l385;
 case 6:
-goto l389;
+goto l385;
 default:
-goto l389;
+goto l385;
 }
-l393:;
+l389:;
 i0 = v18;
 i1 = UINT32_C(4294967248);
 i0 = i0 + i1;
@@ -47594,7 +47594,7 @@ i1 = UINT32_C(255);
 i0 = i0 & i1;
 i1 = UINT32_C(9);
 i0 = (i0 > i1);
-if (i0) { goto l389; }
+if (i0) { goto l385; }
 i0 = v19;
 i1 = UINT32_C(4294967248);
 i0 = i0 + i1;
@@ -47602,25 +47602,25 @@ i1 = UINT32_C(255);
 i0 = i0 & i1;
 i1 = UINT32_C(10);
 i0 = (i0 >= i1);
-if (i0) { goto l389; }
-goto l388;
-l392:;
+if (i0) { goto l385; }
+goto l384;
+l388:;
 i0 = v13;
 i0 = (i0 == 0);
-if (i0) { goto l389; }
-goto l388;
-l391:;
+if (i0) { goto l385; }
+goto l384;
+l387:;
 i0 = v10;
 i1 = v13;
 i0 = i0 | i1;
 i0 = (i0 == 0);
-if (i0) { goto l389; }
-goto l388;
-l390:;
+if (i0) { goto l385; }
+goto l384;
+l386:;
 i0 = v10;
-if (i0) { goto l388; }
+if (i0) { goto l384; }
 }
-l389:;
+l385:;
 j0 = v7;
 j1 = UINT64_C(72);
 j0 = j0 + j1;
@@ -47635,8 +47635,8 @@ j0 = v7;
 i0 = load8(p1 + 72);
 i1 = UINT32_C(1);
 i0 = (i0 == i1);
-if (i0) { goto l359; }
-l388:;
+if (i0) { goto l355; }
+l384:;
 j0 = v3;
 j1 = UINT64_C(1);
 j0 = j0 + j1;
@@ -47647,7 +47647,7 @@ j0 = j0 + j1;
 v1 = j0;
 i0 = (j0 == 0);
 i0 = (i0 == 0);
-if (i0) { goto l380; }
+if (i0) { goto l376; }
 j0 = v7;
 j1 = UINT64_C(2424);
 j0 = j0 + j1;
@@ -47660,29 +47660,29 @@ j0 = v7;
 i0 = load8(p1 + 2424);
 i1 = UINT32_C(1);
 i0 = (i0 == i1);
-if (i0) { goto l359; }
+if (i0) { goto l355; }
 j0 = v12;
 j1 = UINT64_C(1);
 j0 = j0 + j1;
 v12 = j0;
 j1 = v14;
 i0 = (j0 == j1);
-if (i0) { goto l357; }
-goto l379;
-l359:;
+if (i0) { goto l353; }
+goto l375;
+l355:;
 i0 = UINT32_C(3);
 v18 = i0;
-l358:;
+l354:;
 i0 = UINT32_C(3);
 v19 = i0;
 goto l2;
-l357:;
+l353:;
 i0 = UINT32_C(2);
 v18 = i0;
 i0 = UINT32_C(5);
 v19 = i0;
 goto l2;
-l14:;
+l10:;
 i0 = UINT32_C(3);
 i1 = UINT32_C(0);
 j2 = v20;
@@ -47699,7 +47699,7 @@ i0 = i2 ? i0 : i1;
 v18 = i0;
 v19 = i0;
 goto l2;
-l13:;
+l9:;
 j0 = v1;
 j1 = UINT64_C(776);
 j0 = j0 + j1;
@@ -47722,7 +47722,7 @@ j0 = j0 + j1;
 j1 = UINT64_C(8);
 j0 = j0 + j1;
 v9 = j0;
-l394:;
+l390:;
 j0 = v3;
 j1 = UINT64_C(18446744073709551360);
 j0 = j0 + j1;
@@ -47798,7 +47798,7 @@ j0 = v7;
 i0 = load8(p1 + 2456);
 i1 = UINT32_C(1);
 i0 = (i0 == i1);
-if (i0) { goto l398; }
+if (i0) { goto l394; }
 j0 = v1;
 j1 = UINT64_C(84048);
 j0 = j0 + j1;
@@ -47834,7 +47834,7 @@ store64(p1 + 2440, j1);
 j0 = v7;
 j1 = UINT64_C(0);
 store64(p1 + 2448, j1);
-goto l395;
+goto l391;
 }
 j0 = v7;
 j1 = UINT64_C(320);
@@ -47850,7 +47850,7 @@ j0 = load8(p1 + 320);
 v4 = j0;
 j1 = UINT64_C(1);
 i0 = (j0 == j1);
-if (i0) { goto l397; }
+if (i0) { goto l393; }
 j0 = v1;
 j1 = UINT64_C(84048);
 j0 = j0 + j1;
@@ -47886,8 +47886,8 @@ store64(p1 + 2448, j1);
 j0 = v7;
 j1 = v4;
 store64(p1 + 2424, j1);
-goto l395;
-l398:;
+goto l391;
+l394:;
 j0 = v7;
 j1 = v15;
 j1 = load64(p1 + 2480);
@@ -47900,8 +47900,8 @@ j0 = v7;
 j1 = v15;
 j1 = load64(p1 + 2464);
 store64(p1 + 2400, j1);
-goto l396;
-l397:;
+goto l392;
+l393:;
 j0 = v7;
 j1 = v9;
 j1 = load64(p1 + 344);
@@ -47914,7 +47914,7 @@ j0 = v7;
 j1 = v9;
 j1 = load64(p1 + 328);
 store64(p1 + 2400, j1);
-l396:;
+l392:;
 j0 = v2;
 j1 = v7;
 j1 = load64(p1 + 2400);
@@ -47940,11 +47940,11 @@ i0 = (j0 <= j1);
 if (!i0) {
 i0 = UINT32_C(0);
 v22 = i0;
-goto l12;
+goto l8;
 }
 }
 }
-l395:;
+l391:;
 j0 = v3;
 j1 = UINT64_C(784);
 j0 = j0 + j1;
@@ -47955,8 +47955,8 @@ j0 = j0 + j1;
 v23 = j0;
 i0 = (j0 == 0);
 i0 = (i0 == 0);
-if (i0) { goto l394; }
-l12:;
+if (i0) { goto l390; }
+l8:;
 j0 = v1;
 j1 = UINT64_C(47016);
 j0 = j0 + j1;
@@ -48191,7 +48191,7 @@ if (!i0) break;
 }
 j0 = v2;
 i0 = (j0 == 0);
-if (i0) { goto l407; }
+if (i0) { goto l403; }
 }
 j0 = v28;
 j1 = UINT64_C(5);
@@ -48254,7 +48254,7 @@ if (!i0) break;
 p223 += 32;
 p224 += 32;
 }
-l407:;
+l403:;
 j0 = v1;
 j1 = UINT64_C(79784);
 j0 = j0 + j1;
@@ -48267,7 +48267,7 @@ i0 = (j0 > j1);
 if (!i0) {
 j0 = v3;
 v31 = j0;
-goto l411;
+goto l407;
 }
 j0 = v3;
 j1 = v31;
@@ -48292,7 +48292,7 @@ j0 = j0 + j1;
 j1 = v31;
 p225 = write_at(j0, m, 8u);
 store64(p225 + 0, j1);
-l411:;
+l407:;
 j0 = v1;
 j1 = UINT64_C(79792);
 j0 = j0 + j1;
@@ -48304,7 +48304,7 @@ v19 = i0;
 j0 = v31;
 j1 = UINT64_C(1024);
 i0 = (j0 == j1);
-if (i0) { goto l404; }
+if (i0) { goto l400; }
 }
 j0 = v30;
 j1 = v31;
@@ -48376,7 +48376,7 @@ p228 = write_at(j0, m, 8u);
 store64(p228 + 0, j1);
 i0 = v22;
 v19 = i0;
-l404:;
+l400:;
 j0 = v1;
 p229 = read_at(j0, m, 1u);
 i0 = load8(p229 + 0);
@@ -48389,7 +48389,7 @@ j0 = v7;
 j1 = UINT64_C(2488);
 j0 = j0 + j1;
 v6 = j0;
-goto l414;
+goto l410;
 }
 j0 = v1;
 j1 = UINT64_C(8);
@@ -48401,7 +48401,7 @@ j0 = j0 + j1;
 p230 = read_at(j0, m, 8u);
 j0 = load64(p230 + 0);
 v3 = j0;
-l414:;
+l410:;
 j0 = v1;
 j1 = UINT64_C(20312);
 j0 = j0 + j1;
@@ -48414,14 +48414,14 @@ j0 = v6;
 j1 = UINT64_C(772);
 j0 = j0 + j1;
 v3 = j0;
-l417:;
+l413:;
 j0 = v4;
 j1 = UINT64_C(18446744073709551615);
 j0 = j0 + j1;
 v4 = j0;
 i0 = (j0 == 0);
 v32 = i0;
-if (i0) { goto l416; }
+if (i0) { goto l412; }
 j0 = v3;
 p231 = read_at(j0, m, 1u);
 i0 = load8(p231 + 0);
@@ -48433,8 +48433,8 @@ v3 = j0;
 i0 = v18;
 i1 = UINT32_C(6);
 i0 = (i0 != i1);
-if (i0) { goto l417; }
-l416:;
+if (i0) { goto l413; }
+l412:;
 j0 = v21;
 i0 = (j0 == 0);
 if (!i0) {
@@ -48468,7 +48468,7 @@ j0 = j0 + j1;
 v2 = j0;
 j0 = UINT64_C(0);
 v25 = j0;
-l419:;
+l415:;
 j0 = v25;
 j1 = v1;
 j2 = UINT64_C(22360);
@@ -48512,7 +48512,7 @@ j0 = UINT64_C(0);
 v9 = j0;
 i0 = UINT32_C(1);
 v33 = i0;
-l422:;
+l418:;
 i0 = UINT32_C(0);
 v8 = i0;
 i0 = UINT32_C(0);
@@ -48567,8 +48567,8 @@ j0 = UINT64_C(0);
 v3 = j0;
 j0 = v4;
 i0 = (j0 == 0);
-if (i0) { goto l424; }
-l427:;
+if (i0) { goto l420; }
+l423:;
 j0 = v2;
 j1 = v3;
 j0 = j0 + j1;
@@ -48577,21 +48577,21 @@ p239 = read_at(j0, m, 1u);
 i0 = load8(p239 + 0);
 i1 = UINT32_C(126);
 i0 = (i0 == i1);
-if (i0) { goto l426; }
+if (i0) { goto l422; }
 j0 = v4;
 j1 = v3;
 j2 = UINT64_C(1);
 j1 = j1 + j2;
 v3 = j1;
 i0 = (j0 != j1);
-if (i0) { goto l427; }
+if (i0) { goto l423; }
 j0 = v4;
 j1 = UINT64_C(1985);
 i0 = (j0 >= j1);
 if (!i0) {
 j0 = UINT64_C(0);
 v3 = j0;
-goto l424;
+goto l420;
 }
 j0 = v2;
 i1 = UINT32_C(0);
@@ -48624,8 +48624,8 @@ store64(p241 + 0, j1);
 }
 j0 = v4;
 v3 = j0;
-goto l424;
-l426:;
+goto l420;
+l422:;
 j0 = v3;
 j1 = UINT64_C(0);
 i0 = (j0 != j1);
@@ -48642,11 +48642,11 @@ i0 = (i0 == 0);
 if (!i0) {
 j0 = UINT64_C(0);
 v3 = j0;
-goto l424;
+goto l420;
 }
 j0 = UINT64_C(0);
 v3 = j0;
-l434:;
+l430:;
 j0 = v29;
 j1 = v3;
 j0 = j0 + j1;
@@ -48655,20 +48655,20 @@ p242 = read_at(j0, m, 1u);
 i0 = load8(p242 + 0);
 i1 = UINT32_C(126);
 i0 = (i0 == i1);
-if (i0) { goto l433; }
+if (i0) { goto l429; }
 j0 = v6;
 j1 = v3;
 j2 = UINT64_C(1);
 j1 = j1 + j2;
 v3 = j1;
 i0 = (j0 != j1);
-if (i0) { goto l434; }
+if (i0) { goto l430; }
 j0 = UINT64_C(0);
 v3 = j0;
 j0 = v4;
 j1 = UINT64_C(1985);
 i0 = (j0 < j1);
-if (i0) { goto l424; }
+if (i0) { goto l420; }
 j0 = v2;
 i1 = UINT32_C(0);
 j2 = UINT64_C(2056);
@@ -48687,7 +48687,7 @@ i0 = (i0 == 0);
 if (!i0) {
 j0 = v4;
 v3 = j0;
-goto l424;
+goto l420;
 }
 i0 = v36;
 if (!i0) {
@@ -48704,8 +48704,8 @@ p244 = write_at(j0, m, 8u);
 store64(p244 + 0, j1);
 j0 = v4;
 v3 = j0;
-goto l424;
-l433:;
+goto l420;
+l429:;
 j0 = v3;
 j1 = UINT64_C(0);
 i0 = (j0 != j1);
@@ -48766,7 +48766,7 @@ j0 = UINT64_C(1);
 v3 = j0;
 i0 = UINT32_C(2);
 v18 = i0;
-goto l424;
+goto l420;
 }
 i0 = UINT32_C(0);
 v18 = i0;
@@ -48862,7 +48862,7 @@ i1 = i3 ? i1 : i2;
 i2 = v18;
 i0 = i2 ? i0 : i1;
 v18 = i0;
-goto l424;
+goto l420;
 }
 j0 = v7;
 j1 = UINT64_C(320);
@@ -48922,7 +48922,7 @@ store64(p252 + 0, j1);
 }
 i0 = UINT32_C(1);
 v18 = i0;
-goto l424;
+goto l420;
 }
 j0 = v7;
 j1 = UINT64_C(8);
@@ -48935,7 +48935,7 @@ v3 = j0;
 j0 = v7;
 i0 = load8(p1 + 8);
 v18 = i0;
-l424:;
+l420:;
 i0 = v18;
 j0 = (uint64_t)i0;
 j1 = UINT64_C(255);
@@ -48943,17 +48943,17 @@ j0 = j0 & j1;
 i0 = (uint32_t)j0;
 switch (i0) {
 case 0:
-goto l455;
-case 1:
-goto l454;
-case 2:
-goto l453;
-case 3:
 goto l451;
+case 1:
+goto l450;
+case 2:
+goto l449;
+case 3:
+goto l447;
 default:
-goto l455;
+goto l451;
 }
-l455:;
+l451:;
 i0 = v32;
 if (!i0) {
 i0 = v19;
@@ -48964,7 +48964,7 @@ i0 = (i0 == i1);
 if (!i0) {
 i0 = v10;
 v13 = i0;
-goto l457;
+goto l453;
 }
 j0 = v3;
 j1 = UINT64_C(18446744073709551615);
@@ -49008,7 +49008,7 @@ i0 = (i0 == i1);
 if (!i0) {
 i0 = v11;
 v13 = i0;
-goto l457;
+goto l453;
 }
 i0 = v8;
 i1 = UINT32_C(4294967264);
@@ -49021,7 +49021,7 @@ i3 = UINT32_C(32);
 i2 = i2 & i3;
 i0 = i2 ? i0 : i1;
 v13 = i0;
-goto l457;
+goto l453;
 }
 i0 = v13;
 i1 = UINT32_C(255);
@@ -49044,7 +49044,7 @@ v13 = i0;
 }
 i0 = v10;
 v19 = i0;
-l457:;
+l453:;
 j0 = v1;
 j1 = UINT64_C(79936);
 j0 = j0 + j1;
@@ -49071,7 +49071,7 @@ store8(p255 + 1, i1);
 j0 = v4;
 i1 = UINT32_C(1);
 store8(p255 + 0, i1);
-goto l456;
+goto l452;
 }
 i0 = UINT32_C(1);
 v18 = i0;
@@ -49122,7 +49122,7 @@ i1 = v18;
 p260 = write_at(j0, m, 1u);
 store8(p260 + 0, i1);
 }
-l456:;
+l452:;
 i0 = UINT32_C(0);
 v13 = i0;
 j0 = v1;
@@ -49152,35 +49152,35 @@ i1 = UINT32_C(4294967119);
 i0 = i0 + i1;
 switch (i0) {
 case 0:
-goto l468;
+goto l464;
 case 1:
-goto l470;
+goto l466;
 case 2:
-goto l470;
+goto l466;
 case 3:
-goto l470;
+goto l466;
 case 4:
-goto l470;
+goto l466;
 case 5:
-goto l471;
+goto l467;
 case 6:
-goto l470;
+goto l466;
 case 7:
-goto l470;
+goto l466;
 case 8:
-goto l470;
+goto l466;
 case 9:
-goto l469;
+goto l465;
 default:
-goto l470;
+goto l466;
 }
-l471:;
+l467:;
 j0 = UINT64_C(8);
 v6 = j0;
 j0 = v4;
 j1 = UINT64_C(3);
 i0 = (j0 < j1);
-if (i0) { goto l467; }
+if (i0) { goto l463; }
 j0 = v1;
 j1 = UINT64_C(44962);
 j0 = j0 + j1;
@@ -49191,12 +49191,12 @@ j0 = j0 * j1;
 j1 = UINT64_C(8);
 j0 = j0 + j1;
 v6 = j0;
-goto l468;
-l470:;
+goto l464;
+l466:;
 i0 = v19;
 i1 = UINT32_C(4294967217);
 i0 = (i0 < i1);
-if (i0) { goto l464; }
+if (i0) { goto l460; }
 i0 = v19;
 i1 = UINT32_C(4294967220);
 i0 = (i0 < i1);
@@ -49207,29 +49207,29 @@ i0 = (i0 >= i1);
 if (!i0) {
 j0 = UINT64_C(13);
 v6 = j0;
-goto l468;
+goto l464;
 }
 j0 = v4;
 v6 = j0;
 i0 = v19;
 i1 = UINT32_C(4294967229);
 i0 = (i0 < i1);
-if (i0) { goto l468; }
-goto l464;
+if (i0) { goto l464; }
+goto l460;
 }
-l469:;
+l465:;
 j0 = UINT64_C(2);
 v6 = j0;
-l468:;
+l464:;
 j0 = v4;
 j1 = UINT64_C(773);
 i0 = (j0 > j1);
-if (i0) { goto l464; }
-l467:;
+if (i0) { goto l460; }
+l463:;
 j0 = v6;
 j1 = v4;
 i0 = (j0 != j1);
-if (i0) { goto l464; }
+if (i0) { goto l460; }
 i0 = UINT32_C(1);
 i1 = v18;
 i2 = UINT32_C(4294967119);
@@ -49238,7 +49238,7 @@ v18 = i1;
 i0 = i0 << (i1 & 31);
 i1 = UINT32_C(4071);
 i0 = i0 & i1;
-if (i0) { goto l465; }
+if (i0) { goto l461; }
 i0 = v18;
 i1 = UINT32_C(3);
 i0 = (i0 != i1);
@@ -49246,14 +49246,14 @@ if (!i0) {
 j0 = v4;
 j1 = UINT64_C(8);
 i0 = (j0 > j1);
-if (i0) { goto l465; }
-goto l11;
+if (i0) { goto l461; }
+goto l7;
 }
 j0 = v4;
 j1 = UINT64_C(8);
 i0 = (j0 <= j1);
-if (i0) { goto l11; }
-goto l465;
+if (i0) { goto l7; }
+goto l461;
 }
 j0 = UINT64_C(2);
 v6 = j0;
@@ -49264,37 +49264,37 @@ i1 = UINT32_C(4294967247);
 i0 = i0 + i1;
 switch (i0) {
 case 0:
-goto l475;
+goto l471;
 case 1:
-goto l482;
-case 2:
-goto l481;
-case 3:
-goto l479;
-case 4:
-goto l479;
-case 5:
-goto l475;
-case 6:
-goto l480;
-case 7:
-goto l479;
-case 8:
-goto l479;
-case 9:
-goto l475;
-case 10:
 goto l478;
-case 11:
+case 2:
 goto l477;
+case 3:
+goto l475;
+case 4:
+goto l475;
+case 5:
+goto l471;
+case 6:
+goto l476;
+case 7:
+goto l475;
+case 8:
+goto l475;
+case 9:
+goto l471;
+case 10:
+goto l474;
+case 11:
+goto l473;
 default:
-goto l479;
+goto l475;
 }
-l482:;
+l478:;
 j0 = UINT64_C(5);
 v6 = j0;
-goto l476;
-l481:;
+goto l472;
+l477:;
 j0 = v4;
 j1 = UINT64_C(1);
 i0 = (j0 != j1);
@@ -49303,7 +49303,7 @@ j0 = UINT64_C(0);
 v17 = j0;
 j0 = UINT64_C(2);
 v6 = j0;
-goto l474;
+goto l470;
 }
 j0 = v1;
 j1 = UINT64_C(44961);
@@ -49315,12 +49315,12 @@ j0 = j0 * j1;
 j1 = UINT64_C(2);
 j0 = j0 + j1;
 v6 = j0;
-goto l476;
-l480:;
+goto l472;
+l476:;
 j0 = UINT64_C(17);
 v6 = j0;
-goto l476;
-l479:;
+goto l472;
+l475:;
 i0 = UINT32_C(0);
 v11 = i0;
 j0 = UINT64_C(0);
@@ -49328,46 +49328,46 @@ v6 = j0;
 i0 = v19;
 i1 = UINT32_C(49);
 i0 = (i0 < i1);
-if (i0) { goto l475; }
+if (i0) { goto l471; }
 i0 = v19;
 i1 = UINT32_C(54);
 i0 = (i0 < i1);
-if (i0) { goto l477; }
+if (i0) { goto l473; }
 i0 = v19;
 i1 = UINT32_C(57);
 i0 = (i0 > i1);
-if (i0) { goto l475; }
-l478:;
+if (i0) { goto l471; }
+l474:;
 j0 = v4;
 v6 = j0;
-goto l476;
-l477:;
+goto l472;
+l473:;
 j0 = UINT64_C(1);
 v6 = j0;
-l476:;
+l472:;
 i0 = UINT32_C(1);
 v11 = i0;
-l475:;
+l471:;
 j0 = v4;
 j1 = UINT64_C(773);
 i0 = (j0 > j1);
-if (i0) { goto l464; }
+if (i0) { goto l460; }
 i0 = v11;
 i0 = (i0 == 0);
-if (i0) { goto l464; }
+if (i0) { goto l460; }
 j0 = v4;
 j1 = UINT64_C(18446744073709551615);
 j0 = j0 + j1;
 v17 = j0;
-l474:;
+l470:;
 j0 = v6;
 j1 = v4;
 i0 = (j0 != j1);
-if (i0) { goto l464; }
+if (i0) { goto l460; }
 i0 = v18;
 i1 = UINT32_C(60);
 i0 = (i0 > i1);
-if (i0) { goto l11; }
+if (i0) { goto l7; }
 j0 = UINT64_C(1);
 i1 = v18;
 j1 = (uint64_t)i1;
@@ -49381,17 +49381,17 @@ if (!i0) {
 j0 = v6;
 j1 = UINT64_C(55);
 i0 = (j0 != j1);
-if (i0) { goto l11; }
+if (i0) { goto l7; }
 j0 = v17;
 j1 = UINT64_C(7);
 i0 = (j0 <= j1);
-if (i0) { goto l11; }
+if (i0) { goto l7; }
 j0 = v17;
 j1 = UINT64_C(15);
 i0 = (j0 <= j1);
-if (i0) { goto l11; }
+if (i0) { goto l7; }
 }
-l465:;
+l461:;
 j0 = v5;
 j1 = UINT64_C(24584);
 j0 = j0 + j1;
@@ -49485,7 +49485,7 @@ if (!i0) break;
 }
 j0 = v14;
 i0 = (j0 == 0);
-if (i0) { goto l484; }
+if (i0) { goto l480; }
 }
 j0 = v28;
 j1 = v17;
@@ -49497,7 +49497,7 @@ j2 = v20;
 j1 = j1 + j2;
 j0 = j0 + j1;
 v17 = j0;
-l488:;
+l484:;
 j0 = v17;
 j1 = v6;
 p269 = read_at(j1, m, 1u);
@@ -49518,8 +49518,8 @@ j0 = j0 + j1;
 v14 = j0;
 j1 = UINT64_C(0);
 i0 = (j0 != j1);
-if (i0) { goto l488; }
-goto l484;
+if (i0) { goto l484; }
+goto l480;
 }
 i0 = v10;
 if (!i0) {
@@ -49528,7 +49528,7 @@ j1 = v28;
 j2 = v4;
 copy(m, j0, j1, j2);
 }
-l484:;
+l480:;
 j0 = v5;
 j1 = UINT64_C(16384);
 j0 = j0 + j1;
@@ -49567,14 +49567,14 @@ v13 = i0;
 }
 }
 }
-l464:;
+l460:;
 j0 = v3;
 i0 = (j0 == 0);
 i0 = (i0 == 0);
 if (!i0) {
 i0 = v13;
 v33 = i0;
-goto l452;
+goto l448;
 }
 j0 = v1;
 j1 = UINT64_C(79792);
@@ -49591,7 +49591,7 @@ i0 = (j0 < j1);
 if (!i0) {
 i0 = v13;
 v33 = i0;
-goto l452;
+goto l448;
 }
 j0 = v1;
 j1 = v4;
@@ -49601,7 +49601,7 @@ j0 = j0 + j1;
 v6 = j0;
 i0 = UINT32_C(1);
 v19 = i0;
-l494:;
+l490:;
 j0 = v1;
 j1 = UINT64_C(79784);
 j0 = j0 + j1;
@@ -49609,7 +49609,7 @@ p275 = read_at(j0, m, 8u);
 j0 = load64(p275 + 0);
 j1 = v4;
 i0 = (j0 <= j1);
-if (i0) { goto l493; }
+if (i0) { goto l489; }
 j0 = v6;
 j1 = UINT64_C(47032);
 j0 = j0 + j1;
@@ -49630,7 +49630,7 @@ j0 = load64(p277 + 0);
 v15 = j0;
 j1 = UINT64_C(1024);
 i0 = (j0 == j1);
-if (i0) { goto l496; }
+if (i0) { goto l492; }
 j0 = v6;
 j1 = UINT64_C(47016);
 j0 = j0 + j1;
@@ -49670,7 +49670,7 @@ store64(p280 + 0, j1);
 j0 = v3;
 j1 = v17;
 i0 = (j0 >= j1);
-if (i0) { goto l495; }
+if (i0) { goto l491; }
 j0 = v6;
 j1 = UINT64_C(47032);
 j0 = j0 + j1;
@@ -49683,11 +49683,11 @@ store16(p281 + 0, i1);
 i0 = v19;
 i1 = UINT32_C(1);
 i0 = i0 & i1;
-if (i0) { goto l492; }
+if (i0) { goto l488; }
 i0 = UINT32_C(0);
 v33 = i0;
-goto l452;
-l496:;
+goto l448;
+l492:;
 i0 = UINT32_C(0);
 v19 = i0;
 j0 = v3;
@@ -49705,9 +49705,9 @@ p282 = write_at(j0, m, 2u);
 store16(p282 + 0, i1);
 i0 = UINT32_C(0);
 v33 = i0;
-goto l452;
+goto l448;
 }
-l495:;
+l491:;
 j0 = v1;
 j1 = UINT64_C(79792);
 j0 = j0 + j1;
@@ -49720,7 +49720,7 @@ store64(p283 + 0, j1);
 j0 = v4;
 j1 = v14;
 i0 = (j0 >= j1);
-if (i0) { goto l493; }
+if (i0) { goto l489; }
 j0 = v6;
 j1 = UINT64_C(32);
 j0 = j0 + j1;
@@ -49731,26 +49731,26 @@ j0 = j0 - j1;
 v3 = j0;
 j1 = UINT64_C(0);
 i0 = (j0 != j1);
-if (i0) { goto l494; }
-l493:;
+if (i0) { goto l490; }
+l489:;
 i0 = v19;
 i1 = UINT32_C(1);
 i0 = i0 & i1;
 if (!i0) {
 i0 = UINT32_C(0);
 v33 = i0;
-goto l452;
+goto l448;
 }
-l492:;
+l488:;
 i0 = v13;
 v33 = i0;
-goto l452;
-l454:;
+goto l448;
+l450:;
 i0 = UINT32_C(0);
 v33 = i0;
 j0 = v3;
 i0 = (j0 == 0);
-if (i0) { goto l452; }
+if (i0) { goto l448; }
 j0 = v1;
 j1 = UINT64_C(79792);
 j0 = j0 + j1;
@@ -49763,7 +49763,7 @@ j1 = j1 + j2;
 j1 = load64(p284 + 0);
 v15 = j1;
 i0 = (j0 >= j1);
-if (i0) { goto l452; }
+if (i0) { goto l448; }
 j0 = v6;
 j1 = UINT64_C(1);
 j0 = j0 + j1;
@@ -49774,7 +49774,7 @@ j2 = UINT64_C(5);
 j1 = j1 << (j2 & 63);
 j0 = j0 + j1;
 v6 = j0;
-l499:;
+l495:;
 j0 = v3;
 j1 = v6;
 p285 = read_at(j1, m, 2u);
@@ -49785,7 +49785,7 @@ j2 = UINT64_C(65535);
 j1 = j1 & j2;
 v17 = j1;
 i0 = (j0 < j1);
-if (i0) { goto l498; }
+if (i0) { goto l494; }
 j0 = v1;
 j1 = UINT64_C(79792);
 j0 = j0 + j1;
@@ -49795,7 +49795,7 @@ store64(p286 + 0, j1);
 j0 = v4;
 j1 = v15;
 i0 = (j0 >= j1);
-if (i0) { goto l452; }
+if (i0) { goto l448; }
 j0 = v6;
 j1 = UINT64_C(32);
 j0 = j0 + j1;
@@ -49810,9 +49810,9 @@ j0 = j0 - j1;
 v3 = j0;
 i0 = (j0 == 0);
 i0 = (i0 == 0);
-if (i0) { goto l499; }
-goto l452;
-l498:;
+if (i0) { goto l495; }
+goto l448;
+l494:;
 j0 = v6;
 i1 = v18;
 j2 = v3;
@@ -49820,8 +49820,8 @@ i2 = (uint32_t)j2;
 i1 = i1 - i2;
 p287 = write_at(j0, m, 2u);
 store16(p287 + 0, i1);
-goto l452;
-l453:;
+goto l448;
+l449:;
 j0 = v3;
 i0 = (j0 == 0);
 if (!i0) {
@@ -49848,7 +49848,7 @@ j2 = UINT64_C(5);
 j1 = j1 << (j2 & 63);
 j0 = j0 + j1;
 v6 = j0;
-l501:;
+l497:;
 j0 = v3;
 j1 = v6;
 p289 = read_at(j1, m, 2u);
@@ -49859,7 +49859,7 @@ j2 = UINT64_C(65535);
 j1 = j1 & j2;
 v17 = j1;
 i0 = (j0 < j1);
-if (i0) { goto l500; }
+if (i0) { goto l496; }
 j0 = v1;
 j1 = UINT64_C(79792);
 j0 = j0 + j1;
@@ -49869,7 +49869,7 @@ store64(p290 + 0, j1);
 j0 = v4;
 j1 = v15;
 i0 = (j0 >= j1);
-if (i0) { goto l452; }
+if (i0) { goto l448; }
 j0 = v6;
 j1 = UINT64_C(32);
 j0 = j0 + j1;
@@ -49884,9 +49884,9 @@ j0 = j0 - j1;
 v3 = j0;
 i0 = (j0 == 0);
 i0 = (i0 == 0);
-if (i0) { goto l501; }
-goto l452;
-l500:;
+if (i0) { goto l497; }
+goto l448;
+l496:;
 j0 = v6;
 i1 = v18;
 j2 = v3;
@@ -49896,15 +49896,15 @@ p291 = write_at(j0, m, 2u);
 store16(p291 + 0, i1);
 }
 }
-l452:;
+l448:;
 j0 = v9;
 j1 = UINT64_C(1);
 j0 = j0 + j1;
 v9 = j0;
 j1 = UINT64_C(2048);
 i0 = (j0 != j1);
-if (i0) { goto l422; }
-l451:;
+if (i0) { goto l418; }
+l447:;
 i0 = v33;
 i1 = v37;
 i0 = i0 & i1;
@@ -49916,7 +49916,7 @@ j0 = j0 + j1;
 v25 = j0;
 j1 = v21;
 i0 = (j0 != j1);
-if (i0) { goto l419; }
+if (i0) { goto l415; }
 }
 i0 = v22;
 if (!i0) {
@@ -50062,9 +50062,9 @@ i0 = i2 ? i0 : i1;
 v18 = i0;
 goto l2;
 }
-l11:;
+l7:;
 fio2070_trap();
-l10:;
+l6:;
 j0 = v1;
 j1 = UINT64_C(30592);
 j0 = j0 + j1;
@@ -50107,10 +50107,8 @@ j4 = v5;
 i0 = fio_log_by_forms_take_message(m, j0, j1, j2, j3, j4);
 i0 = (i0 == 0);
 if (!i0) {
-i0 = UINT32_C(0);
-v18 = i0;
-i0 = UINT32_C(0);
-v32 = i0;
+i0 = UINT32_C(1);
+v33 = i0;
 j0 = v1;
 j1 = v6;
 j2 = v4;
@@ -50118,14 +50116,23 @@ j3 = v15;
 j4 = v17;
 i0 = fio_log_by_forms_FormReader_has_near_tail(m, j0, j1, j2, j3, j4);
 if (i0) { goto l3; }
-i0 = UINT32_C(1);
-v32 = i0;
 j0 = v1;
 p303 = read_at(j0, m, 1u);
 i0 = load8(p303 + 0);
 i1 = UINT32_C(1);
-i0 = (i0 != i1);
-if (i0) { goto l3; }
+i0 = (i0 == i1);
+if (i0) { goto l4; }
+i0 = UINT32_C(0);
+v33 = i0;
+goto l3;
+}
+l5:;
+i0 = UINT32_C(4);
+v19 = i0;
+i0 = UINT32_C(5);
+v18 = i0;
+goto l2;
+l4:;
 j0 = v15;
 j1 = UINT64_C(784);
 j0 = j0 * j1;
@@ -50142,16 +50149,16 @@ p304 = read_at(j1, m, 8u);
 j1 = load64(p304 + 0);
 v24 = j1;
 i0 = (j0 >= j1);
-v11 = i0;
-if (i0) { goto l6; }
+v10 = i0;
+if (!i0) {
 j0 = v4;
 j1 = v17;
 i0 = (j0 < j1);
-if (i0) { goto l6; }
+if (!i0) {
 j0 = v4;
 j1 = v17;
 i0 = (j0 == j1);
-if (i0) { goto l6; }
+if (!i0) {
 j0 = v4;
 j1 = v17;
 j0 = j0 - j1;
@@ -50171,18 +50178,11 @@ j0 = load64(p305 + 0);
 v31 = j0;
 i0 = (j0 == 0);
 i0 = (i0 == 0);
-if (i0) { goto l8; }
+if (!i0) {
 j0 = UINT64_C(0);
 v3 = j0;
-goto l7;
+goto l510;
 }
-l9:;
-i0 = UINT32_C(4);
-v19 = i0;
-i0 = UINT32_C(5);
-v18 = i0;
-goto l2;
-l8:;
 j0 = v25;
 j1 = UINT64_C(0);
 j2 = v15;
@@ -50196,7 +50196,7 @@ j0 = UINT64_C(0);
 v15 = j0;
 j0 = UINT64_C(0);
 v12 = j0;
-l511:;
+l512:;
 j0 = v2;
 j1 = UINT64_C(18446744073709551615);
 j0 = j0 + j1;
@@ -50205,30 +50205,30 @@ j0 = load8(p306 + 0);
 i0 = (uint32_t)j0;
 switch (i0) {
 case 0:
-goto l514;
+goto l515;
 case 1:
-goto l513;
-case 2:
-goto l512;
-default:
 goto l514;
+case 2:
+goto l513;
+default:
+goto l515;
 }
-l514:;
+l515:;
 j0 = UINT64_C(0);
 v12 = j0;
 j0 = v15;
 v3 = j0;
 j0 = v15;
 i0 = (j0 == 0);
-if (i0) { goto l512; }
-goto l7;
-l513:;
+if (i0) { goto l513; }
+goto l510;
+l514:;
 j0 = UINT64_C(0);
 v3 = j0;
 j0 = v15;
 j1 = v9;
 i0 = (j0 >= j1);
-if (i0) { goto l7; }
+if (i0) { goto l510; }
 j0 = v14;
 j1 = v15;
 j0 = j0 + j1;
@@ -50238,12 +50238,12 @@ j1 = v2;
 p308 = read_at(j1, m, 1u);
 i1 = load8(p308 + 0);
 i0 = (i0 != i1);
-if (i0) { goto l7; }
+if (i0) { goto l510; }
 j0 = v15;
 j1 = UINT64_C(1);
 j0 = j0 + j1;
 v12 = j0;
-l512:;
+l513:;
 j0 = v2;
 j1 = UINT64_C(2);
 j0 = j0 + j1;
@@ -50258,23 +50258,23 @@ j0 = j0 + j1;
 v31 = j0;
 i0 = (j0 == 0);
 i0 = (i0 == 0);
-if (i0) { goto l511; }
-l7:;
+if (i0) { goto l512; }
+l510:;
 j0 = v3;
 j1 = v9;
 i0 = (j0 >= j1);
-if (i0) { goto l5; }
+if (i0) { goto l508; }
 j0 = v25;
 j1 = UINT64_C(521);
 j0 = j0 + j1;
 p309 = read_at(j0 + UINT64_C(18446744073709551615), m, 2u);
 i0 = load8(p309 + 1);
-v10 = i0;
+v13 = i0;
 j0 = v25;
 j1 = UINT64_C(520);
 j0 = j0 + j1;
 i0 = load8(p309 + 0);
-v19 = i0;
+v18 = i0;
 j0 = v7;
 i1 = UINT32_C(0);
 p310 = write_at(j0 + UINT64_C(320), m, 2139u);
@@ -50292,8 +50292,8 @@ j0 = UINT64_C(0);
 j1 = v3;
 j0 = j0 - j1;
 v15 = j0;
-l515:;
-i0 = v19;
+l516:;
+i0 = v18;
 j1 = v7;
 j2 = UINT64_C(2456);
 j1 = j1 + j2;
@@ -50309,23 +50309,23 @@ j3 = j3 + j4;
 j4 = UINT64_C(18446744073709551615);
 j3 = j3 + j4;
 i0 = fio_form_octets_makes_longer(m, i0, j1, j2, j3);
-v13 = i0;
+v19 = i0;
 j0 = v7;
 j1 = UINT64_C(320);
 j0 = j0 + j1;
-i1 = v19;
-i2 = v10;
+i1 = v18;
+i2 = v13;
 j3 = v7;
 j4 = UINT64_C(2456);
 j3 = j3 + j4;
 j4 = v2;
 p311 = read_at(j4, m, 1u);
 i4 = load8(p311 + 0);
-i5 = v13;
+i5 = v19;
 fio_form_octets_next_in(m, j0, i1, i2, j3, i4, i5);
 j0 = v7;
 i0 = load8(p310 + 0);
-if (i0) { goto l5; }
+if (i0) { goto l508; }
 j0 = v7;
 j1 = v7;
 i1 = load8(p310 + 3);
@@ -50344,11 +50344,13 @@ j2 = UINT64_C(18446744073709551615);
 j1 = j1 + j2;
 v9 = j1;
 i0 = (j0 != j1);
-if (i0) { goto l515; }
-i0 = UINT32_C(0);
-v32 = i0;
+if (i0) { goto l516; }
+i0 = UINT32_C(1);
+v33 = i0;
 goto l3;
-l6:;
+}
+}
+}
 j0 = v7;
 j1 = UINT64_C(0);
 p312 = write_at(j0 + UINT64_C(320), m, 56u);
@@ -50371,8 +50373,8 @@ store64(p312 + 8, j1);
 j0 = v7;
 j1 = UINT64_C(0);
 store64(p312 + 0, j1);
-goto l4;
-l5:;
+goto l507;
+l508:;
 j0 = v7;
 j1 = UINT64_C(0);
 p313 = write_at(j0 + UINT64_C(320), m, 56u);
@@ -50395,11 +50397,11 @@ store64(p313 + 8, j1);
 j0 = v7;
 j1 = UINT64_C(0);
 store64(p313 + 0, j1);
-l4:;
-i0 = v11;
+l507:;
+i0 = UINT32_C(0);
+v33 = i0;
+i0 = v10;
 if (!i0) {
-i0 = UINT32_C(1);
-v32 = i0;
 j0 = v1;
 j1 = v29;
 j0 = j0 + j1;
@@ -50433,8 +50435,8 @@ j0 = v7;
 p315 = read_at(j0 + UINT64_C(320), m, 1u);
 i0 = load8(p315 + 0);
 i1 = UINT32_C(1);
-i0 = (i0 != i1);
-v32 = i0;
+i0 = (i0 == i1);
+v33 = i0;
 }
 }
 }
@@ -50463,6 +50465,8 @@ store64(p316 + 8, j1);
 j0 = v7;
 j1 = UINT64_C(0);
 store64(p316 + 0, j1);
+i0 = UINT32_C(0);
+v18 = i0;
 j0 = v4;
 j1 = v17;
 i0 = (j0 > j1);
@@ -50534,6 +50538,8 @@ j5 = v17;
 j6 = v23;
 j7 = v21;
 fio_log_second_second_in(m, j0, j1, j2, j3, j4, j5, j6, j7);
+i0 = UINT32_C(1);
+v8 = i0;
 j0 = v7;
 i0 = load8(p316 + 0);
 i1 = UINT32_C(1);
@@ -50936,7 +50942,7 @@ store8(p336 + 0, i1);
 goto l538;
 }
 i0 = UINT32_C(1);
-v8 = i0;
+v32 = i0;
 j0 = v1;
 j1 = UINT64_C(79940);
 j0 = j0 + j1;
@@ -50975,12 +50981,12 @@ j1 = j1 + j2;
 p340 = read_at(j1, m, 1u);
 i1 = load8(p340 + 0);
 i0 = (i0 != i1);
-v8 = i0;
+v32 = i0;
 }
 }
 }
 j0 = v3;
-i1 = v8;
+i1 = v32;
 p341 = write_at(j0, m, 1u);
 store8(p341 + 0, i1);
 l538:;
@@ -51390,11 +51396,11 @@ p358 = read_at(j0, m, 8u);
 j0 = load64(p358 + 0);
 v40 = j0;
 }
+i0 = UINT32_C(0);
+v8 = i0;
 i0 = v18;
 i0 = (i0 == 0);
 if (!i0) {
-i0 = UINT32_C(4);
-v18 = i0;
 j0 = v3;
 j1 = v40;
 j2 = v6;
@@ -51409,18 +51415,17 @@ j4 = j4 + j5;
 i0 = fio_log_quiet_held_by_text(m, j0, j1, j2, j3, j4);
 i1 = UINT32_C(255);
 i0 = i0 & i1;
-if (i0) { goto l516; }
+i1 = UINT32_C(0);
+i0 = (i0 != i1);
+v8 = i0;
 }
-i0 = UINT32_C(0);
-v18 = i0;
-goto l516;
 l517:;
 i0 = UINT32_C(4);
-v18 = i0;
-l516:;
-i0 = v18;
 i1 = UINT32_C(4);
-i2 = v32;
+i2 = UINT32_C(0);
+i3 = v8;
+i1 = i3 ? i1 : i2;
+i2 = v33;
 i0 = i2 ? i0 : i1;
 v18 = i0;
 i0 = UINT32_C(1);
@@ -129925,7 +129930,7 @@ return;
 }
 fio2070_trap();
 }
-static uint32_t fio_log_reader_read_line(struct machine *m, uint32_t v0, uint64_t v1, uint64_t v2, uint64_t v3, uint64_t v4, uint64_t v5)
+static uint32_t fio_log_reader_sources_read_line(struct machine *m, uint32_t v0, uint64_t v1, uint64_t v2, uint64_t v3, uint64_t v4, uint64_t v5)
 {
 uint64_t v6 = 0;
 uint64_t v7 = 0;
@@ -138036,6 +138041,7 @@ uint32_t v21 = 0;
 uint32_t v22 = 0;
 uint32_t v23 = 0;
 uint32_t v24 = 0;
+uint32_t v25 = 0;
 uint32_t i0;
 uint32_t i1;
 uint32_t i2;
@@ -138074,6 +138080,7 @@ uint8_t *p24;
 uint8_t *p25;
 uint8_t *p26;
 uint8_t *p27;
+uint8_t *p28;
 j0 = m->g0;
 j1 = UINT64_C(80);
 j0 = j0 - j1;
@@ -138437,19 +138444,19 @@ i1 = i1 << (i2 & 31);
 i0 = i0 | i1;
 v12 = i0;
 i0 = UINT32_C(0);
-v2 = i0;
-j0 = v7;
-i0 = load8(p1 + 6);
 v11 = i0;
 j0 = v7;
-i0 = load8(p1 + 5);
+i0 = load8(p1 + 6);
 v3 = i0;
 j0 = v7;
+i0 = load8(p1 + 5);
+v8 = i0;
+j0 = v7;
 i0 = load8(p1 + 1);
-v4 = i0;
+v10 = i0;
 j0 = v7;
 i0 = load8(p1 + 0);
-v8 = i0;
+v2 = i0;
 goto l2;
 }
 j0 = v1;
@@ -138715,16 +138722,16 @@ j5 = v6;
 fio_check_link_judge_LinkJudge_frame(m, j0, j1, i2, i3, j4, j5);
 j0 = v7;
 i0 = load8(p1 + 38);
-v21 = i0;
-j0 = v7;
-i0 = load8(p1 + 37);
 v23 = i0;
 j0 = v7;
+i0 = load8(p1 + 37);
+v22 = i0;
+j0 = v7;
 i0 = load8(p1 + 33);
-v15 = i0;
+v21 = i0;
 j0 = v7;
 i0 = load8(p1 + 32);
-v10 = i0;
+v15 = i0;
 goto l34;
 l35:;
 j0 = v7;
@@ -138775,9 +138782,9 @@ store32(p1 + 34, i1);
 i0 = v12;
 i1 = UINT32_C(1);
 i0 = (i0 != i1);
-v15 = i0;
+v21 = i0;
 i0 = UINT32_C(5);
-v10 = i0;
+v15 = i0;
 goto l37;
 }
 }
@@ -138796,7 +138803,7 @@ i1 = load16(p1 + 51);
 i2 = UINT32_C(0);
 j3 = v7;
 i3 = load8(p1 + 48);
-v10 = i3;
+v15 = i3;
 i4 = UINT32_C(1);
 i3 = (i3 == i4);
 v12 = i3;
@@ -138814,19 +138821,19 @@ i0 = load8(p1 + 49);
 i1 = UINT32_C(0);
 i2 = v12;
 i0 = i2 ? i0 : i1;
-v15 = i0;
+v21 = i0;
 l37:;
 i0 = UINT32_C(0);
-v21 = i0;
-i0 = UINT32_C(0);
 v23 = i0;
+i0 = UINT32_C(0);
+v22 = i0;
 l34:;
 j0 = v7;
 i0 = load8(p1 + 36);
-v22 = i0;
+v24 = i0;
 j0 = v7;
 i0 = load16(p1 + 34);
-v24 = i0;
+v25 = i0;
 i0 = v14;
 i1 = UINT32_C(1);
 i0 = i0 & i1;
@@ -138836,20 +138843,68 @@ i0 = UINT32_C(1);
 v12 = i0;
 i0 = UINT32_C(0);
 v2 = i0;
-i0 = v10;
+i0 = v15;
 i1 = UINT32_C(255);
 i0 = i0 & i1;
 i1 = UINT32_C(1);
 i0 = (i0 != i1);
 if (i0) { goto l43; }
 i0 = UINT32_C(1);
-i1 = v15;
+i1 = v21;
 i2 = UINT32_C(255);
 i1 = i1 & i2;
 i0 = i0 << (i1 & 31);
-i1 = UINT32_C(239);
+v12 = i0;
+i1 = UINT32_C(231);
 i0 = i0 & i1;
 if (i0) { goto l42; }
+i0 = v12;
+i1 = UINT32_C(272);
+i0 = i0 & i1;
+if (!i0) {
+i0 = v4;
+i1 = UINT32_C(255);
+i0 = i0 & i1;
+if (!i0) {
+j0 = v1;
+j1 = UINT64_C(743);
+j0 = j0 + j1;
+i1 = v16;
+p17 = write_at(j0 + UINT64_C(18446744073709551609), m, 8u);
+store8(p17 + 7, i1);
+j0 = v1;
+j1 = UINT64_C(742);
+j0 = j0 + j1;
+i1 = v17;
+store8(p17 + 6, i1);
+j0 = v1;
+j1 = UINT64_C(741);
+j0 = j0 + j1;
+i1 = v18;
+store8(p17 + 5, i1);
+j0 = v1;
+j1 = UINT64_C(740);
+j0 = j0 + j1;
+i1 = v19;
+store8(p17 + 4, i1);
+j0 = v1;
+j1 = UINT64_C(739);
+j0 = j0 + j1;
+i1 = v20;
+store8(p17 + 3, i1);
+j0 = v1;
+j1 = UINT64_C(738);
+j0 = j0 + j1;
+i1 = v3;
+store8(p17 + 2, i1);
+j0 = v1;
+j1 = UINT64_C(736);
+j0 = j0 + j1;
+i1 = UINT32_C(257);
+store16(p17 + 0, i1);
+goto l39;
+}
+}
 }
 i0 = UINT32_C(0);
 v12 = i0;
@@ -138869,124 +138924,51 @@ j0 = v1;
 j1 = UINT64_C(680);
 j0 = j0 + j1;
 j1 = UINT64_C(0);
-p17 = write_at(j0 + UINT64_C(18446744073709551592), m, 72u);
-store64(p17 + 24, j1);
+p18 = write_at(j0 + UINT64_C(18446744073709551592), m, 72u);
+store64(p18 + 24, j1);
 j0 = v1;
 j1 = UINT64_C(672);
 j0 = j0 + j1;
 j1 = UINT64_C(0);
-store64(p17 + 16, j1);
+store64(p18 + 16, j1);
 j0 = v1;
 j1 = UINT64_C(664);
 j0 = j0 + j1;
 j1 = UINT64_C(0);
-store64(p17 + 8, j1);
+store64(p18 + 8, j1);
 j0 = v1;
 j1 = UINT64_C(656);
 j0 = j0 + j1;
 j1 = UINT64_C(0);
-store64(p17 + 0, j1);
+store64(p18 + 0, j1);
 j0 = v1;
 j1 = UINT64_C(689);
 j0 = j0 + j1;
 j1 = UINT64_C(0);
-store64(p17 + 33, j1);
+store64(p18 + 33, j1);
 j0 = v1;
 j1 = UINT64_C(697);
 j0 = j0 + j1;
 j1 = UINT64_C(0);
-store64(p17 + 41, j1);
+store64(p18 + 41, j1);
 j0 = v1;
 j1 = UINT64_C(705);
 j0 = j0 + j1;
 j1 = UINT64_C(0);
-store64(p17 + 49, j1);
+store64(p18 + 49, j1);
 j0 = v1;
 j1 = UINT64_C(713);
 j0 = j0 + j1;
 j1 = UINT64_C(0);
-store64(p17 + 57, j1);
+store64(p18 + 57, j1);
 j0 = v1;
 j1 = UINT64_C(720);
 j0 = j0 + j1;
 j1 = UINT64_C(0);
-store64(p17 + 64, j1);
+store64(p18 + 64, j1);
 i0 = UINT32_C(1);
 v2 = i0;
 l43:;
-j0 = v1;
-j1 = UINT64_C(743);
-j0 = j0 + j1;
-i1 = v16;
-p18 = write_at(j0 + UINT64_C(18446744073709551609), m, 8u);
-store8(p18 + 7, i1);
-j0 = v1;
-j1 = UINT64_C(742);
-j0 = j0 + j1;
-i1 = v17;
-store8(p18 + 6, i1);
-j0 = v1;
-j1 = UINT64_C(741);
-j0 = j0 + j1;
-i1 = v18;
-store8(p18 + 5, i1);
-j0 = v1;
-j1 = UINT64_C(740);
-j0 = j0 + j1;
-i1 = v19;
-store8(p18 + 4, i1);
-j0 = v1;
-j1 = UINT64_C(739);
-j0 = j0 + j1;
-i1 = v20;
-store8(p18 + 3, i1);
-j0 = v1;
-j1 = UINT64_C(738);
-j0 = j0 + j1;
-i1 = v3;
-store8(p18 + 2, i1);
-j0 = v1;
-j1 = UINT64_C(737);
-j0 = j0 + j1;
-i1 = v12;
-store8(p18 + 1, i1);
-j0 = v1;
-j1 = UINT64_C(736);
-j0 = j0 + j1;
-i1 = UINT32_C(1);
-store8(p18 + 0, i1);
-i0 = v10;
-j0 = (uint64_t)i0;
-j1 = UINT64_C(255);
-j0 = j0 & j1;
-i0 = (uint32_t)j0;
-switch (i0) {
-case 0:
-goto l39;
-case 1:
-goto l41;
-case 2:
-goto l40;
-case 3:
-goto l45;
-case 4:
-goto l40;
-case 5:
-goto l39;
-default:
-goto l39;
-}
-l45:;
-i0 = v15;
-i1 = UINT32_C(255);
-i0 = i0 & i1;
-i0 = (i0 == 0);
-i1 = v2;
-i0 = i0 & i1;
-i0 = (i0 == 0);
-if (i0) { goto l39; }
-goto l5;
-l42:;
 j0 = v1;
 j1 = UINT64_C(743);
 j0 = j0 + j1;
@@ -139019,59 +139001,144 @@ j0 = j0 + j1;
 i1 = v3;
 store8(p19 + 2, i1);
 j0 = v1;
+j1 = UINT64_C(737);
+j0 = j0 + j1;
+i1 = v12;
+store8(p19 + 1, i1);
+j0 = v1;
+j1 = UINT64_C(736);
+j0 = j0 + j1;
+i1 = UINT32_C(1);
+store8(p19 + 0, i1);
+i0 = v15;
+j0 = (uint64_t)i0;
+j1 = UINT64_C(255);
+j0 = j0 & j1;
+i0 = (uint32_t)j0;
+switch (i0) {
+case 0:
+goto l39;
+case 1:
+goto l41;
+case 2:
+goto l40;
+case 3:
+goto l45;
+case 4:
+goto l40;
+case 5:
+goto l39;
+default:
+goto l39;
+}
+l45:;
+i0 = v21;
+i1 = UINT32_C(255);
+i0 = i0 & i1;
+i0 = (i0 == 0);
+i1 = v2;
+i0 = i0 & i1;
+i0 = (i0 == 0);
+if (i0) { goto l39; }
+goto l5;
+l42:;
+j0 = v1;
+j1 = UINT64_C(743);
+j0 = j0 + j1;
+i1 = v16;
+p20 = write_at(j0 + UINT64_C(18446744073709551609), m, 8u);
+store8(p20 + 7, i1);
+j0 = v1;
+j1 = UINT64_C(742);
+j0 = j0 + j1;
+i1 = v17;
+store8(p20 + 6, i1);
+j0 = v1;
+j1 = UINT64_C(741);
+j0 = j0 + j1;
+i1 = v18;
+store8(p20 + 5, i1);
+j0 = v1;
+j1 = UINT64_C(740);
+j0 = j0 + j1;
+i1 = v19;
+store8(p20 + 4, i1);
+j0 = v1;
+j1 = UINT64_C(739);
+j0 = j0 + j1;
+i1 = v20;
+store8(p20 + 3, i1);
+j0 = v1;
+j1 = UINT64_C(738);
+j0 = j0 + j1;
+i1 = v3;
+store8(p20 + 2, i1);
+j0 = v1;
 j1 = UINT64_C(736);
 j0 = j0 + j1;
 i1 = UINT32_C(257);
-store16(p19 + 0, i1);
+store16(p20 + 0, i1);
 l41:;
 i0 = UINT32_C(0);
-v8 = i0;
-i0 = UINT32_C(2);
 v2 = i0;
-i0 = UINT32_C(0);
-v4 = i0;
-i0 = UINT32_C(0);
-v12 = i0;
-i0 = UINT32_C(0);
-v3 = i0;
-i0 = UINT32_C(0);
+i0 = UINT32_C(2);
 v11 = i0;
 i0 = UINT32_C(1);
-i1 = v15;
+i1 = v21;
 i2 = UINT32_C(255);
 i1 = i1 & i2;
 i0 = i0 << (i1 & 31);
-i1 = UINT32_C(239);
+v12 = i0;
+i1 = UINT32_C(231);
 i0 = i0 & i1;
+if (i0) { goto l39; }
+i0 = v12;
+i1 = UINT32_C(272);
+i0 = i0 & i1;
+if (i0) { goto l3; }
+i0 = UINT32_C(0);
+v2 = i0;
+i0 = UINT32_C(0);
+v10 = i0;
+i0 = UINT32_C(0);
+v12 = i0;
+i0 = UINT32_C(0);
+v8 = i0;
+i0 = UINT32_C(0);
+v3 = i0;
+i0 = v4;
+i1 = UINT32_C(255);
+i0 = i0 & i1;
+i0 = (i0 == 0);
 if (i0) { goto l39; }
 goto l2;
 l40:;
 i0 = v2;
 if (i0) { goto l5; }
 l39:;
-i0 = v24;
-i1 = v22;
+i0 = v25;
+i1 = v24;
 i2 = UINT32_C(16);
 i1 = i1 << (i2 & 31);
 i0 = i0 | i1;
 v12 = i0;
 i0 = UINT32_C(0);
-v2 = i0;
-i0 = v10;
-v8 = i0;
+v11 = i0;
 i0 = v15;
-v4 = i0;
+v2 = i0;
+i0 = v21;
+v10 = i0;
+i0 = v22;
+v8 = i0;
 i0 = v23;
 v3 = i0;
-i0 = v21;
-v11 = i0;
 goto l2;
 l21:;
 j0 = v1;
 j1 = UINT64_C(13);
 j0 = j0 + j1;
-p20 = read_at(j0, m, 1u);
-i0 = load8(p20 + 0);
+p21 = read_at(j0, m, 1u);
+i0 = load8(p21 + 0);
 v12 = i0;
 i0 = v15;
 i0 = (i0 == 0);
@@ -139084,14 +139151,14 @@ i0 = (i0 == i1);
 if (i0) { goto l46; }
 j0 = v1;
 j1 = UINT64_C(0);
-p21 = write_at(j0 + UINT64_C(1), m, 13u);
-store64(p21 + 3, j1);
+p22 = write_at(j0 + UINT64_C(1), m, 13u);
+store64(p22 + 3, j1);
 j0 = v1;
 i1 = UINT32_C(0);
-store8(p21 + 0, i1);
+store8(p22 + 0, i1);
 j0 = v1;
 i1 = UINT32_C(512);
-store16(p21 + 11, i1);
+store16(p22 + 11, i1);
 goto l46;
 }
 i0 = v12;
@@ -139102,30 +139169,30 @@ i0 = (i0 == i1);
 if (!i0) {
 j0 = v1;
 j1 = UINT64_C(0);
-p22 = write_at(j0 + UINT64_C(1), m, 13u);
-store64(p22 + 3, j1);
+p23 = write_at(j0 + UINT64_C(1), m, 13u);
+store64(p23 + 3, j1);
 j0 = v1;
 i1 = UINT32_C(0);
-store8(p22 + 0, i1);
+store8(p23 + 0, i1);
 j0 = v1;
 i1 = UINT32_C(512);
-store16(p22 + 11, i1);
+store16(p23 + 11, i1);
 }
 j0 = v1;
 j1 = UINT64_C(688);
 j0 = j0 + j1;
 v6 = j0;
-p23 = read_at(j0, m, 1u);
-i0 = load8(p23 + 0);
+p24 = read_at(j0, m, 1u);
+i0 = load8(p24 + 0);
 if (!i0) {
 j0 = v6;
 i1 = UINT32_C(1);
-p24 = write_at(j0, m, 1u);
-store8(p24 + 0, i1);
+p25 = write_at(j0, m, 1u);
+store8(p25 + 0, i1);
 }
 l46:;
 i0 = UINT32_C(0);
-v8 = i0;
+v2 = i0;
 j0 = v1;
 j1 = UINT64_C(16);
 j0 = j0 + j1;
@@ -139133,119 +139200,7 @@ i1 = UINT32_C(0);
 j2 = UINT64_C(384);
 fill(m, j0, i1, j2);
 i0 = UINT32_C(1);
-v2 = i0;
-j0 = v1;
-j1 = UINT64_C(400);
-j0 = j0 + j1;
-i1 = UINT32_C(1);
-j2 = UINT64_C(256);
-fill(m, j0, i1, j2);
-j0 = v1;
-j1 = UINT64_C(680);
-j0 = j0 + j1;
-j1 = UINT64_C(0);
-p25 = write_at(j0 + UINT64_C(18446744073709551592), m, 88u);
-store64(p25 + 24, j1);
-j0 = v1;
-j1 = UINT64_C(672);
-j0 = j0 + j1;
-j1 = UINT64_C(0);
-store64(p25 + 16, j1);
-j0 = v1;
-j1 = UINT64_C(664);
-j0 = j0 + j1;
-j1 = UINT64_C(0);
-store64(p25 + 8, j1);
-j0 = v1;
-j1 = UINT64_C(656);
-j0 = j0 + j1;
-j1 = UINT64_C(0);
-store64(p25 + 0, j1);
-j0 = v1;
-j1 = UINT64_C(689);
-j0 = j0 + j1;
-j1 = UINT64_C(0);
-store64(p25 + 33, j1);
-j0 = v1;
-j1 = UINT64_C(697);
-j0 = j0 + j1;
-j1 = UINT64_C(0);
-store64(p25 + 41, j1);
-j0 = v1;
-j1 = UINT64_C(705);
-j0 = j0 + j1;
-j1 = UINT64_C(0);
-store64(p25 + 49, j1);
-j0 = v1;
-j1 = UINT64_C(713);
-j0 = j0 + j1;
-j1 = UINT64_C(0);
-store64(p25 + 57, j1);
-j0 = v1;
-j1 = UINT64_C(720);
-j0 = j0 + j1;
-j1 = UINT64_C(0);
-store64(p25 + 64, j1);
-j0 = v1;
-j1 = UINT64_C(743);
-j0 = j0 + j1;
-i1 = v16;
-store8(p25 + 87, i1);
-j0 = v1;
-j1 = UINT64_C(742);
-j0 = j0 + j1;
-i1 = v17;
-store8(p25 + 86, i1);
-j0 = v1;
-j1 = UINT64_C(741);
-j0 = j0 + j1;
-i1 = v18;
-store8(p25 + 85, i1);
-j0 = v1;
-j1 = UINT64_C(740);
-j0 = j0 + j1;
-i1 = v19;
-store8(p25 + 84, i1);
-j0 = v1;
-j1 = UINT64_C(739);
-j0 = j0 + j1;
-i1 = v20;
-store8(p25 + 83, i1);
-j0 = v1;
-j1 = UINT64_C(738);
-j0 = j0 + j1;
-i1 = v3;
-store8(p25 + 82, i1);
-j0 = v1;
-j1 = UINT64_C(737);
-j0 = j0 + j1;
-i1 = v14;
-store8(p25 + 81, i1);
-j0 = v1;
-j1 = UINT64_C(736);
-j0 = j0 + j1;
-i1 = UINT32_C(1);
-store8(p25 + 80, i1);
-goto l3;
-}
-fio2070_trap();
-l5:;
-i0 = UINT32_C(0);
-v8 = i0;
-i0 = UINT32_C(2);
-v2 = i0;
-goto l3;
-l4:;
-i0 = UINT32_C(0);
-v8 = i0;
-j0 = v1;
-j1 = UINT64_C(16);
-j0 = j0 + j1;
-i1 = UINT32_C(0);
-j2 = UINT64_C(384);
-fill(m, j0, i1, j2);
-i0 = UINT32_C(1);
-v2 = i0;
+v11 = i0;
 j0 = v1;
 j1 = UINT64_C(400);
 j0 = j0 + j1;
@@ -139338,52 +139293,164 @@ j1 = UINT64_C(736);
 j0 = j0 + j1;
 i1 = UINT32_C(1);
 store8(p26 + 80, i1);
+goto l3;
+}
+fio2070_trap();
+l5:;
+i0 = UINT32_C(0);
+v2 = i0;
+i0 = UINT32_C(2);
+v11 = i0;
+goto l3;
+l4:;
+i0 = UINT32_C(0);
+v2 = i0;
+j0 = v1;
+j1 = UINT64_C(16);
+j0 = j0 + j1;
+i1 = UINT32_C(0);
+j2 = UINT64_C(384);
+fill(m, j0, i1, j2);
+i0 = UINT32_C(1);
+v11 = i0;
+j0 = v1;
+j1 = UINT64_C(400);
+j0 = j0 + j1;
+i1 = UINT32_C(1);
+j2 = UINT64_C(256);
+fill(m, j0, i1, j2);
+j0 = v1;
+j1 = UINT64_C(680);
+j0 = j0 + j1;
+j1 = UINT64_C(0);
+p27 = write_at(j0 + UINT64_C(18446744073709551592), m, 88u);
+store64(p27 + 24, j1);
+j0 = v1;
+j1 = UINT64_C(672);
+j0 = j0 + j1;
+j1 = UINT64_C(0);
+store64(p27 + 16, j1);
+j0 = v1;
+j1 = UINT64_C(664);
+j0 = j0 + j1;
+j1 = UINT64_C(0);
+store64(p27 + 8, j1);
+j0 = v1;
+j1 = UINT64_C(656);
+j0 = j0 + j1;
+j1 = UINT64_C(0);
+store64(p27 + 0, j1);
+j0 = v1;
+j1 = UINT64_C(689);
+j0 = j0 + j1;
+j1 = UINT64_C(0);
+store64(p27 + 33, j1);
+j0 = v1;
+j1 = UINT64_C(697);
+j0 = j0 + j1;
+j1 = UINT64_C(0);
+store64(p27 + 41, j1);
+j0 = v1;
+j1 = UINT64_C(705);
+j0 = j0 + j1;
+j1 = UINT64_C(0);
+store64(p27 + 49, j1);
+j0 = v1;
+j1 = UINT64_C(713);
+j0 = j0 + j1;
+j1 = UINT64_C(0);
+store64(p27 + 57, j1);
+j0 = v1;
+j1 = UINT64_C(720);
+j0 = j0 + j1;
+j1 = UINT64_C(0);
+store64(p27 + 64, j1);
+j0 = v1;
+j1 = UINT64_C(743);
+j0 = j0 + j1;
+i1 = v16;
+store8(p27 + 87, i1);
+j0 = v1;
+j1 = UINT64_C(742);
+j0 = j0 + j1;
+i1 = v17;
+store8(p27 + 86, i1);
+j0 = v1;
+j1 = UINT64_C(741);
+j0 = j0 + j1;
+i1 = v18;
+store8(p27 + 85, i1);
+j0 = v1;
+j1 = UINT64_C(740);
+j0 = j0 + j1;
+i1 = v19;
+store8(p27 + 84, i1);
+j0 = v1;
+j1 = UINT64_C(739);
+j0 = j0 + j1;
+i1 = v20;
+store8(p27 + 83, i1);
+j0 = v1;
+j1 = UINT64_C(738);
+j0 = j0 + j1;
+i1 = v3;
+store8(p27 + 82, i1);
+j0 = v1;
+j1 = UINT64_C(737);
+j0 = j0 + j1;
+i1 = v14;
+store8(p27 + 81, i1);
+j0 = v1;
+j1 = UINT64_C(736);
+j0 = j0 + j1;
+i1 = UINT32_C(1);
+store8(p27 + 80, i1);
 l3:;
 i0 = UINT32_C(0);
-v4 = i0;
+v10 = i0;
 i0 = UINT32_C(0);
 v12 = i0;
 i0 = UINT32_C(0);
-v3 = i0;
+v8 = i0;
 i0 = UINT32_C(0);
-v11 = i0;
+v3 = i0;
 l2:;
 j0 = v0;
-i1 = v2;
-p27 = write_at(j0, m, 9u);
-store16(p27 + 0, i1);
+i1 = v11;
+p28 = write_at(j0, m, 9u);
+store16(p28 + 0, i1);
 j0 = v0;
 j1 = UINT64_C(6);
 j0 = j0 + j1;
 i1 = v12;
 i2 = UINT32_C(16);
 i1 = i1 >> (i2 & 31);
-store8(p27 + 6, i1);
+store8(p28 + 6, i1);
 j0 = v0;
 j1 = UINT64_C(4);
 j0 = j0 + j1;
 i1 = v12;
-store16(p27 + 4, i1);
+store16(p28 + 4, i1);
 j0 = v0;
 j1 = UINT64_C(8);
 j0 = j0 + j1;
-i1 = v11;
-store8(p27 + 8, i1);
+i1 = v3;
+store8(p28 + 8, i1);
 j0 = v0;
 j1 = UINT64_C(7);
 j0 = j0 + j1;
-i1 = v3;
-store8(p27 + 7, i1);
+i1 = v8;
+store8(p28 + 7, i1);
 j0 = v0;
 j1 = UINT64_C(3);
 j0 = j0 + j1;
-i1 = v4;
-store8(p27 + 3, i1);
+i1 = v10;
+store8(p28 + 3, i1);
 j0 = v0;
 j1 = UINT64_C(2);
 j0 = j0 + j1;
-i1 = v8;
-store8(p27 + 2, i1);
+i1 = v2;
+store8(p28 + 2, i1);
 j0 = v7;
 j1 = UINT64_C(80);
 j0 = j0 + j1;
@@ -142928,7 +142995,7 @@ j5 = v6;
 j6 = v0;
 j7 = UINT64_C(455824);
 j6 = j6 + j7;
-i1 = fio_log_reader_read_line(m, i1, j2, j3, j4, j5, j6);
+i1 = fio_log_reader_sources_read_line(m, i1, j2, j3, j4, j5, j6);
 v2 = i1;
 store8(p21 + 16, i1);
 goto l3;
@@ -153588,7 +153655,7 @@ j3 = j3 + j4;
 j4 = v15;
 j5 = v14;
 j6 = v10;
-i1 = fio_log_reader_read_line(m, i1, j2, j3, j4, j5, j6);
+i1 = fio_log_reader_sources_read_line(m, i1, j2, j3, j4, j5, j6);
 store8(p57 + 16, i1);
 l42:;
 j0 = v6;

@@ -3,7 +3,7 @@
  *
  * The field I/O transition link of the Model 2070: the header of fio2070.c.
  *
- * Sources: 37da1a670311014f2e4fa1242114f5ee34455817608ccc3c681ac25edc972f18 (SHA-256; packaging/release-files --sources)
+ * Sources: 6918377ce1cd5840458945e4b72e632c51d42d5935d1d136780805c0cb14effb (SHA-256; packaging/release-files --sources)
  * Kit: rattle-kit-13f logic dac8208d650f15bf
  * Proof: logic=proved functions=231 target=wasm64-unknown-unknown sum=dac8208d650f15bf native=nat,char,string
  * Made by `make release-files`: do not edit.
@@ -1123,7 +1123,7 @@ struct fio2070_log_verdict {
     /** The address of its frames, which stands before their messages, if all have one and the same; else
      *  0. */
     uint8_t address;
-    /** The control octet, which stands behind the address; of a line with `foreign` 55, 180 or 181 how
+    /** The control octet, which follows the address; of a line with `foreign` 55, 180 or 181 how
      *  many octets of inputs or of outputs it has; else 0. */
     uint8_t control;
     /** How many of these there are: 0, 1 for the address alone, or 2. */
@@ -1245,8 +1245,8 @@ uint32_t fio2070_log_like(struct fio2070_log_reader *reader, const uint8_t *octe
 /** @defgroup log_judge The judge of a log
  * A struct fio2070_log_judge judges the frames that a reader of a log finds, by what it says of the lines between them too. It
  * is a judge of a link (group judge), which finds by the directions of the log where it was taken. A line that may have held a
- * frame loses sync; a remark of loss, which has no octets, excuses what a lost frame explains. Of a log that was taken at
- * a CPU which waits for each answer only until a deadline, late answers can be left out (docs/CAPTURES.md, Late answers). A
+ * frame loses sync; a remark of loss, which has no octets, excuses what a lost frame explains. If the CPU waits for each
+ * answer only until a deadline, late answers can be left out (docs/CAPTURES.md, Late answers). A
  * struct fio2070_log_signs says what kind of log it looks like, if it is not the log of one link in order. If FIO2070_NO_LOG is
  * defined, there are no such calls.
  * @code
@@ -1309,7 +1309,8 @@ struct fio2070_log_judge {
  * FIO2070_LOG_TAKEN_AUTO finds the place of each frame: a frame whose line says no direction was logged on the bus; another one
  * at the CPU's end, if down to it at least four of five directions agree with the types of their messages; at the module, if at
  * least four of five contradict them, as they do where the module's driver writes `TX` for an answer; else on the bus.
- * FIO2070_LOG_BEGINS_WITH_ENDS can accuse a right link in a log that begins elsewhere. FIO2070_LOG_LEAVES_OUT_LATE is for a log that was taken at the CPU's end. */
+ * FIO2070_LOG_BEGINS_WITH_ENDS can accuse a right link in a log that begins elsewhere.
+ * With FIO2070_LOG_LEAVES_OUT_LATE the rule `advance` is judged only in a log that was taken at the CPU's end. */
 FIO2070_MUST_USE
 uint8_t fio2070_log_judge_start(struct fio2070_log_judge *judge, struct fio2070_limits limits, uint8_t place, uint8_t start);
 /** Takes a line that may have held a frame, such as a damaged one: up to the next poll nothing is judged. Call it also for the heading
