@@ -1123,8 +1123,8 @@ struct fio2070_log_verdict {
     /** The address of its frames, which stands before their messages, if all have one and the same; else
      *  0. */
     uint8_t address;
-    /** The control octet, which follows the address; of a line with `foreign` 55, 180 or 181 how
-     *  many octets of inputs or of outputs it has; else 0. */
+    /** The control octet, which follows the address; of a line with `foreign` 55, 180 or 181 how many
+     *  octets of inputs or of outputs it has; else 0. */
     uint8_t control;
     /** How many of these there are: 0, 1 for the address alone, or 2. */
     uint8_t header;
