@@ -3,7 +3,7 @@
  *
  * The field I/O transition link of the Model 2070: the header of fio2070.c.
  *
- * Sources: 6918377ce1cd5840458945e4b72e632c51d42d5935d1d136780805c0cb14effb (SHA-256; packaging/release-files --sources)
+ * Sources: 33d38ff657ef69338147b54f3b4b734ef8d985a61694f1eb178b12747d6f024b (SHA-256; packaging/release-files --sources)
  * Kit: rattle-kit-13f logic dac8208d650f15bf
  * Proof: logic=proved functions=231 target=wasm64-unknown-unknown sum=dac8208d650f15bf native=nat,char,string
  * Made by `make release-files`: do not edit.
@@ -1123,8 +1123,8 @@ struct fio2070_log_verdict {
     /** The address of its frames, which stands before their messages, if all have one and the same; else
      *  0. */
     uint8_t address;
-    /** The control octet, which follows the address; of a line with `foreign` 55, 180 or 181 how
-     *  many octets of inputs or of outputs it has; else 0. */
+    /** The control octet, which follows the address; of a line with `foreign` 55, 180 or 181 how many
+     *  octets of inputs or of outputs it has; else 0. */
     uint8_t control;
     /** How many of these there are: 0, 1 for the address alone, or 2. */
     uint8_t header;
