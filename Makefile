@@ -166,9 +166,9 @@ endif
 # without it, these two are made first. `fiolog` loads the shared library, which is beside the Python packages. Everyone can read
 # all of it, whatever the settings of the user who cloned the repository or installs it.
 headers = $(wildcard $(interface)/*.h $(interface)/*.hpp)
-tools = lossy-script transcript conformance waveform wireshark $(if $(shared),fiolog)
-filters = transcript lossy-script waveform/vcd wireshark/hex2pcap
-tool_pages = README.md page/README.md portable/README.md $(patsubst tools/%,%,$(wildcard tools/page/*.png))
+tools = lossy-script transcript conformance wireshark $(if $(shared),fiolog)
+filters = transcript lossy-script wireshark/hex2pcap
+tool_pages = README.md gtkwave.png page/README.md portable/README.md $(patsubst tools/%,%,$(wildcard tools/page/*.png))
 pages = README.md LICENSE LICENSES-OF-OTHERS CHANGELOG.md SECURITY.md CONTRIBUTING.md
 pkgconfig = $(root)/$(LIB)/pkgconfig
 cmake = $(root)/$(LIB)/cmake/fio2070

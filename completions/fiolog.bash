@@ -5,7 +5,6 @@ _fiolog() {
     case "$command ${COMP_WORDS[COMP_CWORD - 1]}" in
     'decode --format' | 'check --format' | 'stats --format' | 'convert --format' | 'record --format') words='auto frames transcript' ;;
     'decode --line' | 'check --line' | 'stats --line' | 'convert --line' | 'record --line') words='octets bits bits-high-first' ;;
-    'decode --direction') words='sent heard' ;;
     'decode --color') words='auto always never' ;;
     'check --at' | 'record --at' | 'live --at') words='auto cpu module bus' ;;
     'check --rules') words='all transcript' ;;
@@ -19,12 +18,12 @@ _fiolog() {
         1:*) words='decode check stats plan convert record live -h --help -V --version' ;;
         *:-*)
             case $command in
-            decode) words='-h --help --format --pattern --sdlc --no-check --line --address --like --merge -v --verbose -q --quiet --json --csv --input --type --block --status --unanswered --direction --lines --color' ;;
-            check) words='-h --help --format --pattern --sdlc --no-check --line --address --like --merge -v --verbose -q --quiet --at --start-at-poll --whole --limits --rules --except --tees --explain --late-answers --no-loads -r --recursive --jobs --json --csv' ;;
-            stats) words='-h --help --format --pattern --sdlc --no-check --line --address --like --merge -v --verbose -q --quiet -r --recursive --jobs --json' ;;
-            plan) words='-h --help --inputs --filter --group --limits --block --waiting --outage --lost --every --rate --sync --async --answer-time --plot -v --verbose --json' ;;
-            convert) words='-h --help --format --pattern --sdlc --no-check --line --address --like --merge -v --verbose -q --quiet --to -o --output --times' ;;
-            record) words='-h --help --format --pattern --sdlc --no-check --line --address --like --merge -v --verbose -q --quiet --at --start-at-poll --whole --limits --text --json --csv --vcd --plot --hires --start --signal --on --channels' ;;
+            decode) words='-h --help --format --pattern --line --address --like --merge -v --verbose -q --quiet --json --csv --input --color' ;;
+            check) words='-h --help --format --pattern --line --address --like --merge -v --verbose -q --quiet --at --start-at-poll --whole --limits --rules --except --tees --explain --late-answers --no-loads -r --recursive --jobs --json --csv' ;;
+            stats) words='-h --help --format --pattern --line --address --like --merge -v --verbose -q --quiet -r --recursive --jobs --json' ;;
+            plan) words='-h --help --inputs --filter --limits --block --waiting --rate --sync --async --answer-time --drift --jitter -v --verbose --json' ;;
+            convert) words='-h --help --format --pattern --line --address --like --merge -v --verbose -q --quiet --to -o --output --times' ;;
+            record) words='-h --help --format --pattern --line --address --like --merge -v --verbose -q --quiet --at --start-at-poll --whole --limits -r --recursive --text --json --csv --vcd --hires --start --signal --on --channels' ;;
             live) words='-h --help --exec --serial --udp --fifo --address --like --rate --host --transcript --pcapng --force --at --whole --limits --except --late-answers --no-loads --seconds -v --verbose -q --quiet' ;;
             esac ;;
         esac ;;

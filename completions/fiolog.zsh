@@ -4,7 +4,7 @@
 _fiolog() {
     local -a commands=(
         'decode:what each frame says'
-        'check:every breach of the rules, with what was due and what came'
+        'check:whether transitions are lost, where and why; and every breach of the rules'
         'stats:how much, how often, how fast'
         'plan:how often to poll, how long an outage may last, how late a transition can be'
         'convert:the frames as a transcript, frames, pcapng or VCD'
@@ -28,8 +28,6 @@ _fiolog() {
         specs+=(
             '--format[auto (the default); frames or transcript, as fio2070 show and check read lines]:name:(auto frames transcript)'
             '--pattern[a regular expression with the group octets (hexadecimal digits), and if you like time and dir]:regex:'
-            '--sdlc[each line ends with frames that have address, control and frame check; with flags, a frame may go on in the next line, or row of a dump]'
-            '--no-check[with --sdlc, each line ends with one frame, without the frame check]'
             '--line[the file is what a line carried, octets, or bits (bits-high-first), one a clock, as a text of 0 and 1 or eight to an octet]:form:(octets bits bits-high-first)'
             '--merge[read the files as one log, in the order of their times, such as one file of each channel]'
             {-q,--quiet}'[write only errors to standard error]') ;|
@@ -43,12 +41,6 @@ _fiolog() {
             '--json[one object a line, file, line, time (seconds or null), direction (> or <) and octets; then fault, or type, says, the numbers of that message by name, what its status bits say, of a repeated block that it is one, and entries or items]'
             '--csv[a table; an entry a row]'
             '--input[only messages with this input, and of them its lines]:n:'
-            '--type[only this type, 49 to 60, 177 to 188, poll, block]:n:'
-            '--block[only polls and blocks with this number]:n:'
-            '--status[only blocks with one of these bits, C, F, E, G]:letters:'
-            '--unanswered[only polls without a block answer, check counts them as answers lost]'
-            '--direction[only what the CPU sent or heard]:direction:(sent heard)'
-            '--lines[only these lines]:a-b:'
             '--color[colours (on a terminal)]:color:(auto always never)') ;|
     check|record)
         specs+=(
@@ -70,9 +62,11 @@ _fiolog() {
             '--except[leave out breaches of this rule, and count them; may be given again]:rule:(readable pair number advance same sequence limits rest refusal order fresh alternate apart ignored state clock done accepted cleared watchdog)'
             '--late-answers[leave out answers that came late or twice, and count them]'
             '--no-loads[the CPU never loads the counter, then more faults can be found below damage]') ;|
+    check|stats|record)
+        specs+=(
+            {-r,--recursive}'[read all files below the folders that are named]') ;|
     check|stats)
         specs+=(
-            {-r,--recursive}'[read all files below the folders that are named]'
             '--jobs[with several logs, read this many at a time (all processors)]:n:') ;|
     stats)
         specs+=(
@@ -81,18 +75,15 @@ _fiolog() {
         specs+=(
             '--inputs[inputs that are not ignored, 1 to 64]:n:'
             '--filter[the smallest filter of one of them, 0 to 255]:n:'
-            '--group[instead of both, at most N inputs are open in a group with such filters; repeat it for each group]:n:filter:'
             '--limits[1,024 entries wait (standard) or 8,192]:limits:(standard largest)'
             '--block[a block takes N entries, 1 to 255]:n:'
             '--waiting[instead of --limits, N entries wait, 1 to 8,192]:n:'
-            '--outage[the link is down so long]:ms:'
-            '--lost[rounds lost in a row]:n:'
-            '--every[a poll comes so often]:ms:'
             '--rate[the line carries so many bits in a second]:bits:'
             '--sync[the line is synchronous (SDLC)]'
             '--async[it is asynchronous, with 1 or 2 stop bits]:stop:'
             '--answer-time[the module begins its answer so late]:ms:'
-            '--plot[a picture of the lateness at each pace of this rate (by matplotlib)]:file:_files'
+            '--drift[the clock of the CPU is faster or slower than that of the module by at most so many parts in a million, 0 to 10,000; 100 if not given]:ppm:'
+            '--jitter[polls are up to MS late by that clock, 0 to 65,535]:ms:'
             {-v,--verbose}'[also the clause that each number is from]'
             '--json[a list of objects]') ;|
     convert)
@@ -104,9 +95,8 @@ _fiolog() {
         specs+=(
             '--text[as fio2070 record writes it, to the first breach or restart]'
             '--json[one object a line, an item, with breaks a breach, or with outcome a restart]'
-            '--csv[a table; an item, a breach or a restart a row]'
+            '--csv[a table; an item, a breach or a restart a row, with its file and address]'
             '--vcd[a VCD file; breaches and restarts on standard error]'
-            '--plot[a picture of the inputs over time, as .png, .svg or .pdf (by matplotlib)]:file:_files'
             '--hires[write the transitions as a high-resolution event log (CSV)]:file:_files'
             '--start[when the first block was made, as 2026-03-01T07,00,00]:time:'
             '--signal[the signal of the events]:id:'

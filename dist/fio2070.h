@@ -3,9 +3,9 @@
  *
  * The field I/O transition link of the Model 2070: the header of fio2070.c.
  *
- * Sources: 33d38ff657ef69338147b54f3b4b734ef8d985a61694f1eb178b12747d6f024b (SHA-256; packaging/release-files --sources)
- * Kit: rattle-kit-13f logic dac8208d650f15bf
- * Proof: logic=proved functions=231 target=wasm64-unknown-unknown sum=dac8208d650f15bf native=nat,char,string
+ * Sources: 15d31dcd59fb6358794c2a537efbee809430ca4cb311e59bc1edd1dcc09c4a23 (SHA-256; packaging/release-files --sources)
+ * Kit: rattle-kit-13b logic dac8208d650f15bf
+ * Proof: logic=proved functions=240 target=wasm64-unknown-unknown sum=dac8208d650f15bf native=nat,char,string
  * Made by `make release-files`: do not edit.
  *
  * Proved is the module of which fio2070.c was made, for wasm64: each call does what fio2070.h says for all octets,
@@ -32,7 +32,7 @@
  *    argument without const points to. Such an argument overlaps no other. So threads may call at once, each with its
  *    own structs. A firmware that scans in a timer interrupt makes each other call on the module, getters too, with
  *    that interrupt held off.
- *  - The structs filters, counter, checker, content_checker, judge, log_judge, log_counts, module, sized_module, wire, wire_bits
+ *  - The structs filters, counter, checker, content_checker, judge, log_judge, log_counts, log_stretches, module, sized_module, wire, wire_bits
  *    and log_reader are written by the calls of this header alone, _start first, and so are the slots of a sized_module. Before
  *    _start they may hold any octets; _start sets each of those of a struct but a log_reader. They may be copied and moved by
  *    memcpy. A log_reader that other code wrote, or that was not started, is no reader: what a call then does is not promised at
@@ -53,7 +53,7 @@
  * than `room`. No message has more than FIO2070_LONGEST_FRAME octets.
  *
  * The calls are in groups, each with an example: numbers, decode, encode, wire, poller, checker, content, judge, log, log_judge,
- * log_counts, parts, module.
+ * log_counts, log_stretches, parts, module.
  */
 #ifndef FIO2070_H
 #define FIO2070_H
@@ -313,20 +313,10 @@ FIO2070_MUST_USE
 size_t fio2070_command_items(const uint8_t *octets, size_t length, struct fio2070_configuration_item *items,
                              size_t room);
 
-/** Reads any answer. After a fault `answer` is unchanged. */
+/** Reads any answer. After a fault `answer` is unchanged. If `body` of type 183 is 5, the octets from octets[2] on are the
+ * module's millisecond counter, the highest first; if `body` of type 188 is 1, octets[1] is the module's number. */
 FIO2070_MUST_USE
 struct fio2070_fault fio2070_decode_answer(const uint8_t *octets, size_t length, struct fio2070_answer *answer);
-
-/** Reads the module's millisecond counter in its answer to command 55: answer 183, in the own profile the octet 0 and the
- * stamp, 6 octets in all. The octet before the stamp, octets[1], is not looked at. After a fault `stamp` is unchanged. Any
- * other answer is an unknown type here. */
-FIO2070_MUST_USE
-struct fio2070_fault fio2070_read_outputs_answer(const uint8_t *octets, size_t length, uint32_t *stamp);
-
-/** Reads which module answered command 60: answer 188, in the own profile one octet, 2 octets in all. After a fault `id` is
- * unchanged. Any other answer is an unknown type here. */
-FIO2070_MUST_USE
-struct fio2070_fault fio2070_read_identification(const uint8_t *octets, size_t length, uint8_t *id);
 
 /** Writes the text that `fio2070 show` writes of a frame, with a line feed after each line. If the first octet is 128 or more,
  * the frame is read as an answer, else as a command; if it is neither, the text is that of the fault. */
@@ -468,9 +458,10 @@ size_t fio2070_wire_bits_message_length(const struct fio2070_wire_bits *bits);
 
 /** @defgroup plan How often to poll over a line (own profile)
  * Between its poll and its answer a line carries the bits of both, with flags, stuffing and frame check, and takes its time. A
- * CPU that polls at a pace sends a poll so many scans after the one before, or as soon as it has heard the answer, if that is
- * later. Over a line as in a struct fio2070_line, at a pace that fio2070_plan finds, each round ends before the next one, no
- * transition is lost, and none is later than `late` scans.
+ * CPU that polls at a pace sends a poll so many scans after the one before, by its own clock, or as soon as it has heard the
+ * answer, if that is later. Over a line as in a struct fio2070_line, at a pace that fio2070_plan finds, each round ends before the
+ * next one, no transition is lost, and none is later than `late` scans. With a `drift` and a `jitter` of 0 the CPU's clock is the
+ * module's: crystals drift by some 100 parts in a million.
  * @code
  * struct fio2070_line line = {0};
  * struct fio2070_pace pace;
@@ -484,8 +475,8 @@ size_t fio2070_wire_bits_message_length(const struct fio2070_wire_bits *bits);
 /** What fio2070_plan finds. */
 enum fio2070_planned {
     FIO2070_PACE_FOUND = 0, /**< the least pace */
-    FIO2070_NO_PACE = 1,    /**< the line has none: it is too slow for what its inputs may report */
-    FIO2070_NO_LINE = 2     /**< the rate is 0, or no inputs or more than 64 may be open */
+    FIO2070_NO_PACE = 1,    /**< the line has none: it is too slow for what its inputs may report, or its polls are too irregular */
+    FIO2070_NO_LINE = 2     /**< the rate is 0, no inputs or more than 64 may be open, or the drift is above 10,000 */
 };
 
 /** A line between the two ends, and what may have to be reported over it. */
@@ -508,13 +499,16 @@ struct fio2070_line {
     uint8_t filter;
     /** How many stop bits an octet has on an asynchronous line; 0 for a synchronous line. */
     uint8_t stop_bits;
-    /** Not read. */
-    uint8_t reserved[4];
+    /** By at most how many parts in a million the CPU's clock is faster or slower than the module's
+     *  counter, 0 to 10,000. */
+    uint16_t drift;
+    /** At most how many scans a poll is late by the CPU's clock. */
+    uint16_t jitter;
 };
 
 /** A pace of a line, in scans. */
 struct fio2070_pace {
-    /** How many scans apart polls are sent. */
+    /** How many scans apart polls are sent, by the CPU's clock. */
     uint64_t scans;
     /** How many scans a round takes at most. */
     uint64_t round;
@@ -608,8 +602,9 @@ void fio2070_poller_start(struct fio2070_poller *poller, uint8_t number);
 /** Writes a poll with the present number. 2 octets.
  *
  * How often: if k inputs are not ignored, each with filters of at least f scans, and blocks take b entries, nothing is lost
- * if a poll reaches the module, and its answer the CPU, at least every b f / k milliseconds, rounded down: every 19 for 64
- * inputs with filters of 5 under the standard limits. docs/PLANNING.md has the table, and what is late or lost otherwise.
+ * if a poll reaches the module, and its answer the CPU, at least every b f / k scans, rounded down: every 19 for 64 inputs with
+ * filters of 5 under the standard limits, and so every 18 milliseconds of a CPU's clock that may be slow. docs/PLANNING.md has the
+ * table, and what is late or lost otherwise.
  *
  * How long to wait: until the answer comes, or no longer than the longest answer takes on the line and the module's longest
  * call; then poll again, with the same number (docs/CONTROLLER.md, The deadline). A shorter wait loses nothing. */
@@ -793,9 +788,9 @@ uint8_t fio2070_checker_heard(struct fio2070_checker *checker, const uint8_t *oc
 /** What the record of a CPU's end, or an answer that it heard, may break (own profile; docs/FORMATS.md). */
 enum fio2070_content_rule {
     FIO2070_CONTENT_NONE = 0, /**< no rule is broken */
-    /** An entry is later than the entry above it, or has its time and a higher input. Judged if a clear
-     *  block is above the upper entry, the blocks of both are not late, and no load of the counter excuses
-     *  it. */
+    /** An entry is later than the entry above it, or has its time and a higher input, if no block without
+     *  C ends between them. Judged if a clear block is above the upper entry, the blocks of both are not
+     *  late, and no load of the counter excuses it. */
     FIO2070_CONTENT_ORDER = 1,
     /** An entry is later than the stamp of the latest block without C, which had all entries up to that
      *  stamp. Judged if that block or one above it is clear, the block of the entry is not late, and no
@@ -1080,17 +1075,18 @@ enum fio2070_log_kind {
 
 /** Why a line gives no frame, or what else is in a line that does. */
 enum fio2070_log_reason {
-    FIO2070_LOG_NO_REASON = 0,  /**< it gives frames and nothing else, or is blank, or a part */
-    FIO2070_LOG_NO_OCTETS = 1,  /**< it has no octets in the notation of a form */
-    FIO2070_LOG_NO_MESSAGE = 2, /**< its octets are no message */
-    FIO2070_LOG_NO_FORM = 3,    /**< no form has it, and it has octets that may be a message */
-    FIO2070_LOG_MORE = 4,       /**< beside its frames it has octets that may be a message */
-    FIO2070_LOG_TOO_LONG = 6,   /**< it is longer than a line, or than the octets of several lines, that are kept */
-    FIO2070_LOG_BAD_LINE = 7,   /**< it is no line of the text that it is read as by order */
-    FIO2070_LOG_LOSS = 10,      /**< it has no octets, and its words speak of loss: an answer may be missing here */
-    FIO2070_LOG_HEADING = 11,   /**< it says no message, and is the heading of a log or of a part of one */
-    FIO2070_LOG_COPY = 13,      /**< it repeats the frame above it */
-    FIO2070_LOG_BROKEN = 14     /**< the message of the lines above is not whole, and does not go on in it */
+    FIO2070_LOG_NO_REASON = 0,   /**< it gives frames and nothing else, or is blank, or a part */
+    FIO2070_LOG_NO_OCTETS = 1,   /**< it has no octets in the notation of a form */
+    FIO2070_LOG_NO_MESSAGE = 2,  /**< its octets are no message */
+    FIO2070_LOG_NO_FORM = 3,     /**< no form has it, and it has octets that may be a message */
+    FIO2070_LOG_MORE = 4,        /**< beside its frames it has octets that may be a message */
+    FIO2070_LOG_UNREAD_FRAME = 5,/**< no form has it, and it has a message between two flags, with a right check */
+    FIO2070_LOG_TOO_LONG = 6,    /**< it is longer than a line, or than the octets of several lines, that are kept */
+    FIO2070_LOG_BAD_LINE = 7,    /**< it is no line of the text that it is read as by order */
+    FIO2070_LOG_LOSS = 10,       /**< it has no octets, and its words speak of loss: an answer may be missing here */
+    FIO2070_LOG_HEADING = 11,    /**< it says no message, and is the heading of a log or of a part of one */
+    FIO2070_LOG_COPY = 13,       /**< it repeats the frame above it */
+    FIO2070_LOG_BROKEN = 14      /**< the message of the lines above is not whole, and does not go on in it */
 };
 
 /** Who sent the octets of a line, as the line says: by its last word or arrow before them that says it. */
@@ -1100,12 +1096,19 @@ enum fio2070_log_side {
     FIO2070_LOG_FROM_MODULE = 2 /**< the module */
 };
 
+/** What the time of a line counts from. */
+enum fio2070_log_time {
+    FIO2070_LOG_NO_TIME = 0,     /**< it has none */
+    FIO2070_LOG_DATE = 1,        /**< 1970: it has a date; without a year it is of 1970 */
+    FIO2070_LOG_TIME_OF_DAY = 2, /**< midnight: it is a time of day, with colons, without a date */
+    FIO2070_LOG_SINCE_START = 3  /**< a start that the log does not name: it is seconds with a fraction */
+};
+
 /** What the reader says of a line of a log. */
 struct fio2070_log_verdict {
     /** The number of the line, from 1. */
     uint64_t line;
-    /** The time in microseconds since 1970, or since midnight or a start if the log has no date; 0 if
-     *  there is none. */
+    /** The time in microseconds, from what `time_kind` says; 0 if there is none. */
     uint64_t time;
     /** How many frames the line gives, with those of the lines below that continue it. */
     uint32_t frames;
@@ -1115,8 +1118,8 @@ struct fio2070_log_verdict {
     uint8_t kind;
     /** Why it gives no frame: one of `FIO2070_LOG_NO_OCTETS` and those after it, else 0. */
     uint8_t reason;
-    /** 1 if there is a time, else 0. */
-    uint8_t has_time;
+    /** What the time counts from: one of `FIO2070_LOG_NO_TIME` and those after it. */
+    uint8_t time_kind;
     /** Who sent the octets of the frames, as the line says: one of `FIO2070_LOG_NO_SIDE` and those after
      *  it. */
     uint8_t said;
@@ -1320,7 +1323,7 @@ void fio2070_log_judge_lose(struct fio2070_log_judge *judge);
  * ends, it does what `fio2070_log_judge_lose` does; above the first frame of another log nothing. */
 void fio2070_log_judge_possible(struct fio2070_log_judge *judge);
 /** Takes a line without octets that speaks of loss. If a frame down to and with the next poll or block answer breaks `pair`,
- * `number` or `advance`, or the next block answer breaks `same`, sync is lost above it instead. No other breach is excused, on
+ * `number`, `advance` or `refusal`, or the next block answer breaks `same`, sync is lost above it instead. No other breach is excused, on
  * content none. */
 void fio2070_log_judge_miss(struct fio2070_log_judge *judge);
 /** Takes a frame that the CPU's end sent if `from_cpu` is not 0, else the module. `said` is who sent it as its line says, one of
@@ -1329,8 +1332,8 @@ void fio2070_log_judge_miss(struct fio2070_log_judge *judge);
 FIO2070_MUST_USE
 uint8_t fio2070_log_judge_frame(struct fio2070_log_judge *judge, uint8_t from_cpu, uint8_t said, const uint8_t *octets,
                                 size_t length, struct fio2070_judge_outcome *outcome);
-/** Takes the verdicts of a batch that fio2070_log_read wrote, in order, as the calls above take them: frames; possible and damaged
- * lines; headings; lines that speak of loss, and such as them skipped lines with a short message, which may have been a frame. Who
+/** Takes the verdicts of a batch that fio2070_log_read wrote, in order, as the calls above take them: frames; lines that are
+ * possible or damaged, that have more than their frames, or at which a message breaks off; headings; and lines that speak of loss. Who
  * sent a frame is said by its type; if `as_said` is not 0 by its line, if that says it, as in a transcript that is read by order.
  * Writes what each frame of the batch is, in their order, and returns how many they are. The frame of a possible line is not judged,
  * for no reason. */
@@ -1471,12 +1474,141 @@ void fio2070_log_counts_lose(struct fio2070_log_counts *counts);
 uint8_t fio2070_log_counts_frame(struct fio2070_log_counts *counts, uint8_t has_time, uint64_t time, const uint8_t *octets,
                                  size_t length, uint64_t *taken);
 /** Counts the frames of a batch that fio2070_log_read wrote, in order, as the calls above do, each by the time of its verdict. A
- * frame may be lost at a possible or damaged line, at a heading, at a line that speaks of loss, and at a skipped one with a short
- * message. The frame of a possible line is
+ * frame may be lost at each line that fio2070_log_judge_batch takes but those that have frames alone. The frame of a possible line is
  * not counted. Writes how long the module took, in microseconds, for each answer of which fio2070_log_counts_frame returns 1, in
  * order, and returns how many these are; what is after them in `taken` stays. */
 uint32_t fio2070_log_counts_batch(struct fio2070_log_counts *counts, const struct fio2070_log_batch *batch,
                                   uint64_t taken[20480]);
+#endif
+
+/** @} */
+
+/** @defgroup log_stretches Stretches of a log
+ * A stretch is a piece of what a log records in which each transition of the module's list is there once and in order. A struct
+ * fio2070_log_stretches has what a log says of that, of one module: how many transitions it records, and how many places there
+ * are at which a stretch ends or transitions are lost. If FIO2070_NO_LOG is defined, there are no such calls.
+ * @code
+ * static struct fio2070_log_reader reader;
+ * static struct fio2070_log_batch batch;
+ * static struct fio2070_judge_outcome outcomes[20480];
+ * static struct fio2070_log_seam seams[20480];
+ * const char text[] = "< b605000000000005\n< b606000400000006\n"; // F: transitions were pushed out of the buffer
+ * const struct fio2070_limits limits = {FIO2070_STANDARD_WAITING, FIO2070_MOST_ENTRIES, 0};
+ * struct fio2070_log_judge judge;
+ * struct fio2070_log_stretches stretches;
+ * fio2070_log_start(&reader, FIO2070_LOG_TRANSCRIPT);
+ * if (fio2070_log_judge_start(&judge, limits, FIO2070_LOG_TAKEN_AUTO, FIO2070_LOG_BEGINS_ANYWHERE) != FIO2070_STARTED) return 1;
+ * fio2070_log_stretches_start(&stretches);
+ * if (fio2070_log_read(&reader, (const uint8_t *)text, sizeof text - 1, &batch) != sizeof text - 1) return 1;
+ * if (fio2070_log_judge_batch(&judge, 1, &batch, outcomes) != 2) return 1;
+ * if (fio2070_log_stretches_batch(&stretches, &batch, outcomes, seams) == 1 && seams[0].is_lost)
+ *     printf("transitions are lost above frame %d\n", (int)seams[0].frame); // transitions are lost above frame 1
+ * @endcode
+ * @{ */
+
+#ifndef FIO2070_NO_LOG
+/** Why a stretch ends above a block. */
+enum fio2070_seam {
+    FIO2070_SEAM_NONE = 0,        /**< it does not end: transitions are lost alone */
+    FIO2070_SEAM_MISSING = 1,     /**< blocks were made that are not in the log: at least one */
+    FIO2070_SEAM_PASSED_OVER = 2, /**< the module never got the polls of the numbers between, so these are no blocks; what it said to
+                                     other polls is not known */
+    FIO2070_SEAM_UNKNOWN = 3,     /**< the log does not show whether the transitions follow */
+    FIO2070_SEAM_RESTART = 4,     /**< the module was restarted: what waited in it then is not recorded */
+    FIO2070_SEAM_DISBELIEVED = 5  /**< the block breaks a rule on what entries say */
+};
+
+/** A place of a log where a stretch ends, or transitions are lost: above a block answer. */
+struct fio2070_log_seam {
+    /** How long the poll above came after the poll above that, in microseconds; 0 if that is not known. */
+    uint64_t pause;
+    /** The index of the block among the frames of its batch. */
+    uint32_t frame;
+    /** Why the stretch ends: one of `FIO2070_SEAM_NONE` and those after it. */
+    uint8_t cause;
+    /** 1 if the block says that transitions are lost above it. */
+    uint8_t is_lost;
+    /** 1 if `pause` is known. */
+    uint8_t has_pause;
+    /** Of `FIO2070_SEAM_MISSING` how many blocks are not in the log, with a CPU that passes over no
+     *  number; else 0. */
+    uint8_t missing;
+};
+
+/** What a log records of the transitions of one module, modulo 2^64, and what must be known of the frames above: the fields from
+ * `pause` on are the library's own. */
+struct fio2070_log_stretches {
+    /** The block answers; one that is sent again as it was is not counted. */
+    uint64_t blocks;
+    /** Their entries. */
+    uint64_t transitions;
+    /** The places above which transitions are lost. */
+    uint64_t lost;
+    /** The places where blocks are not in the log. */
+    uint64_t missing;
+    /** How many blocks these are, at least one at each place; so many with a CPU that passes over no
+     *  number. */
+    uint64_t missing_blocks;
+    /** The places where the module did not get the polls of the numbers between. */
+    uint64_t passed_over;
+    /** The places of which the log does not show whether transitions follow. */
+    uint64_t unknown;
+    /** The restarts. */
+    uint64_t restarts;
+    /** The blocks that are not to be believed. */
+    uint64_t disbelieved;
+    /** The microseconds between neighbouring blocks with times that rise. */
+    uint64_t timed;
+    /** Those of them within stretches. */
+    uint64_t timed_whole;
+    /** The milliseconds between neighbouring blocks by their stamps, unless these go back. */
+    uint64_t stamped;
+    /** Those of them within stretches. */
+    uint64_t stamped_whole;
+    /** The loads of the counter. */
+    uint64_t loads;
+    /** The longest time between two neighbouring polls, in microseconds. */
+    uint64_t longest_pause;
+    /** The time between the latest two polls, in microseconds. */
+    uint64_t pause;
+    /** The time of the latest poll, in microseconds. */
+    uint64_t polled_at;
+    /** The time of the latest block, in microseconds. */
+    uint64_t block_at;
+    /** The stamp of the latest block, in milliseconds. */
+    uint32_t stamp;
+    /** How many octets it has above its status. */
+    uint16_t length;
+    /** How many entries it has. */
+    uint8_t entries;
+    /** Its number. */
+    uint8_t number;
+    /** Its status octet. */
+    uint8_t status;
+    /** 1 if there is a latest block. */
+    uint8_t has_block;
+    /** 1 if its time is known. */
+    uint8_t has_block_at;
+    /** 1 if the time of the latest poll is known. */
+    uint8_t has_polled_at;
+    /** 1 if the time between the latest two polls is known. */
+    uint8_t has_pause;
+    /** 1 if the counter was loaded below the latest block. */
+    uint8_t is_loaded;
+    /** The octets of the latest block above its status. */
+    uint8_t items[773];
+    /** 0 in each octet that the library writes. */
+    uint8_t reserved[5];
+};
+
+/** Begins above the first frame: each octet is 0. */
+void fio2070_log_stretches_start(struct fio2070_log_stretches *stretches);
+/** Takes the frames of a batch that fio2070_log_read wrote, in order, each by the time of its verdict. `outcomes` are those that
+ * fio2070_log_judge_batch wrote for this batch: a block that breaks one of the rules order, fresh, alternate, apart, state and same is
+ * not believed. Writes the places where a stretch ends or transitions are lost, in order, and returns how many these are; what is after
+ * them in `seams` stays. The frame of a possible line is not taken. */
+uint32_t fio2070_log_stretches_batch(struct fio2070_log_stretches *stretches, const struct fio2070_log_batch *batch,
+                                     const struct fio2070_judge_outcome outcomes[20480], struct fio2070_log_seam seams[20480]);
 #endif
 
 /** @} */
@@ -1707,13 +1839,13 @@ FIO2070_MUST_USE
 size_t fio2070_sized_module_receive(struct fio2070_sized_module *module, struct fio2070_ring ring, const uint8_t *octets,
                                     size_t length, uint8_t *out, size_t room);
 /** The counts that say why an answer of the maker is refused: more than any room. */
-#define FIO2070_NOT_AWAITED (SIZE_MAX - 1)   /**< none is awaited: it was given, or the octets asked about last are no such command */
+#define FIO2070_NOT_AWAITED (SIZE_MAX - 1)   /**< none is awaited: it was given, the octets asked about last are no such command, or the module restarted */
 #define FIO2070_OTHER_AWAITED (SIZE_MAX - 2) /**< the answer to a command of another type is awaited */
 #define FIO2070_BODY_TOO_LONG (SIZE_MAX - 3) /**< the body has more than 772 octets */
 
 /** Returns the type of the command in the octets of a frame that was received, if the maker of the module answers it: 56, 57 or
  * 59, or 60 if its identification is to have another length than the one octet of _receive; its body is the octets after the
- * first. Its answer is awaited from then on. For any other octets it returns 0, and no answer is awaited. */
+ * first. Its answer is awaited from then on, until a restart. For any other octets it returns 0, and no answer is awaited. */
 uint8_t fio2070_sized_module_makers_command(struct fio2070_sized_module *module, const uint8_t *octets, size_t length);
 /** Writes the octets of the maker's answer to a command of this type to the front of `out`, and returns how many they are, 1 to
  * 773: the type plus 128 (TEES 2009), and the body. Once for each _makers_command. Nothing else of the module changes.
@@ -1882,7 +2014,7 @@ FIO2070_SAME(log_verdict, sizeof(struct fio2070_log_verdict) == 32 &&
              offsetof(struct fio2070_log_verdict, places) == 20 &&
              offsetof(struct fio2070_log_verdict, kind) == 24 &&
              offsetof(struct fio2070_log_verdict, reason) == 25 &&
-             offsetof(struct fio2070_log_verdict, has_time) == 26 &&
+             offsetof(struct fio2070_log_verdict, time_kind) == 26 &&
              offsetof(struct fio2070_log_verdict, said) == 27 &&
              offsetof(struct fio2070_log_verdict, address) == 28 &&
              offsetof(struct fio2070_log_verdict, control) == 29 &&
@@ -1917,6 +2049,13 @@ FIO2070_SAME(log_form_list, sizeof(struct fio2070_log_form_list) == 2440 &&
 FIO2070_SAME(log_judge, sizeof(struct fio2070_log_judge) == 752);
 
 FIO2070_SAME(log_signs, sizeof(struct fio2070_log_signs) == 816);
+
+FIO2070_SAME(log_seam, sizeof(struct fio2070_log_seam) == 16 &&
+             offsetof(struct fio2070_log_seam, frame) == 8 &&
+             offsetof(struct fio2070_log_seam, cause) == 12 &&
+             offsetof(struct fio2070_log_seam, is_lost) == 13 &&
+             offsetof(struct fio2070_log_seam, has_pause) == 14 &&
+             offsetof(struct fio2070_log_seam, missing) == 15);
 #endif
 
 FIO2070_SAME(limits, sizeof(struct fio2070_limits) == 4 &&
@@ -1937,7 +2076,8 @@ FIO2070_SAME(line, sizeof(struct fio2070_line) == 24 &&
              offsetof(struct fio2070_line, inputs) == 17 &&
              offsetof(struct fio2070_line, filter) == 18 &&
              offsetof(struct fio2070_line, stop_bits) == 19 &&
-             offsetof(struct fio2070_line, reserved) == 20);
+             offsetof(struct fio2070_line, drift) == 20 &&
+             offsetof(struct fio2070_line, jitter) == 22);
 
 FIO2070_SAME(pace, sizeof(struct fio2070_pace) == 32 &&
              offsetof(struct fio2070_pace, round) == 8 &&
@@ -1997,6 +2137,37 @@ FIO2070_SAME(log_counts, sizeof(struct fio2070_log_counts) == 5200 &&
              offsetof(struct fio2070_log_counts, first_reset) == 5193 &&
              offsetof(struct fio2070_log_counts, has_reset) == 5194 &&
              offsetof(struct fio2070_log_counts, reserved) == 5195);
+
+FIO2070_SAME(log_stretches, sizeof(struct fio2070_log_stretches) == 936 &&
+             offsetof(struct fio2070_log_stretches, transitions) == 8 &&
+             offsetof(struct fio2070_log_stretches, lost) == 16 &&
+             offsetof(struct fio2070_log_stretches, missing) == 24 &&
+             offsetof(struct fio2070_log_stretches, missing_blocks) == 32 &&
+             offsetof(struct fio2070_log_stretches, passed_over) == 40 &&
+             offsetof(struct fio2070_log_stretches, unknown) == 48 &&
+             offsetof(struct fio2070_log_stretches, restarts) == 56 &&
+             offsetof(struct fio2070_log_stretches, disbelieved) == 64 &&
+             offsetof(struct fio2070_log_stretches, timed) == 72 &&
+             offsetof(struct fio2070_log_stretches, timed_whole) == 80 &&
+             offsetof(struct fio2070_log_stretches, stamped) == 88 &&
+             offsetof(struct fio2070_log_stretches, stamped_whole) == 96 &&
+             offsetof(struct fio2070_log_stretches, loads) == 104 &&
+             offsetof(struct fio2070_log_stretches, longest_pause) == 112 &&
+             offsetof(struct fio2070_log_stretches, pause) == 120 &&
+             offsetof(struct fio2070_log_stretches, polled_at) == 128 &&
+             offsetof(struct fio2070_log_stretches, block_at) == 136 &&
+             offsetof(struct fio2070_log_stretches, stamp) == 144 &&
+             offsetof(struct fio2070_log_stretches, length) == 148 &&
+             offsetof(struct fio2070_log_stretches, entries) == 150 &&
+             offsetof(struct fio2070_log_stretches, number) == 151 &&
+             offsetof(struct fio2070_log_stretches, status) == 152 &&
+             offsetof(struct fio2070_log_stretches, has_block) == 153 &&
+             offsetof(struct fio2070_log_stretches, has_block_at) == 154 &&
+             offsetof(struct fio2070_log_stretches, has_polled_at) == 155 &&
+             offsetof(struct fio2070_log_stretches, has_pause) == 156 &&
+             offsetof(struct fio2070_log_stretches, is_loaded) == 157 &&
+             offsetof(struct fio2070_log_stretches, items) == 158 &&
+             offsetof(struct fio2070_log_stretches, reserved) == 931);
 #endif
 
 FIO2070_SAME(content_checker, sizeof(struct fio2070_content_checker) == 696);

@@ -3,9 +3,9 @@
  *
  * The field I/O transition link of the Model 2070: the header for C++17, above fio2070.h.
  *
- * Sources: 33d38ff657ef69338147b54f3b4b734ef8d985a61694f1eb178b12747d6f024b (SHA-256; packaging/release-files --sources)
- * Kit: rattle-kit-13f logic dac8208d650f15bf
- * Proof: logic=proved functions=231 target=wasm64-unknown-unknown sum=dac8208d650f15bf native=nat,char,string
+ * Sources: 15d31dcd59fb6358794c2a537efbee809430ca4cb311e59bc1edd1dcc09c4a23 (SHA-256; packaging/release-files --sources)
+ * Kit: rattle-kit-13b logic dac8208d650f15bf
+ * Proof: logic=proved functions=240 target=wasm64-unknown-unknown sum=dac8208d650f15bf native=nat,char,string
  * Made by `make release-files`: do not edit.
  *
  * Proved is the module of which fio2070.c was made, for wasm64: each call does what fio2070.h says for all octets,
@@ -214,20 +214,6 @@ inline Read<BlockHeader> read_block(Octets octets) {
     BlockHeader header{};
     ::fio2070_fault fault = ::fio2070_read_block(octets.data(), octets.size(), &header);
     return {fault, header};
-}
-
-/// The module's millisecond counter in its answer to command 55 (answer 183).
-inline Read<std::uint32_t> read_outputs_answer(Octets octets) {
-    std::uint32_t stamp = 0;
-    ::fio2070_fault fault = ::fio2070_read_outputs_answer(octets.data(), octets.size(), &stamp);
-    return {fault, stamp};
-}
-
-/// Which module answered command 60 (answer 188).
-inline Read<std::uint8_t> read_identification(Octets octets) {
-    std::uint8_t id = 0;
-    ::fio2070_fault fault = ::fio2070_read_identification(octets.data(), octets.size(), &id);
-    return {fault, id};
 }
 
 /// The entries of a block answer; none where the octets are no block answer.
@@ -573,6 +559,26 @@ public:
 
 private:
     ::fio2070_log_counts counts_;
+};
+
+/// What a log records of the transitions of one module, in stretches: pieces in which each transition is there once and in order.
+class LogStretches {
+public:
+    LogStretches() { ::fio2070_log_stretches_start(&stretches_); }
+    /// Takes the frames of a batch that `LogReader::read` wrote, in order, with the outcomes that `LogJudge::batch` returned for it. Returns
+    /// the places where a stretch ends or transitions are lost.
+    std::vector<::fio2070_log_seam> batch(const ::fio2070_log_batch &batch, std::vector<::fio2070_judge_outcome> outcomes) {
+        std::vector<::fio2070_log_seam> seams(std::size(batch.lengths));
+        outcomes.resize(std::size(batch.lengths));
+        seams.resize(::fio2070_log_stretches_batch(&stretches_, &batch, outcomes.data(), seams.data()));
+        return seams;
+    }
+    /// The numbers.
+    const ::fio2070_log_stretches &operator*() const { return stretches_; }
+    const ::fio2070_log_stretches *operator->() const { return &stretches_; }
+
+private:
+    ::fio2070_log_stretches stretches_;
 };
 #endif
 

@@ -201,20 +201,6 @@ inline Read<BlockHeader> read_block(Octets octets) {
     return {fault, header};
 }
 
-/// The module's millisecond counter in its answer to command 55 (answer 183).
-inline Read<std::uint32_t> read_outputs_answer(Octets octets) {
-    std::uint32_t stamp = 0;
-    ::fio2070_fault fault = ::fio2070_read_outputs_answer(octets.data(), octets.size(), &stamp);
-    return {fault, stamp};
-}
-
-/// Which module answered command 60 (answer 188).
-inline Read<std::uint8_t> read_identification(Octets octets) {
-    std::uint8_t id = 0;
-    ::fio2070_fault fault = ::fio2070_read_identification(octets.data(), octets.size(), &id);
-    return {fault, id};
-}
-
 /// The entries of a block answer; none where the octets are no block answer.
 inline Entries block_entries(Octets octets) {
     return Entries::of([=](Entry *out, std::size_t room) {
@@ -558,6 +544,26 @@ public:
 
 private:
     ::fio2070_log_counts counts_;
+};
+
+/// What a log records of the transitions of one module, in stretches: pieces in which each transition is there once and in order.
+class LogStretches {
+public:
+    LogStretches() { ::fio2070_log_stretches_start(&stretches_); }
+    /// Takes the frames of a batch that `LogReader::read` wrote, in order, with the outcomes that `LogJudge::batch` returned for it. Returns
+    /// the places where a stretch ends or transitions are lost.
+    std::vector<::fio2070_log_seam> batch(const ::fio2070_log_batch &batch, std::vector<::fio2070_judge_outcome> outcomes) {
+        std::vector<::fio2070_log_seam> seams(std::size(batch.lengths));
+        outcomes.resize(std::size(batch.lengths));
+        seams.resize(::fio2070_log_stretches_batch(&stretches_, &batch, outcomes.data(), seams.data()));
+        return seams;
+    }
+    /// The numbers.
+    const ::fio2070_log_stretches &operator*() const { return stretches_; }
+    const ::fio2070_log_stretches *operator->() const { return &stretches_; }
+
+private:
+    ::fio2070_log_stretches stretches_;
 };
 #endif
 

@@ -10,6 +10,8 @@ command = $(if $(shared_tester),$(OUT)/fio2070-test)
 install: library
 
 $(OUT)/libfio2070.a: dist/fio2070.c dist/fio2070.h
+	@for file in $(^F); do \
+	    [ -z "$$(command -v sha256sum)" ] || packaging/listed $$file || echo "make: dist/$$file is not as dist/SHA256SUMS lists it" >&2; done
 	@$(call made,$(compile) $(if $(findstring mingw,$(machine)),,-fPIC) -ffunction-sections -fdata-sections -I dist -c dist/fio2070.c -o "$$room/fio2070.o" && \
 	    $(AR) rcs "$$room/$(@F)" "$$room/fio2070.o")
 

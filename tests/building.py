@@ -1,8 +1,8 @@
 #!/usr/bin/env -S python3 -B
-"""What `./fio2070` says while it builds the program, and if it cannot: what it will prove, a line for each crate, and one clear
-line and status 125 for each thing that is missing. Crates that do not wait for each other are proved side by side. A short script
-takes the place of `rt`, in a repository of five crates. And which program `./fio2070` runs: the one that was built here, that of
-dist/, or one that is compiled of dist/fio2070.c; scripts take the place of these too. Last line: `N passed, M failed`."""
+"""What `./build` says while it builds the program, and if it cannot: what it will prove, a line for each crate, and one clear
+line for each thing that is missing. Crates that do not wait for each other are proved side by side. A short script takes the place
+of `rt`, in a repository of five crates. And which program `./fio2070` runs, which proves nothing: the one that was built here, that
+of dist/, or one that is compiled of dist/fio2070.c; scripts take the place of these too. Last line: `N passed, M failed`."""
 
 import hashlib
 import os
@@ -53,7 +53,7 @@ class Clone:
         crates = ('crates/%s/src' % crate for crate in ('low', 'high', 'beside', 'other', 'fio2070'))
         for folder in ('bin', 'temporary', 'packaging', *crates):
             os.makedirs(os.path.join(self.top, folder))
-        for file in ('fio2070', 'build', 'packaging/program', 'packaging/hardening'):
+        for file in ('fio2070', 'build', 'packaging/program', 'packaging/listed', 'packaging/hardening'):
             shutil.copy(os.path.join(TOP, file), os.path.join(self.top, file))
         self.write('crates.txt', CRATES)
         self.write('bin/rt', RT, 0o755)
@@ -105,7 +105,11 @@ def try_build(check, room):
     """A first build, a further run, and a build after an edit, without a terminal."""
     clone = Clone(room, 'plain')
     text, said, status = clone.run('show', 'x')
-    check.holds('the program runs', (text, status) == ('run show x\n', 0), said)
+    check.holds('there is no program yet', (text, status) == ('', 125) and one_line(said, './build'), said)
+    check.holds('nothing is proved for it', not os.path.exists(os.path.join(clone.top, 'crates/low/out')))
+    text, said, status = clone.call('build')
+    check.equal('the program is built', ('', 0), (text, status))
+    check.equal('the program runs', ('run show x\n', '', 0), clone.run('show', 'x'))
     check.holds('what will be done', re.match(r'fio2070: proving 4 crates, up to \d+ side by side; ', said) is not None, said)
     check.equal('a line a crate', [1, 2, 3, 4], proved_in(said))
     for crate in ('low', 'high', 'beside', 'fio2070'):
@@ -113,10 +117,9 @@ def try_build(check, room):
                     clone.read('crates/%s/out/build.log' % crate).count('logic=proved'))
         check.equal('the proof of %s is its own line' % crate, 'logic=proved functions=10\n', clone.read('crates/%s/out/proof' % crate))
     check.holds('no temporary file', clone.is_tidy())
-    check.holds('nothing is said of a built program', clone.run('show') == ('run show\n', '', 0))
     time.sleep(0.1)
     clone.write('crates/low/src/lib.rt', '\n')
-    said = clone.run('show')[1]
+    said = clone.call('build')[1]
     check.holds('after an edit what changed is built again', proved_in(said) == [1, 4], said)
 
 
@@ -126,15 +129,15 @@ def try_side_by_side(check, room):
         check.skip('crates side by side', 'there is one processor')
         return
     clone = Clone(room, 'beside')
-    _, said, status = clone.run('show', MEETS='high beside')
+    _, said, status = clone.call('build', MEETS='high beside')
     check.holds('crates are proved side by side', status == 0, said)
 
 
 def try_faults(check, room):
-    """What is missing or fails is said in one line, with status 125 and nothing on standard output."""
+    """What is missing or fails is said in one line, with nothing on standard output."""
     clone = Clone(room, 'faults')
-    text, said, status = clone.run('show', FAILS='high')
-    check.holds('a crate that is not proved', (text, status) == ('', 125)
+    text, said, status = clone.call('build', FAILS='high')
+    check.holds('a crate that is not proved', (text, status) == ('', 1)
                 and one_line(said.splitlines(True)[-1], 'high', 'high/out/build.log'), said)
     check.holds('no program', not clone.has_program())
     check.holds('no temporary file after a failure', clone.is_tidy())
@@ -143,8 +146,8 @@ def try_faults(check, room):
     for name in ('sh', 'env', 'readlink', 'dirname', 'find', 'head'):
         os.symlink(os.path.realpath(shutil.which(name)), os.path.join(tools, name))
     os.symlink(os.path.join(clone.top, 'bin/rt'), os.path.join(tools, 'rt'))
-    text, said, status = clone.run('show', PATH=tools)
-    check.holds('no python3', (text, status) == ('', 125) and one_line(said, 'no command python3'), said)
+    text, said, status = clone.call('packaging/program', '--proved', PATH=tools)
+    check.holds('no python3', (text, status) == ('', 1) and one_line(said, 'no command python3'), said)
     os.remove(os.path.join(tools, 'rt'))
     text, said, status = clone.run('show', PATH=tools)
     check.holds('no rt', (text, status) == ('', 125) and one_line(said, 'no command rt', 'README.md'), said)
@@ -215,8 +218,10 @@ def try_choice(check, room):
     check.equal('a source that is as it was', ('kept show\n', '', 0), clone.run('show', **alone))
     clone.write('crates/high/src/added.rt', '')
     choice(check, 'an added source', clone, 'kept show\n', OF_OTHERS, **alone)
-    text, said, status = clone.run('show', **kit)
-    check.equal('changed sources and the kit', ('run show\n', 0, True), (text, status, 'proving 4 crates' in said))
+    choice(check, 'an added source and the kit', clone, 'kept show\n', OF_OTHERS, **kit)
+    check.holds('nothing is proved to run a program', not Path(clone.top, 'crates/low/out').exists())
+    text, said, status = clone.call('packaging/program', '--proved', **kit)
+    check.equal('changed sources and the kit, asked for a proved one', (True, 0, True), (text.endswith('out/fio2070\n'), status, 'proving 4 crates' in said))
     check.holds('--version says that it was built', BUILT in clone.run('--version', **alone)[1])
     os.remove(os.path.join(clone.top, 'crates/high/src/added.rt'))
     clone.call('build')
@@ -245,8 +250,11 @@ def try_sums(check, room):
         clone.write(path, before, 0o755)
     check.holds('it was not run either to look whether it runs', not Path(clone.top, 'ran').exists())
     clone.write('dist/fio2070-x86_64-linux-gnu', KEPT + '\n', 0o755)
-    text, said, status = clone.run('show', **kit)
-    check.equal('a changed program and the kit', ('run show\n', 0, True), (text, status, 'proving 4 crates' in said))
+    for words in ('show', '--version'):
+        text, said, status = clone.run(words, **kit)
+        check.holds('a changed program and the kit: ' + words, (text, status) == ('', 125) and one_line(said, 'not as listed'), (text, said))
+    text, said, status = clone.call('packaging/program', '--proved', **kit)
+    check.equal('a changed program and the kit, asked for a proved one', (True, 0, True), (text.endswith('out/fio2070\n'), status, 'proving 4 crates' in said))
 
 
 def try_elsewhere(check, room):

@@ -1,8 +1,9 @@
 #!/usr/bin/env -S python3 -B
 """Uses the sources without the Rattle kit, as a new user would: `./fio2070` of a clone with few other commands, where its program
 runs and where it does not; in a copy the library, a program in C, the tester, `fiolog`, the wrappers, `make install`. With `--all`
-also `./test` in the copy, a library for Windows and for ARM, packages, and the same in a new Debian system that first only has git,
-and then gcc, make and python3 too, without a network. Last line: `N passed, M failed`."""
+also a library for Windows and for a processor of another byte order, and in the copy the parts of `./test` that ask whether the kit
+is here; with `--release` all parts, other processors, and packages and all of it in a new Debian system that first only has git, and
+then gcc, make and python3 too, without a network. Last line: `N passed, M failed`."""
 
 import hashlib
 import os
@@ -40,6 +41,8 @@ clone = room / 'clone'
 EXAMPLES = Path(TOP, 'examples')
 # What the compiled program does too.
 TOOLS = ('show', 'check', 'record')
+# The parts of `./test` that do something else without the kit.
+ASKING = ('c-library', 'documents', 'gate', 'program', 'refused-memory', 'release-files', 'texts')
 # The packages of Debian whose commands `./fio2070` needs, and git.
 FEW = ['coreutils', 'findutils', 'sed', 'diffutils', 'git']
 
@@ -206,7 +209,7 @@ def alike():
     for path in sorted(filter(Path.is_file, EXAMPLES.iterdir())):
         whole = path.read_bytes()
         for tool in TOOLS:
-            texts = [whole] + [mutated(whole, draw) for _ in range(20 if check.given.all else 2)]
+            texts = [whole] + [mutated(whole, draw) for _ in range(20 if check.given.release else 6 if check.given.all else 2)]
             wrong = [text for text in texts if answers(stand_in, tool, text) != answers(proved, tool, text)]
             check.equal('%s of %s and of changed ones' % (tool, path.name), [], wrong)
     for text in (b'', b'36' * (1 << 19), b'36' * (1 << 19) + b'0', b'#' * (1 << 20) + b'\n', b'> 36' + b'00' * 3000):
@@ -224,7 +227,9 @@ def faults():
 
 def library():
     """The library, a program, the tester, fiolog and the wrappers."""
-    bare = run('tools/fiolog', '--help', CC='no-such-compiler')
+    asked = run('tools/fiolog', '--help', CC='no-such-compiler')
+    check.equal('the help of fiolog needs no library', (0, '', 'usage: fiolog'), (asked.returncode, asked.stderr, asked.stdout[:13]))
+    bare = run('tools/fiolog', 'check', 'examples/good.transcript', CC='no-such-compiler')
     check.equal('fiolog without its library and a compiler', (3, 1), (bare.returncode, bare.stderr.count('\n')))
     check.holds('it says what to do', 'make library' in bare.stderr and 'Traceback' not in bare.stderr, bare.stderr)
     # Without -O2 a compiler takes a third of the time.
@@ -233,6 +238,15 @@ def library():
                 ([done.stdout[:14] for done in (first, second)], second.stderr))
     check.holds('it says so in one line, with its seconds', re.fullmatch(r'fiolog: there is no library yet: making it from dist/fio2070.c, once \.\. \d+ s\n', first.stderr), first.stderr)
     works('make library', 'make -s library')
+    changed = room / 'changed'
+    for file in ('dist/fio2070.c', 'dist/fio2070.h', 'dist/SHA256SUMS', 'packaging/listed', 'packaging/without-kit.mk', 'packaging/hardening', 'Makefile', 'CHANGELOG.md'):
+        (changed / file).parent.mkdir(parents=True, exist_ok=True)
+        shutil.copy2(clone / file, changed / file)
+    for name, text, said in (('as it is listed', '', ''), ('changed', '/* changed */\n', 'make: dist/fio2070.h is not as dist/SHA256SUMS lists it\n')):
+        with open(changed / 'dist/fio2070.h', 'a', encoding='utf-8') as header:
+            header.write(text)
+        done = run('make', '-s', 'libfio2070.a', 'CC=true', 'AR=touch', folder=changed)
+        check.equal('what make says of a header that is ' + name, said, done.stderr)
     (clone / 'program.c').write_text(PROGRAM, encoding='utf-8')
     for name in ('dist', 'include'):
         works('a program with the header of ' + name, 'cc -I %s program.c libfio2070.a -o program && ./program' % name)
@@ -296,11 +310,13 @@ def installing():
 
 
 def own_test():
-    """`./test` in the copy runs what can run, and says what it could not run."""
-    done = run('./test', seconds=3000, HOME=os.environ.get('HOME', str(room)))
-    last = done.stdout.rstrip().rpartition('\n')[2]
-    check.holds('./test without the kit', re.fullmatch(r'\d\d+ passed, 0 failed', last) and 'proofs\n' in done.stdout,
-                '\n'.join(re.findall('^FAILED.*\n.*\n.*', done.stdout, re.M))[:1500] + last)
+    """`./test` in the copy runs what can run, and says what it could not run; these parts alone do."""
+    for name, parts, said in (('parts of ./test', ASKING, ''), ('./test', (), 'proofs\n')):
+        if parts or check.release('./test without the kit'):
+            done = run('./test', *parts, seconds=3000, HOME=os.environ.get('HOME', str(room)))
+            last = done.stdout.rstrip().rpartition('\n')[2]
+            check.holds(name + ' without the kit', re.fullmatch(r'\d\d+ passed, 0 failed', last) and said in done.stdout,
+                        '\n'.join(re.findall('^FAILED.*\n.*\n.*', done.stdout, re.M))[:1500] + last)
 
 
 def windows():
@@ -330,9 +346,11 @@ def windows():
 
 
 def processors():
-    """The library and the program on processors of other sizes and byte orders."""
-    for prefix, qemu in (('arm-linux-gnueabihf-', 'qemu-arm'), ('aarch64-linux-gnu-', 'qemu-aarch64'), ('powerpc-linux-gnu-', 'qemu-ppc')):
+    """The library and the program on processors of other sizes and byte orders: first on one that is big-endian, of 32 bits."""
+    for prefix, qemu in (('powerpc-linux-gnu-', 'qemu-ppc'), ('arm-linux-gnueabihf-', 'qemu-arm'), ('aarch64-linux-gnu-', 'qemu-aarch64')):
         name = prefix[:-1]
+        if qemu != 'qemu-ppc' and not check.release('the library on ' + name):
+            continue
         if not shutil.which(prefix + 'gcc') or not shutil.which(qemu):
             check.skip('the library on ' + name, 'no %sgcc or no %s here (Debian packages gcc-%s, qemu-user)' % (prefix, qemu, name))
             continue
@@ -451,13 +469,13 @@ def main():
     flags()
     pip()
     installing()
-    if check.whole('./test without the kit'):
+    if check.whole('parts of ./test without the kit'):
         own_test()
     if check.whole('a library for Windows'):
         windows()
     if check.whole('the library on other processors'):
         processors()
-    if check.whole('a new Debian system'):
+    if check.release('a new Debian system'):
         in_new_system()
     shutil.rmtree(room, ignore_errors=True)
     check.end()

@@ -20,7 +20,7 @@ import xml.etree.ElementTree as xml
 
 from support.check import Check
 from support.planted import (BY_BOUNDS, BY_LINES, EVENTS, FAILING, LASTING, LATE, MISSED, NAMED, NOW_AND_THEN, OF_BOUND,
-                             OF_LENGTH, OF_REPLAY, REPLAYED, SEEDS, SHORT, SLOW, TOO_LONG, WRONG_LINES, is_long)
+                             OF_LENGTH, OF_PARTS, OF_REPLAY, REPLAYED, SEEDS, SHORT, SLOW, TOO_LONG, WRONG_LINES, is_long)
 from support.pages import text_of
 from support.tables import TOP, can_simulate
 
@@ -147,6 +147,15 @@ def reports(check, program):
             check.equal('rule of: ' + name, [NAMED[name]], rules_of(report))
         if can_simulate():
             check.fault('simulate on: ' + name, simulated, report)
+
+
+def parts_of_answers(check, program):
+    """A wrong octet is found wherever it is: in the first, a middle and the last entry of the longest block, and in all octets of outputs."""
+    for fault, field in OF_PARTS:
+        name = 'a wrong octet: ' + fault
+        if check.wants(name):
+            status, report = run([program, 'module', fault, '--first', str(EVENTS)])
+            check.holds(name, status == 1 and '\n# field: %s' % field in report, report)
 
 
 def long_scripts(check, program):
@@ -300,6 +309,12 @@ def over(check, name, command, wanted):
         check.holds(name, status == wanted[0] and wanted[1] in said.splitlines()[-1], said)
 
 
+def says_first(words, line):
+    """What a run writes, if that does not begin with a line of these words."""
+    said = run(words)[1]
+    return None if said.startswith(line) else said
+
+
 def served(*words):
     """A port at which a command serves one connection."""
     listener = socket.create_server(('127.0.0.1', 0))
@@ -394,6 +409,10 @@ def wires(check, room):
     for words in (['--id', 'abc'], ['--id', '1x'], ['--id', '256'], ['--deadline', '-5'], ['--deadline', '0'], ['--per-block', '']):
         done = subprocess.run([tester, *words, '--self', 'module', '10'], capture_output=True, text=True, check=False, timeout=60)
         check.equal('refused: ' + ' '.join(words), (2, 'a number is out of its range\n'), (done.returncode, done.stdout))
+    turned = "sed -u -E 's/^inputs (..)(..)(..)(..)(..)(..)(..)(..)/inputs \\8\\7\\6\\5\\4\\3\\2\\1/' | %s"
+    for name, words, command in (('', [], adapter), (', own clock', ['--own-clock'], adapter + ' clock')):
+        check.fault('wire: inputs in reverse order of octets' + name, says_first, [tester, *words, '--command', turned % command, '5000', '--first'],
+                    '# the inputs seem to be in reverse order of octets')
     over(check, 'wire: another identification', [tester, '--id', '3', '--command', adapter, '5000', '--first'], differs)
     for name, ms, command, fault in [('ends', LONG, 'read line', 'it ended'), ('is late', '300', 'sleep 9', 'it wrote no line in time'),
                                      ('says something else', LONG, "sed -u 's/.*/what/'", 'not `done`: what'),
@@ -430,11 +449,13 @@ def wires(check, room):
     if check.wants('--version'):
         version = re.search(r'^## (\S+)', text_of('CHANGELOG.md'), re.M)[1]
         check.equal('--version', (0, 'fio2070-test %s\nlibfio2070 %s in %s\n' % (version, version, os.path.realpath(tester))), run([tester, '--version']))
-    over(check, 'no such end', [tester, '--self', 'x'], (2, "can't open x"))
+    for wire, why in (('--self x', '--self has module or cpu after it'), ('--serial /none', 'No such file or directory'), ('--serial /', 'Is a directory'),
+                      ('--socket none', 'it is no HOST:PORT'), ('--socket 127.0.0.1:1', 'Connection refused'), ('--socket 127.0.0.1:x', '')):
+        status, said = run([tester, *wire.split(), '5000'])
+        check.holds("can't open " + wire, (status, said[:-1]) == (2, "can't open %s: %s" % (wire.split()[1], why)) or status == 2 and not why, said)
     late = "sh -c 'exec 2>/dev/null; while read line; do for n in 1 2 3 4 5 6 7 8 9; do printf x; sleep 0.1; done; done'"
     over(check, 'wire: a line that does not end', [tester, '--deadline', '300', '--command', late, '1000'],
          (3, 'it wrote no line in time'))
-    over(check, 'wire: no device', [tester, '--serial', '/none', '5000'], (2, "can't open /none"))
 
 
 def bounds(check, room):
@@ -474,7 +495,7 @@ def main():
             built(check, room, 'g++', 'g++', '-x', 'c++', '-std=c++11') if shutil.which('g++') else check.skip(
                 'build by g++', 'it is not installed')
         if program:
-            for part in (right_ends, planted_faults, other_seeds, reports, long_scripts, goes_on, words, earlier_reports,
+            for part in (right_ends, planted_faults, other_seeds, reports, parts_of_answers, long_scripts, goes_on, words, earlier_reports,
                          transcripts):
                 part(check, program)
             tables(check, program, room)

@@ -108,7 +108,7 @@ def check_found(check):
 
 
 def main():
-    check = Check(write=False, beginnings=(2000, 100_000), logs=(1000, 40_000))
+    check = Check(write=False, beginnings=(2000, 20_000, 100_000), logs=(1000, 8000, 40_000))
     use_library(check, 'the rules on content')
     check.fault('right links', fault_of_right_links, check.given.beginnings)
     check.fault('the model', fault_of_model, check.given.logs)

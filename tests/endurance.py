@@ -37,7 +37,7 @@ BUILDS = [('gcc -O0', 'gcc', ['-O0'], []), ('clang -O3, fast', 'clang', ['-O3', 
           ('powerpc, big-endian', 'powerpc-linux-gnu-gcc', ['-Os', '-static'], ['qemu-ppc']),
           ('ARM', 'arm-linux-gnueabihf-gcc', ['-O2', '-static'], ['qemu-arm'])]
 
-check = Check(seconds=(2, 20))
+check = Check(seconds=(2, 5, 20))
 room = tempfile.mkdtemp()
 
 

@@ -15,9 +15,10 @@ import tempfile
 from pathlib import Path
 
 from support.check import Check
-from support.fiolog import ENVIRONMENT, LIBRARY, TOOL, fiolog, on_terminal, started, use_library, written
-from support.kinds import LIKE, LITTLE
+from support.fiolog import ENVIRONMENT, LIBRARY, LONGEST, TOOL, fiolog, on_terminal, started, use_library, written
+from support.kinds import LIKE, LITTLE, LOST
 from support.loggers import LOGGERS
+from support.paced import Line, Traffic, apart, least
 from support.pages import text_of
 from support.pcapng import frames_of
 from support.sessions import SESSION, timed
@@ -49,17 +50,10 @@ def check_decode(check):
     entries = sum(octets[2] for octets in SESSION if octets[0] == 182)
     check.equal('the entries of decode --csv', entries,
                 sum(bool(row['input']) and row['type'] == '182' for row in table))
-    for words, lines in [(['--input', '13'], [9]), (['--type', 'poll'], [3, 4, 6, 8, 10, 22]),
-                         (['--type', '182', '--block', '1'], [9]), (['--lines', '1-2'], [1, 2]),
-                         (['--status', 'E'], [5]), (['--unanswered'], [3]), (['--direction', 'sent', '--lines', '5-8'], [6, 8])]:
-        check.equal('decode ' + ' '.join(words), lines, [row['line'] for row in fiolog('decode', '--json', *words, text=LOG).objects()])
-    whole = ''.join('TX 36 %02X\nRX B6 %02X 00 00 00 00 00 01\n' % (number, number) for number in (3, 4, 7))
-    cut = whole[:len(whole) // 3 * 2] + 'TX 36 05\nTX 36 06\nRX B6 06 00 00 00 00 00 0\n' + whole[len(whole) // 3 * 2:] + 'TX 36 08\n'
-    check.equal('polls without an answer: not above a damaged line', [5, 10],
-                [row['line'] for row in fiolog('decode', '--json', '--unanswered', text=cut).objects()])
+    check.equal('decode --input 13', [9], [row['line'] for row in fiolog('decode', '--json', '--input', '13', text=LOG).objects()])
     check.equal('by order a line ends at a carriage return too', ['1:     > wrong length needed 2 got 1', '2:     > unknown type 110'],
                 fiolog('decode', '--format', 'frames', text='36\r6e\r# a remark\n').out.splitlines())
-    check.equal('a time of the day as the log writes it, with thousandths after a colon', ['1:     07:15:02:100 < block 5 entries 0 status 00 stamp 1'],
+    check.equal('a time of the day with thousandths after a colon', ['1:     07:15:02.100 < block 5 entries 0 status 00 stamp 1'],
                 fiolog('decode', text='07:15:02:100 RX B6 05 00 00 00 00 00 01\n').out.splitlines()[:1])
     check.holds('colours where they are asked for', '\x1b[' in fiolog('decode', '--color', 'always', text=LOG).out)
     check.holds('no colours in a pipe', '\x1b[' not in fiolog('decode', text=LOG).out)
@@ -80,7 +74,7 @@ def check_shown(check):
     check.equal('the row of a repeat', '1:     < block 5 entries 0 status 06 stamp 10' + AGAIN, out.splitlines()[0])
     check.equal('the object of a repeat', [None, None, None, AGAIN.strip()], [row.get('repeat') for row in rows])
     done = fiolog('decode', text='08:15:02.25 TX 36 05\n08:15:02.26 RX b6 05 00 00 00 00 00 0a\n')
-    check.equal('the clock of the log', ['08:15:02.25', '08:15:02.26'], done.found(r'\d\d:\d\d:\S+'))
+    check.equal('the clock of the log', ['08:15:02.250', '08:15:02.260'], done.found(r'\d\d:\d\d:\S+'))
     late = fiolog('decode', '--json', text='{"ts": 1e17, "data": "b60500000000000a"}\n{"ts": 9.5, "data": "b60600000000000a"}\n')
     check.equal('a time beyond the year 9999 is none', (0, [None, 9.5]),
                 (late.status, [row['time'] for row in late.objects()]))
@@ -128,14 +122,16 @@ def check_words(check):
         named = [path + ' line 1: no octets: link down' for path in both]
         check.holds('each is named with its file', all(words in fiolog('decode', '-v', *both).err for words in named))
         check.holds('how many are skipped of two logs', '2 of %d lines skipped' % (2 * len(SESSION) + 2) in fiolog('decode', *both).err)
-        ends = written(folder, 'ends', 'TX 7E 14 83 36 01\nno octets\nRX 7E 14 83 B3 00 1D BE 7E\n')
-        check.holds('lines are counted to the last, below damage at the end', '1 of 3 lines skipped' in fiolog('decode', '--sdlc', ends).err)
     for command in (['decode'], ['stats'], ['check'], ['record'], ['convert', '--to', 'frames']):
         done = fiolog(*command, text='nothing here\n')
         check.equal('%s of nothing' % command[0], (LITTLE, True), (done.status, 'no frame in 1 line:' in done.err))
     check.equal('a file that is not there', 3, fiolog('decode', 'no-such-file').status)
     alone, asked = fiolog(), fiolog('--help')
     check.equal('no word at all: the help', (2, asked.out, ''), (alone.status, alone.out, alone.err))
+    for words in ([], ['--help'], ['check', '--help'], ['no-such-command']):
+        bare = subprocess.run([*TOOL, *words], env={**ENVIRONMENT, 'FIO2070_LIBRARY': 'no-such-library'}, stdin=subprocess.DEVNULL, capture_output=True,
+                              text=True, timeout=LONGEST, check=False)
+        check.equal('%s needs no library' % ' '.join(['fiolog', *words]), fiolog(*words), (bare.stdout, bare.stderr, bare.returncode))
     check.holds('the help names the commands', all('\n    %s ' % name in asked.out for name in ('check', 'decode', 'record', 'live')), asked.out)
     done = fiolog('no-such-file')
     check.equal('a word that is no command and no file', (2, 'fiolog: no-such-file is no command and no file (fiolog --help)\n'), (done.status, done.err))
@@ -150,23 +146,44 @@ def check_words(check):
                     (lambda done: (done.status, done.out, done.err))(fiolog(word)))
     check.equal('a pattern without octets', 2, fiolog('decode', '--pattern', '(', text='').status)
     pattern = r'^(?P<time>[\d.]+)!(?P<dir>\w+)!(?P<octets>\w+)$'
-    check.equal('a pattern', '1:     1.500000 > poll block 5\n',
+    check.equal('a pattern', '1:     1.500 > poll block 5\n',
                 fiolog('decode', '--pattern', pattern, text='1.5!tx!3605\n').out)
 
 
-# Words of `plan`, and the first numbers that it gives: of filters that differ, and for modules of which few entries may wait.
-PLANS = [('--group 60:20 --group 4:1', [33, 252, 32, 504, 65]),
-         ('--inputs 8 --filter 5 --block 64 --waiting 71', [40, 64, 39, 20, 64, 39]),
+# Times of lines as logs write them, and as they are shown.
+CLOCKS = [('2026-11-22 07:15:02.126', '2026-11-22 07:15:02.126'), ('2026-11-22T07:15:02.126004Z', '2026-11-22 07:15:02.126004'), ('1795331702.108', '2026-11-22 07:15:02.108'),
+          ('Nov 22 07:15:02', '11-22 07:15:02.000'), ('07:15:02,126', '07:15:02.126'), ('7:15:02.5 PM', '19:15:02.500'), ('00:00:00.000001', '00:00:00.000001'),
+          ('7.763', '7.763'), ('[    7.000000]', '7.000'), ('0.0000015', '0.000001'), ('', '')]
+
+
+def check_clocks(check):
+    """A time is shown by what it counts from, whatever the octets look like; files whose octets do are merged."""
+    for time, clock in CLOCKS:
+        lines = '%s TX 36 05\n%s RX b6:05:00:00:00:00:00:01\n' % (time, time)
+        shown = [re.sub(r'^\d+: +| ?[<>].*', '', line) for line in fiolog('decode', '-q', text=lines * 3).out.splitlines()]
+        check.equal('the time %s' % time, [clock] * 6, shown)
+    polls = [(number / 1000 + side / 500, side, octets) for number in range(60, 1060, 50) for side, octets in enumerate(
+        ('36:%02x' % (number // 50), 'b6:%02x:00:00:00:00:00:%02x' % (number // 50, number // 10)))]
+    lines = [('%.6f,0x%02x,%s\n' % (time, 0x81 if side else 2, octets), side) for time, side, octets in polls]
+    shown = [line.split()[1] for line in fiolog('decode', '-q', text=''.join(line for line, _ in lines)).out.splitlines()]
+    check.equal('the times of octets between colons', ['%.3f' % time for time, _, _ in polls], shown)
+    with tempfile.TemporaryDirectory() as folder:
+        both = [written(folder, name, ''.join(line for line, of in lines if of == side)) for side, name in enumerate(('tx', 'rx'))]
+        done = fiolog('check', '-q', '--merge', *both)
+        check.equal('files with octets between colons are merged', (0, True), (done.status, 'frames 40, polls 20, repeats 0, answers lost 0' in done.out))
+
+
+# Words of `plan`, and the first numbers that it gives: for modules of which few entries may wait.
+PLANS = [('--inputs 8 --filter 5 --block 64 --waiting 71', [40, 64, 39, 20, 64, 39]),
          ('--inputs 8 --filter 5 --block 64 --waiting 70', [39, 64, 38, 19, 64, 37]),
          ('--inputs 8 --filter 5 --block 64 --waiting 136', [40, 64, 39, 128, 79]),
-         ('--group 60:20 --group 4:1 --waiting 503', [33, 252, 32, 32, 496, 63]),
-         ('--group 60:20 --group 4:1 --waiting 251', [32, 248, 31, 16, 248, 31]),
          ('--inputs 64 --filter 1 --waiting 63', [0, 0])]
 
 
 def planned(words):
-    """The numbers that `plan` gives for these words, by what they are."""
-    return {one['what']: int(str(one['number']).split()[0]) for one in fiolog('plan', '--json', *words.split()).objects()[0]}
+    """The numbers that `plan` gives for these words, by what they are; if they name none, for a clock that does not drift."""
+    words = words.split() + ['--drift', '0'] * ('--drift' not in words)
+    return {one['what']: int(float(str(one['number']).split()[0])) for one in fiolog('plan', '--json', *words).objects()[0]}
 
 
 def check_numbers(check):
@@ -183,18 +200,31 @@ def check_numbers(check):
             for line in re.findall(r'^\| \d.*', text_of('docs/PLANNING.md'), re.M)]
     for row in rows[::5]:
         names = ['poll every', 'late, at most', 'late, at most, answers lost']
-        plan = planned('--inputs %d --filter %d' % tuple(row[:2]))
-        check.equal('plan for %d inputs with filters of %d' % tuple(row[:2]), row[2:5], [plan[name] for name in names])
-    rounds = fiolog('plan', '--inputs', '64', '--filter', '5', '--outage', '80')
+        words = '--inputs %d --filter %d' % tuple(row[:2])
+        plan = planned(words)
+        check.equal('plan ' + words, row[2:5], [plan[name] for name in names])
+        for drift, jitter in ((100, 0), (100, 2), (10_000, 1)):
+            clock = '%s --drift %d --jitter %d' % (words, drift, jitter)
+            line = Line(1, 0, 0, 0, 0, drift, jitter)
+            every = max([every for every in range(1, row[2]) if apart(line, every)[1] <= row[2]], default=0)
+            check.equal('plan ' + clock, every, planned(clock)['poll every'])
+    check.equal('a crystal, if nothing is said of the clock', ['18', '22'],
+                fiolog('plan', '--inputs', '64', '--filter', '5').found(r'^ *(?:poll every|late, at most) +(\d+) ms'))
     check.equal('a round every 12 ms with 5 of each 100 lost, none later than 71', ['12', '71'],
-                rounds.found(r'5 of each 100 rounds lost +(\d+) ms'))
+                fiolog('plan', '--inputs', '64', '--filter', '5', '--drift', '0').found(r'5 of each 100 rounds lost +(\d+) ms'))
     for words, expected in PLANS:
         check.equal('plan ' + words, expected, list(planned(words).values())[:len(expected)])
-    for words in (['--group', '60'], ['--group', '60:20', '--group', '5:1'], ['--group', '8:5', '--every', '5'], ['--inputs', '8'], [],
-                  ['--inputs', '8', '--filter', '5', '--rate', '9600'], ['--inputs', '8', '--filter', '5', '--sync'],
-                  ['--inputs', '8', '--filter', '5', '--plot', 'x.png'], ['--group', '8:5', '--rate', '9600', '--sync']):
+    for rate, words, stop_bits in ((614_400, '--sync', 0), (115_200, '--async', 1), (1_000_000, '--async 2 --answer-time 3', 2)):
+        answer, traffic = int(words[-1]) if 'answer' in words else 0, Traffic(16, 10, 255, 1024)
+        for drift, jitter in ((0, 0), (100, 0), (100, 3)):
+            every, taken, late, _ = least(Line(rate, stop_bits, answer, 0, 0, drift, jitter), traffic)
+            clock = '--drift %d --jitter %d' % (drift, jitter)
+            check.equal('plan at %d bit/s, %s %s' % (rate, words, clock), [every, taken, late],
+                        list(planned('--inputs 16 --filter 10 --rate %d %s %s' % (rate, words, clock)).values())[-4:-1])
+    for words in (['--inputs', '8'], ['--filter', '5'], [], ['--inputs', '8', '--filter', '5', '--rate', '9600'],
+                  ['--inputs', '8', '--filter', '5', '--sync'], ['--inputs', '65', '--filter', '5'],
+                  ['--inputs', '8', '--filter', '5', '--drift', '10001'], ['--inputs', '8', '--filter', '5', '--jitter', '65536']):
         check.equal('plan ' + ' '.join(words), 2, fiolog('plan', *words).status)
-    check.holds('6 rounds after the longest outage', rounds.found(r'nothing between the rounds +6 rounds'), rounds)
 
 
 def check_convert(check):
@@ -224,7 +254,7 @@ def check_check(check):
         verdict = re.search(r'^line (\d+) (?:input \d+ )?breaks (\w+)', texts, re.M)
         for form in ('transcript', 'auto'):
             done = fiolog('check', '-q', '--format', form, name)
-            found = re.match(r'line (\d+): (\w+): ', done.out)
+            found = re.search(r'^line (\d+): (\w+): ', done.out, re.M)
             expected = verdict and verdict.groups()
             if expected and expected[1] in ('clock', 'watchdog'):
                 expected = expected[0], 'restarted'
@@ -232,22 +262,22 @@ def check_check(check):
                 # The line may have been damaged on its way into the log.
                 check.equal('check of %s, auto' % os.path.basename(name), None, found)
                 continue
-            is_broken = expected and expected[1] != 'restarted'
-            check.equal('check of %s, %s' % (os.path.basename(name), form), (expected, int(bool(is_broken))),
+            status = LOST if expected and expected[1] == 'restarted' else int(bool(expected))
+            check.equal('check of %s, %s' % (os.path.basename(name), form), (expected, status),
                         (found and found.groups(), done.status))
     broken = '> 36ff\nnoise\n> 3600\n< b600018000020000000002\n> 3601\n> 3604\n< b6040000000000ff\n'
     done = fiolog('check', text=broken)
     check.equal('every breach', [('3', 'advance', 'block 255 was due, 0 came'), ('6', 'advance', 'block 1 was due, 4 came')],
                 done.found(r'line (\d+): (\w+): ([^:\n]*)'))
-    check.holds('how often, from where to where', 'fiolog: advance: 2 times, first in line 3, last in line 6\n' in done.err, done.err)
+    check.holds('how often, from where to where', 'fiolog: CPU: advance: 2 times, first in line 3, last in line 6. ' in done.err, done.err)
     timed_log = '07:15:02.100 TX 36 ff\n07:15:02.200 TX 36 00\n'
-    check.holds('since when', 'fiolog: advance: once, in line 2 at 07:15:02.200\n' in fiolog('check', '--like', timed_log.splitlines()[0], text=timed_log).err)
+    check.holds('since when', 'fiolog: CPU: advance: once, in line 2 at 07:15:02.200. ' in fiolog('check', '--like', timed_log.splitlines()[0], text=timed_log).err)
     for name, above, number, words in (
-            ('ahead', 13, 15, 'block 14 was due, 15 came: the CPU went on without an answer, and what block 14 had is lost, which '
+            ('ahead', 13, 15, 'block 14 was due, 15 came: the CPU went on without an answer, and what block 14 had may be lost, which '
              'TEES allows; or the log lost a line (own profile)'),
             ('behind', 13, 13, 'block 14 was due, 13 came: the CPU asks again for a block that was answered; or it did not hear that '
              'answer, and the log is not its own (own profile)'),
-            ('ahead, around 255', 255, 1, 'block 0 was due, 1 came: the CPU went on without an answer, and what block 0 had is lost, '
+            ('ahead, around 255', 255, 1, 'block 0 was due, 1 came: the CPU went on without an answer, and what block 0 had may be lost, '
              'which TEES allows; or the log lost a line (own profile)')):
         done = fiolog('check', text='> 36%02x\n< b6%02x0000000003e8\n> 36%02x\n' % (above, above, number))
         check.equal('what a poll %s means' % name, ['line 3: advance: ' + words], done.found('^line 3.*'))
@@ -269,24 +299,9 @@ def check_check(check):
     # F without C: a module in which no more may wait than a block takes can say that it lost entries.
     lost = '> 3605\n< b605010c000a040000000b\n'
     check.equal('the standard limits', ['limits'], fiolog('check', text=lost).found(r'^line 2: (\w+)'))
-    for words, status in ((('255', '64'), 0), (('255', '1024'), 1), (('0', '64'), 2), (('255', '8193'), 2)):
+    for words, status in ((('255', '64'), LOST), (('255', '1024'), 1), (('0', '64'), 2), (('255', '8193'), 2)):
         check.equal('--limits ' + ' '.join(words), status, fiolog('check', '--limits', *words, text=lost).status)
     check.equal('no frame', LITTLE, fiolog('check', text='').status)
-
-
-def with_library(name):
-    """A Python that has an optional library; None if there is none."""
-    found = (one for one in dict.fromkeys((sys.executable, '/usr/bin/python3')) if os.path.exists(one) and not subprocess.run(
-        [one, '-c', 'import ' + name], stdout=subprocess.DEVNULL, stderr=subprocess.DEVNULL).returncode)
-    return next(found, None)
-
-
-def without(folder, name):
-    """The environment of a Python in which a library is missing."""
-    above = os.path.join(folder, 'none')
-    os.makedirs(above, exist_ok=True)
-    written(above, name + '.py', 'raise ImportError(%r)\n' % name)
-    return {'PYTHONPATH': above + os.pathsep + ENVIRONMENT['PYTHONPATH']}
 
 
 def check_terminal(check, folder):
@@ -312,37 +327,8 @@ def check_terminal(check, folder):
             text = on_terminal(sys.executable, [*words, path], out=out)
         check.holds('so it is beside %s into a file' % words[0], re.search(r'reading 9\d %', text), text[:300])
         check.equal('what %s writes stays in the file' % words[0], fiolog(*words, path).out, Path(kept).read_text(encoding='utf-8'))
-    check.holds('but not between messages', 'reading' not in on_terminal(sys.executable, ['decode', '--type', '60', path]))
+    check.holds('but not between messages', 'reading' not in on_terminal(sys.executable, ['decode', '--input', '60', path]))
     check.holds('nor of a short file', 'reading' not in on_terminal(sys.executable, ['stats'], text=LOG))
-
-
-def check_plot(check, folder):
-    """`record --plot`: a picture, or the word that matplotlib is missing."""
-    def plotted(python, name, **settings):
-        """A run that makes this picture."""
-        words = [python, *TOOL[1:], 'record', '-q', '--plot', os.path.join(folder, name)]
-        return subprocess.run(words, input=LOG, stdout=subprocess.PIPE, stderr=subprocess.PIPE, env={**ENVIRONMENT, **settings}, universal_newlines=True)
-
-    done = plotted(sys.executable, 'picture.png', **without(folder, 'matplotlib'))
-    check.equal('--plot without matplotlib', (3, 'fiolog: --plot needs matplotlib (Debian package python3-matplotlib)\n', False),
-                (done.returncode, done.stderr, os.path.exists(os.path.join(folder, 'picture.png'))))
-    python = with_library('matplotlib')
-    if not python:
-        check.skip('a picture', 'no matplotlib here (Debian package python3-matplotlib)')
-        return
-    for ending, begins in (('png', b'\x89PNG\r\n'), ('svg', b'<?xml'), ('pdf', b'%PDF')):
-        done = plotted(python, 'picture.' + ending)
-        octets = Path(folder, 'picture.' + ending).read_bytes()
-        check.equal('a picture as .' + ending, (1, 'fiolog: line 11 input 12 breaks apart\nfiolog: line 13 restarted\n', True),
-                    (done.returncode, done.stdout + done.stderr, octets.startswith(begins)))
-    check.equal('the inputs of a picture', {'12', '13', '14'}, set(re.findall(
-        r'<!-- input (\d+) -->', Path(folder, 'picture.svg').read_text(encoding='utf-8'))))
-    words = [python, *TOOL[1:], 'plan', '--inputs', '16', '--filter', '10', '--rate', '153600', '--sync', '--plot', os.path.join(folder, 'plan.svg')]
-    done = subprocess.run(words, stdout=subprocess.PIPE, stderr=subprocess.PIPE, env=ENVIRONMENT, universal_newlines=True)
-    check.equal('a plan as a picture', (0, '', 4), (done.returncode, done.stderr, Path(folder, 'plan.svg').read_text(encoding='utf-8').count('fill: #d3d3d3')))
-    for name, words in (('picture.xyz', '.png, .svg and .pdf'), ('no-folder/picture.png', 'No such file')):
-        done = plotted(python, name)
-        check.equal('--plot ' + name, (3, True), (done.returncode, words in done.stderr and 'Traceback' not in done.stderr))
 
 
 def fault_of_following():
@@ -409,12 +395,10 @@ def fault_of_long_lines(octets):
 
 def check_faulty_words(check):
     """A command line with a value out of its range is refused before anything is read."""
-    for words in (['--lines', 'x'], ['--lines', '5-2'], ['--type', 'zz'], ['--type', '61'], ['--status', 'Q'], ['--input', '64'],
-                  ['--block', '256'], ['--format', 'nope']):
+    for words in (['--input', 'x'], ['--input', '64'], ['--input', '-1'], ['--format', 'nope']):
         done = fiolog('decode', *words, text='3605\n')
         check.equal('decode %s' % ' '.join(words), (2, True), (done.status, words[0] in done.err))
     check.equal('live --udp 65536', 2, fiolog('live', '--udp', '65536').status)
-    check.equal('lines from one on', '3:     > poll block 7\n', fiolog('decode', '-q', '--format', 'frames', '--lines', '3-', text='3605\n3606\n3607\n').out)
 
 
 def check_hostile(check, folder):
@@ -464,13 +448,12 @@ def check_closed(check):
 def main():
     check = Check()
     use_library(check, 'all commands of fiolog')
-    for part in (check_decode, check_shown, check_judged, check_words, check_numbers, check_convert, check_check, check_faulty_words, check_closed):
+    for part in (check_decode, check_shown, check_judged, check_words, check_clocks, check_numbers, check_convert, check_check, check_faulty_words, check_closed):
         part(check)
     with tempfile.TemporaryDirectory() as folder:
         check_hostile(check, folder)
     with tempfile.TemporaryDirectory() as folder:
         check_terminal(check, folder)
-        check_plot(check, folder)
     check.fault('answers while the input goes on', fault_of_following)
     check.fault('bounded memory', fault_of_memory)
     for octets in ('a', '00 ', '36 05 ', '1234567890'):

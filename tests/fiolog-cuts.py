@@ -1,8 +1,8 @@
 #!/usr/bin/env -S python3 -B
 """Damaged logs of the proved ends: one answer in fifty is cut in six ways, and no rule is said to be broken; with as many lines
 of other text between, faults that are planted are still found. What is found in a log is the same however its octets come. How
-many single faults are still found in damaged logs is what the table of docs/CAPTURES.md says; `--write` writes the table.
-Last line: `N passed, M failed`."""
+many single faults are still found in damaged logs is what the table of docs/CAPTURES.md says, which `--release` counts; `--write`
+writes the table. Last line: `N passed, M failed`."""
 
 import random
 
@@ -116,7 +116,7 @@ def check_survivors(check):
     from support import survivors
     check.fault('faults that survive damage', survivors.fault_of_floors)
     name = 'the table of what survives damage'
-    if check.wants(name) and (check.given.write or check.whole(name)):
+    if check.wants(name) and (check.given.write or check.release(name)):
         rows = survivors.table_of(survivors.count())
         if check.given.write:
             survivors.TABLE.write(rows)
@@ -125,14 +125,13 @@ def check_survivors(check):
 
 
 def main():
-    check = Check(write=False)
+    check = Check(write=False, trials=(2, 4, 12))
     use_library(check, 'damaged logs')
     for place in (0, 4, 5, 8, 20):
         check.fault('octets in pieces, directions exchanged from line %d on' % (place + 1), fault_of_pieces, place)
-    trials = 12 if check.whole('12 trials of each cut') else 2
     for form in FORMS:
         for kind in CUTS:
-            check.fault('%s, cut: %s' % (form, kind), fault_of_cuts, form, kind, trials)
+            check.fault('%s, cut: %s' % (form, kind), fault_of_cuts, form, kind, check.given.trials)
         check.fault('%s, faults that are planted' % form, fault_of_planted, form)
     check_survivors(check)
     check.end()

@@ -1,7 +1,7 @@
 #!/usr/bin/env -S python3 -B
 """What a line carried, as `fiolog` reads it, beside the model of the line: files of its octets and of its bits, hostile ones too;
-what a file is by its beginning; frames with flags in lines and dumps of a log, and of each side; whose frames are judged; a sample
-clock that is too fast. However the octets come, the events are the same. Last line: `N passed, M failed`."""
+what a file is by its beginning; frames with flags, address or check in lines and dumps of a log; whose frames are judged; a wrong check; a
+sample clock that is too fast. However the octets come, the events are the same. Last line: `N passed, M failed`."""
 
 import random
 import tempfile
@@ -114,67 +114,31 @@ def fault_of_beginning(count):
 
 # Lines of a log ---------------------------------------------------------------------------------------------------------
 
-# Lines, and the messages and damage that they say with --sdlc.
-LINES = {
-    'two frames and one flag': ('7E 14 83 36 01 E0 5D 7E 14 83 36 02 7B 6F 7E', '3601 3602'),
-    'an escape': ('7E 14 83 36 7D 5E 90 D6 7E', '367e'),
-    'an escape without flags': ('14 83 36 7D 5E 90 D6', '367e'),
-    'a frame that is broken off after its check': ('7E 14 83 36 05 C4 1B 7D 7E', '-'),
-    'octets that are a flag, as a synchronous line carries them': ('7E 14 83 36 7E 90 D6 7E', '367e'),
-    'a frame without flags': ('14 83 36 05 C4 1B', '3605'),
-    'one of another address without flags': ('15 83 36 05 7F 07', '3605'),
-    'a wrong check without flags': ('14 83 36 05 1B C4', '-'),
-    'a frame, damage and a frame': ('7E 14 83 36 01 E0 5D 7E 14 83 7E 14 83 36 02 7B 6F 7E', '3601 - 3602'),
-    'a right check and no message': ('7E FF FF FF FF 7E', '-'),
-    'octets before the first flag': ('83 36 05 C4 1B 7E 14 83 36 02 7B 6F 7E', '3602'),
-    'a frame in three lines': ('7E 14 83\n36 05\nC4 1B 7E', '3605'),
-    'a frame that ends where the next begins': ('7E 14 83 36 01 E0\n5D 7E 14 83 36\n02 7B 6F 7E', '3601 3602'),
-    'flags alone': ('7E 7E\n7E', ''),
-    'no flag at the end': ('7E 14 83 36 01 E0 5D 7E 14 83 36 02 7B 6F', '3601 -'),
-    'no flag at the end of one side': ('TX 7E 14 83 36 01\nRX 7E 14 83 B3 00 1D BE 7E', 'b300 -'),
-    'the octet of a flag in a frame without flags': ('RX 14 83 B6 01 00 00 00 00 04 7E F1 4A\nRX 14 83 B3 00 1D BE', 'b60100000000047e b300'),
-    'the octet of a flag in one of another address': ('15 83 36 7E 2B CA\n15 83 36 05 7F 07', '367e 3605'),
-    'a wrong check with the octet of a flag, above a frame': ('14 83 36 7E 1B C4\n14 83 36 05 C4 1B', '- 3605'),
-    'a wrong check with the octet of a flag at the end': ('14 83 36 05 C4 1B\n14 83 36 7E 1B C4', '3605 -'),
-    'a frame as it is written below one that is broken off': ('7E 14 83 36 01\n7E 14 83 36 7E 90 D6 7E', '- 367e'),
-    'a frame as it is written below one without its flag': ('7E 14 83 36 01 E0 5D\n7E 14 83 36 7E 90 D6 7E', '3601 367e'),
-    'a row of digits': ('7e14833605c41b7e1483367d5e90d67e', '3605 367e'),
-    'words': ('7e148336 05c41b7e', '3605'),
-    'marks': ('0x7E, 0x14, 0x83, 0x36, 0x05, 0xC4, 0x1B, 0x7E', '3605'),
-    'both sides, whose frames go on': ('TX 7E 14 83 36\nRX 7E 14 83 B3 00\nTX 05 C4 1B 7E\nRX 1D BE 7E', '3605 b300'),
-    'octets with colons': ('14:83:36:05:C4:1B', '3605'),
-    'a clock': ('12:00:01 7E 14 83 36 05 C4 1B 7E\n12:00:02 7E 14 83 36 06 5F 29 7E', '3605 3606'),
-    'a date and a clock': ('2026-11-22 12:00:01 7E 14 83 36 05 C4 1B 7E\n2026-11-22 12:00:02 14 83 36 05 C4 1B', '3605 3605'),
-    'seconds': ('0.1000  7E 14 83 36 05 C4 1B 7E\n0.2000,7E 14 83 36 05 C4 1B 7E', '3605 3605'),
-    'a time and a side': ('07:15:02.100 RX: 7E 14 83 B3 00 1D BE 7E', 'b300'),
+# How the lines of a log write a frame of a line.
+WAYS = {
+    'flags, check and octet stuffing': lambda octets: pairs(model.line_of(octets)),
+    'the same in digits': lambda octets: model.line_of(octets).hex(),
+    'flags and check, as a synchronous line carries them': lambda octets: pairs(FLAG + model.with_check(b'\x14\x83' + octets) + FLAG),
+    'a check without flags': lambda octets: pairs(model.with_check(b'\x14\x83' + octets)),
+    'an address alone': lambda octets: pairs(b'\x14\x83' + octets),
+    'an address alone, in words': lambda octets: ', '.join('0x%02x' % octet for octet in b'\x14\x83' + octets),
+    'pieces of seven octets': lambda octets: '\n'.join(('RX ' if octets[0] >= 128 else 'TX ') + pairs(row) for row in rows_of(model.line_of(octets), 7))[3:],
 }
 
 
 def check_lines(check):
-    """The lines of the table."""
-    for name, (text, expected) in LINES.items():
-        got = [octets.hex() or '-' for _, octets in said_of(events_of(text.encode() + b'\n', framing='checked'))]
-        check.equal('--sdlc: %s' % name, expected.split(), got)
-    event, = events_of(b'07:15:02.100 RX: 7E 14 83 B3 00 1D BE 7E\n', framing='checked')
-    check.equal('--sdlc: what is said before a frame', (7 * 3600 + 15 * 60 + 2.1, '<', 1), (event.time, event.said, event.number))
-    done = fiolog('decode', '-q', '--sdlc', '--no-check', text='TX 14 83 36 05\nRX 7E 00 08 B6 05 00 00 00 00 00 01 7E\n')
-    check.equal('--sdlc --no-check', ['1:     > poll block 5', '2:     < block 5 entries 0 status 00 stamp 1'], done.out.splitlines())
+    """Frames with flags, address or check are read by themselves, in lines of a log."""
+    for count in (20, 300):
+        session = timed(random_session(8, count))
+        texts = {name: ''.join('%s %s\n' % ('RX' if octets[0] >= 128 else 'TX', write(octets)) for _, _, octets in session) for name, write in WAYS.items()}
+        for name, text in {**texts, 'an analyser of a synchronous line': LOGGERS['SDLC'](session)}.items():
+            check.equal('%d frames in lines: %s' % (len(session), name), [octets for _, _, octets in session],
+                        [octets for _, octets in said_of(events_of(text.encode()))])
+    done = fiolog('decode', '-q', '--like', 'TX 7E 14 83 36 01 E0 5D 7E', text='TX 7E 14 83 36 05 C4 1B 7E\n')
+    check.equal('a frame in a line, by a sample', ['1:     > poll block 5'], done.out.splitlines())
     for size in (1, 5, 100):
         check.equal('lines that end with CR, in pieces of %d' % size, ['one of them', 'the other'],
                     [event.text for event in events_of(b'one of them\rthe other\r', size)])
-    session = timed(random_session(8, 300))
-    check.equal('--sdlc: the frames of an analyser of a synchronous line', [octets for _, _, octets in session],
-                [octets for _, octets in said_of(events_of(LOGGERS['SDLC'](session).encode(), framing='checked'))])
-    bare = ''.join('%s %s\n' % ('RX' if octets[0] >= 128 else 'TX', pairs(model.with_check(b'\x14\x83' + octets)))
-                   for _, _, octets in session)
-    check.equal('--sdlc: frames without flags, some with the octet of a flag', ([octets for _, _, octets in session], True),
-                ([octets for _, octets in said_of(events_of(bare.encode(), framing='checked'))], bare.count(' 7E') > 9))
-    for text, numbers in (('TX 7E 14 83 36\nTX 05 C4\nTX 1B 7E\n', 'frames 1, polls 1, repeats 0, answers lost 1, gap marks 0, breaches 0, parts of frames 2'),
-                          ('TX 14 83 36 05 C4 1B\n', 'frames 1, polls 1, repeats 0, answers lost 1, gap marks 0, breaches 0')):
-        check.equal('--sdlc: the parts of frames are counted: %d' % text.count('\n'), numbers, fiolog('check', '--sdlc', text=text).out.splitlines()[0])
-    for words, text in ((('--sdlc',), LINES['two frames and one flag'][0]), ((), LINES['two frames and one flag'][0])):
-        done = fiolog('decode', *words, text=text + '\n')
-        check.equal('a hint at --sdlc, with %s' % ' '.join(words or ['nothing']), not words, 'try --sdlc' in done.err)
 
 
 def dumps(octets, dice):
@@ -189,21 +153,14 @@ def dumps(octets, dice):
 
 
 def fault_of_dumps(count):
-    """A dump of a line has its frames; one of a hostile line too, and no other."""
+    """A dump of a line has its frames."""
     dice = random.Random(4)
     for _ in range(count):
         messages, octets, _ = stream(dice, 40)
         for name, text in dumps(octets, dice):
-            got = said_of(events_of(text.encode() + b'\n', dice.choice((1, 50, 1 << 20)), framing='checked'))
+            got = said_of(events_of(text.encode() + b'\n', dice.choice((1, 50, 1 << 20))))
             if got != [(model.MESSAGE, message) for message in messages]:
                 return name, text, got
-        octets = hostile_octets(dice, 30)
-        for name, text in dumps(octets, dice):
-            got = said_of(events_of(text.encode() + b'\n', framing='checked'))
-            # What is open at the end of a log is damage.
-            end = [(model.DAMAGED, b'')] * (FLAG in octets and not octets.endswith(FLAG))
-            if name in ('xxd', 'hexdump -C', 'below a heading') and got != due_of(model.said(octets)) + end:
-                return 'hostile', name, text, got
     return None
 
 
@@ -216,8 +173,8 @@ def check_others(check, folder):
     path = written(folder, 'others', line)
     done = fiolog('check', path)
     check.equal('frames of others accuse nobody', (0, 'frames 3, polls 2, repeats 0, answers lost 1, gap marks 0, breaches 0'),
-                (done.status, done.out.splitlines()[0]))
-    check.equal('and are counted', 'not judged: 3 frames of other addresses', done.out.splitlines()[1])
+                (done.status, done.out.splitlines()[1]))
+    check.equal('and are counted', 'not judged: 3 frames of other addresses', done.out.splitlines()[2])
     check.holds('and said', '3 frames of address 15, control octet 83: not judged (--address)' in done.err, done.err)
     for name, count in (('in JSON', 1), ('of two logs', 2)):
         check.equal(name, 3 * count, fiolog('check', '--json', *[path] * count).summary()['not_judged']['frames_of_others'])
@@ -231,8 +188,6 @@ def check_others(check, folder):
     for word in ('5', '12345', 'x4', '', '0x14'):
         check.equal('--address %r' % word, 2, fiolog('decode', '--address', word, path).status)
     check_addresses(check, folder)
-    text = ' '.join(pairs(model.line_of(message, address)) for message, address in ((POLL, 0x14), (POLL, 0x15))) + '\n'
-    check.equal('frames of others in a log', ['frames', 'other'], [event.kind for event in events_of(text.encode(), framing='checked')])
 
 
 def check_addresses(check, folder):
@@ -247,19 +202,29 @@ def check_addresses(check, folder):
         check.equal('--address is refused, with %s' % words, (2, '', True), (done.status, done.out, 'have no address' in done.err))
     check.equal('--address is refused by live --udp', 2, fiolog('live', '--udp', '1', '--address', '14').status)
     for words, count in ((['14'], 16), (['15'], 16), (['14,1583'], 32), (['14', '--address', '15'], 32), (['any'], 32), (['1593'], 0)):
-        for way in ([], ['--sdlc'], ['--sdlc', '--no-check']):
-            rows = fiolog('decode', '--json', *way, '--address', *words, path).objects()
-            check.equal('decode %s --address %s' % (' '.join(way), ' '.join(words)), (count, 32 - count),
-                        (sum('other' not in row for row in rows), sum('other' in row for row in rows)))
-        for way in ([], ['--sdlc']) if count else ():
-            done = fiolog('check', '-q', *way, '--address', *words, path)
-            check.equal('check %s --address %s' % (' '.join(way), ' '.join(words)), (0, count), (done.status, int(done.found(r'frames (\d+)')[0])))
+        rows = fiolog('decode', '--json', '--address', *words, path).objects()
+        check.equal('decode --address %s' % ' '.join(words), (count, 32 - count),
+                    (sum('other' not in row for row in rows), sum('other' in row for row in rows)))
+        done = fiolog('check', '-q', '--address', *words, path)
+        check.equal('check --address %s' % ' '.join(words), (0 if count else LITTLE, [str(count)][:count]), (done.status, done.found(r'frames (\d+)')[:1]))
     said = 'frames 16, polls 8, repeats 0, answers lost 0, gap marks 0, breaches 0'
     done = fiolog('check', '-q', path)
-    check.equal('two stations of one log', (0, ['address 14: ' + said, 'address 15: ' + said], ''), (done.status, done.out.splitlines()[1:], done.err))
+    check.equal('two stations of one log', (0, ['address 14: ' + said, 'address 15: ' + said], ''), (done.status, done.out.splitlines()[3:], done.err))
     check.equal('and in JSON', ['14', '15'], list(fiolog('check', '--json', path).summary()['stations']))
     rows = fiolog('decode', '--json', path).objects()
     check.equal('addresses in JSON', [('14', '83'), ('15', '83')] * 8, [(row['address'], row['control']) for row in rows[::2]])
+
+
+def check_damaged(check, folder):
+    """A frame with a wrong check accuses nobody, wherever the log was taken: a command, or an answer."""
+    frames = [model.line_of(octets) for number in range(5, 25) for octets in (bytes((0x36, number)), bytes((0xb6, number, 0, 0, 0, 0, 0, number)))]
+    for place in (24, 25):
+        struck = [frame[:4] + bytes([frame[4] ^ (number == place)]) + frame[5:] for number, frame in enumerate(frames)]
+        lines = ''.join('%s %s\n' % (('TX', 'RX')[number % 2], pairs(frame)) for number, frame in enumerate(struck))
+        for at in ('cpu', 'module', 'bus'):
+            for name, words, text in (('octets', ['--line', 'octets'], b''.join(struck)), ('lines', [], lines)):
+                done = fiolog('check', '-q', '--at', at, *words, written(folder, 'struck', text))
+                check.equal('a wrong check in %s, of frame %d, at %s' % (name, place, at), (0, [], 1), (done.status, done.found('^line .*'), done.out.count('1 damaged line')))
 
 
 def check_sampled(check, folder):
@@ -285,7 +250,7 @@ def check_sampled(check, folder):
     check.equal('bits in octets are not seen without an order', (LITTLE, True), (done.status, 'if it is what a line carried, see --line' in done.err))
     done = fiolog('decode', '--line', 'octets', written(folder, 'noise', bytes(range(200))))
     check.equal('octets without a frame', (LITTLE, True), (done.status, 'no frame with a right check in the octets of this line' in done.err))
-    for words in (['--sdlc'], ['--pattern', '(?P<octets>.*)'], ['--format', 'frames']):
+    for words in (['--pattern', '(?P<octets>.*)'], ['--format', 'frames']):
         check.equal('--line and %s' % words[0], 2, fiolog('decode', '--line', 'bits', *words, path).status)
 
 
@@ -294,7 +259,7 @@ def check_files(check, folder):
     messages, octets, bits = stream(random.Random(7), 60)
     due = [message.hex() for message in messages]
     for name, file, words in (
-            ('octets', octets, []), ('octets by order', octets, ['--line', 'octets']), ('octets, with --sdlc', octets, ['--sdlc']),
+            ('octets', octets, []), ('octets by order', octets, ['--line', 'octets']),
             ('a line that begins with ff fe', b'\xff\xfe' + octets, ['--line', 'octets']),
             ('a text of bits', bits.encode(), []), ('bits by order', packed(bits), ['--line', 'bits'])):
         done = fiolog('convert', '-q', '--to', 'frames', *words, written(folder, 'file', file))
@@ -305,7 +270,7 @@ def check_files(check, folder):
 
 
 def main():
-    check = Check(count=(20, 200))
+    check = Check(count=(20, 60, 200))
     use_library(check, 'what a line carried')
     count = check.given.count
     check.fault('hostile lines of octets', fault_of_octets, count)
@@ -314,7 +279,7 @@ def main():
     check.fault('dumps', fault_of_dumps, count)
     check_lines(check)
     with tempfile.TemporaryDirectory() as folder:
-        for part in (check_others, check_sampled, check_files):
+        for part in (check_others, check_damaged, check_sampled, check_files):
             part(check, folder)
     check.end()
 

@@ -72,6 +72,10 @@ def check_lost(check):
     for line in ('damaged', '', ()), possible:
         found = judged(*sure[:2], line, sure[2])
         check.equal('below a line that is %s' % line[0], (0, 1, 3), (found.breaches, found.left_out['losses_of_sync'], found.counts.frames))
+        found = judged(*sure[:2], line)
+        check.equal('below the last frame, a line that is %s' % line[0], (0, 0, 2), (found.breaches, found.left_out['losses_of_sync'], found.counts.frames))
+        found = judged(line, *sure)
+        check.equal('above the first frame, a line that is %s' % line[0], ({'advance': 1}, 1), (dict(found.broken), found.left_out['losses_of_sync']))
     found = judged(possible, *sure)
     check.equal('a possible one above', ({'advance': 1}, 3), (dict(found.broken), found.counts.frames))
 
@@ -211,7 +215,8 @@ UNJUDGED = {
     'a gap': (['> 3605', '< b605ff%s0c00000100' % FULL], {'gap_marks': 1}),
     'a restart': (['> 3180', '< b1000000' + '00000001', '> 3180', '< b1800000' + '00000002', '> 3180', '< b1800000' + '00000003'],
                   {'restarts': 1}),
-    'a wrong check': ([with_check(bytes.fromhex('1483' + digits)).hex() for digits in ('3605', 'b60500000000000a', '3606')] + ['14833606c41b'],
+    'a wrong check': ([with_check(bytes.fromhex('1483' + digits)).hex() for digits in ('3605', 'b60500000000000a', '3606')]
+                      + ['14833606c41b', with_check(bytes.fromhex('14833606')).hex()],
                       {'damaged_lines': 1, 'losses_of_sync': 1}),
 }
 WORDS = {'damaged_lines': '1 damaged line', 'skipped_lines': '1 skipped line (no octets)', 'losses_of_sync': '1 loss of sync',

@@ -1,6 +1,6 @@
 #!/usr/bin/env -S python3 -B
 """`fiolog record` with the rules on content: as text exactly what `fio2070 record` writes for the examples and for lossy
-runs with an entry dropped, doubled, turned or swapped, but for restarts; each breach in the table, as JSON, VCD and picture; and
+runs with an entry dropped, doubled, turned or swapped, but for restarts; each breach in the table, as JSON and as VCD; and
 what goes on after a breach, in the middle of traffic, and in logs of the bus and of the module. Last line: `N passed, M failed`."""
 
 import csv
@@ -9,14 +9,14 @@ import json
 import os
 import random
 import re
-import subprocess
-import sys
 import tempfile
 
 from support.check import Check
 from support.faults import FAULTS, changed
-from support.fiolog import ENVIRONMENT, fiolog, use_library, written
+from support.fiolog import fiolog, use_library, written
+from support.kinds import LITTLE
 from support.lossy_runs import lossy_script, run_of_link
+from support.mixes import SIDES, frames_of, mix_of
 from support.pages import text_of
 from support.tables import TOP, output_of
 
@@ -64,7 +64,7 @@ def check_examples(check):
         check.equal('the table of %s' % name, (words, 0), fiolog('record', '-q', path)[::2])
         rows = fiolog('record', '-q', '--json', path).objects()
         check.equal('the object of %s' % name, [{'line': line, 'time': None, 'outcome': 'restarted'}], rows)
-        check.equal('the row of %s' % name, '%d,,,,,,restarted' % line, fiolog('record', '-q', '--csv', path).out.splitlines()[-1])
+        check.equal('the row of %s' % name, '%s,,%d,,,,,,restarted,' % (path, line), fiolog('record', '-q', '--csv', path).out.splitlines()[-1])
         done = fiolog('record', '-q', '--vcd', path)
         check.equal('the VCD of %s' % name, (0, 'fiolog: ' + words), (done.status, done.err))
     path = os.path.join(EXAMPLES, 'good.transcript')
@@ -123,7 +123,7 @@ def check_course(check):
     check.equal('`check` says what a breach means', (
         1, 'line 8: alternate: input 12 went to 0 twice in a row, and neither an overflow (F) nor a configuration that was sent can have '
         'hidden a change between: an entry was lost, or this entry is doubled or has the wrong state (TEES 2009; layout own profile)'),
-                (done.status, done.out.splitlines()[0]))
+                (done.status, done.out.splitlines()[1]))
     middle = '< b6050000000003e8\n' + FIRST
     check.equal('in the middle of traffic', ([], 0), breaches(text=middle))
     check.equal('the answer to a poll above the log, with --whole', (['line 1 breaks pair'], 1), breaches('--whole', text=middle))
@@ -166,7 +166,7 @@ def named(form, name, row):
     """A row of the record of one log, as it is among those of several."""
     if form == ['--json']:
         return '{"file": %s, %s' % (json.dumps(name), row[1:])
-    return row + ',' + name if '--hires' in form else name + (',' if form else ' ') + row
+    return row + ',' + name if '--hires' in form else row if form else name + ' ' + row
 
 
 def check_several(check, folder):
@@ -182,8 +182,8 @@ def check_several(check, folder):
                     ([named(form, name, row) for name, (rows, _) in zip(pair, alone) for row in rows], 1 if 1 in statuses else max(statuses)),
                     said_of(form, *pair))
     first, second = names['first'], names['second']
-    check.equal('an entry of the second log', '%s,2,,13,0,5,5,' % second, fiolog('record', '-q', '--csv', first, second).out.splitlines()[2])
-    check.equal('the column of the file', ['file,line,time,input,state,stamp,wide,mark', 'TimeStamp,DeviceId,EventId,Parameter,File'],
+    check.equal('an entry of the second log', '%s,,2,,13,0,5,5,,' % second, fiolog('record', '-q', '--csv', first, second).out.splitlines()[2])
+    check.equal('the column of the file', ['file,address,line,time,input,state,stamp,wide,mark,fault', 'TimeStamp,DeviceId,EventId,Parameter,File'],
                 [fiolog('record', '-q', *form, first, second).out.splitlines()[0] for form in (['--csv'], events)])
     done = fiolog('record', *events, first, second)
     check.equal('each log begins at --start', ('fiolog: each of the 2 logs begins at --start\n', [
@@ -192,34 +192,53 @@ def check_several(check, folder):
     for words in (['record', '--text'], ['record', '--vcd'], ['convert', '--to', 'vcd']):
         done = fiolog(*words, first, second)
         check.equal('%s of two logs' % ' '.join(words), ('', 2, True), (done.out, done.status, 'one log: name one file, or --merge' in done.err))
-    done = subprocess.run([sys.executable, '-c', LANES, first, second], stdout=subprocess.PIPE, env=ENVIRONMENT, universal_newlines=True)
-    check.equal('the lanes of two logs', "first {12: ([12.0], ['0.0'])}\n[] []\nsecond {13: ([5.0, 12.0], ['0.0', '1.0'])}\n[] []\n", done.stdout)
 
 
-# Python that says how many inputs and gap marks the picture of logs has, where an input changes, and where its crosses are.
-LANES = '''
-import os, sys
-from types import SimpleNamespace as Names
-from fiolog import log, plot, record
-given = Names(files=sys.argv[1:] or ['-'], quiet=True, format='auto', pattern=None, sdlc=False, no_check=False, line='', address=None,
-              like=[], merge=False, text=False, verbose=False, at='auto', start_at_poll=False, whole=False, limits=(255, 1024))
-for lanes in plot.lanes_of(record.Record(log.Log(given), given).logs()):
-    print(*[os.path.basename(lanes.name)] * bool(lanes.name),
-          {number: (list(lanes.times[number]), [str(state) for state in lanes.states[number]]) for number in sorted(lanes.times)})
-    print(lanes.gaps, lanes.broken)
-'''
+def rows_of(*words):
+    """The rows of a table, each as an object, without its time, and the status."""
+    done = fiolog('record', '-q', '--csv', *words)
+    return [{name: cell for name, cell in row.items() if name != 'time'} for row in csv.DictReader(done.out.splitlines())], done.status
 
 
-def check_picture(check):
-    """The lanes of a picture, and its crosses."""
-    gap = '> 3600\n< b600018c03e700000003e8\n> 3601\n< b601010c03f304000003fc\n'
-    for name, text, lanes, err in (
-            ('the lanes of a picture, unknown in a gap', gap, "{12: ([999.0, 1000.0, 1011.0], ['1.0', 'nan', '0.0'])}\n[(1000, 1011)] []\n", 'fiolog: line 4 breaks limits\n'),
-            ('the crosses of a picture', START + FIRST + AGAIN, "{12: ([10.0, 20.0], ['0.0', '0.0'])}\n[] [(12, 20, 0)]\n",
-             'fiolog: line 8 input 12 breaks alternate\n')):
-        done = subprocess.run([sys.executable, '-c', LANES], input=text, stdout=subprocess.PIPE, stderr=subprocess.PIPE,
-                              env=ENVIRONMENT, universal_newlines=True)
-        check.equal(name, (lanes, err), (done.stdout, done.stderr))
+def check_stations(check, folder):
+    """The record of each station is that of a log with its lines alone, and of a log of two links that do not say which there is none."""
+    for seed in range(check.given.mixes):
+        _, addresses, lines, owners, cut = mix_of(seed)
+        rows = rows_of(written(folder, 'mix', '\n'.join(lines) + '\n'))[0]
+        check.equal('rows of other stations in the mix %d' % seed, set(), {row['address'] for row in rows} - {'%02X' % one for one in addresses})
+        for link, address in enumerate(addresses):
+            places = [place for place, owner in enumerate(owners, 1) if owner == link or place - 1 in cut]
+            alone = rows_of(written(folder, 'alone', ''.join(lines[place - 1] + '\n' for place in places)))[0]
+            expected = [{**row, 'file': os.path.join(folder, 'mix'), 'line': str(places[int(row['line']) - 1])} for row in alone]
+            check.equal('the record of %02X in the mix %d' % (address, seed), expected, [row for row in rows if row['address'] == '%02X' % address])
+    mix = written(folder, 'mix', '\n'.join(mix_of(0)[2]) + '\n')
+    addresses = ['%02X' % one for one in mix_of(0)[1]]
+    check.equal('the stations that are named', set(addresses[:2]), {row['address'] for row in rows_of('--address', ','.join(addresses[:2]), mix)[0]})
+    done = fiolog('record', '--text', mix)
+    check.equal('one text of several stations', ('', 2, True), (done.out, done.status, '--address (%s)' % ', '.join(sorted(addresses)) in done.err and mix in done.err))
+    sites = [[(site, *frame) for frame in frames_of(random.Random(site), 200)] for site in ('North', 'South')]
+    both = written(folder, 'both', ''.join('cab %s %s %s\n' % (site, SIDES[way], octets.hex(' ')) for pair in zip(*sites) for site, way, octets in pair))
+    done = fiolog('record', '--csv', both)
+    check.equal('two links without addresses', (1, LITTLE, True), (done.out.count('\n'), done.status, 'two links' in done.err))
+
+
+def check_faulty(check, folder):
+    """The record of several files goes on after one that cannot be read, or that has no frame."""
+    first, last = (written(folder, name, SITES[name]) for name in ('first', 'second'))
+    missing, empty = os.path.join(folder, 'missing'), written(folder, 'empty', 'nothing here\n')
+    done = fiolog('record', '--csv', first, missing, empty, last)
+    rows = list(csv.DictReader(done.out.splitlines()))
+    check.equal('rows of files after one that is missing', [first, last, missing], list(dict.fromkeys(row['file'] for row in rows)))
+    check.equal('the row of a file that is missing', 'No such file or directory', rows[-1]['fault'])
+    check.equal('the status and the words of both', (3, [True, True]), (done.status, [words in done.err for words in (
+        '%s: No such file or directory\n' % missing, '%s: no frame\n' % empty)]))
+    check.equal('a file without frames beside others', LITTLE, rows_of(first, empty, last)[1])
+    done = fiolog('record', first, missing, last)
+    check.equal('the table goes on too', (3, True), (done.status, last in done.out))
+    below = os.path.join(folder, 'below')
+    os.mkdir(below)
+    paths = [written(below, name, SITES[name]) for name in ('first', 'second')]
+    check.equal('all files below a folder', (paths, 0), (list(dict.fromkeys(row['file'] for row in rows_of('-r', below)[0])), rows_of('-r', below)[1]))
 
 
 # Two blocks, the first made when the counter was 100; the second says that entries were pushed out (F), and then the counter is
@@ -249,13 +268,15 @@ def check_events(check, folder):
 
 
 def main():
-    check = Check()
+    check = Check(mixes=(4, 40))
     use_library(check, 'fiolog record')
-    for part in (check_examples, check_course, check_picture):
+    for part in (check_examples, check_course):
         part(check)
     with tempfile.TemporaryDirectory() as folder:
         check_events(check, folder)
         check_several(check, folder)
+        check_stations(check, folder)
+        check_faulty(check, folder)
     check_runs(check)
     check.end()
 

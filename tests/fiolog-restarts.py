@@ -11,6 +11,7 @@ import tempfile
 
 from support.check import Check
 from support.fiolog import copied, fiolog, reading, use_library, written
+from support.kinds import LOST
 
 WORDS = 'the module restarted, or the stamp is wrong: its counter went back'
 # The counter of the module is 1000, 1010 and then 10: it restarted above line 6. Up to the next poll, in line 9, nothing is judged.
@@ -54,20 +55,21 @@ def check_short_lives(check):
 
 
 def check_check(check):
-    """A restart is reported as a breach is, and is not counted as one: the status is that of a good log."""
+    """A restart is reported as a breach is, and is not counted as one: it has a status of its own."""
     done = checked(RESTART)
-    check.equal('a restart', (['line 6: restarted: ' + WORDS, 'frames 10, polls 4, repeats 0, answers lost 0, gap marks 0, breaches 0, restarted 1',
+    check.equal('a restart', (['Nothing is lost in what this log has, 100.0 % of the time. The module was restarted once; what waited in it then is not recorded.',
+                               'line 6: restarted: ' + WORDS, 'frames 10, polls 4, repeats 0, answers lost 0, gap marks 0, breaches 0, restarted 1',
                                'not judged: 1 loss of sync, 2 frames from a loss of sync to the next poll'],
-                              'fiolog: restarted: once, in line 6\n', 0), (done.out.splitlines(), done.remarks, done.status))
+                              'fiolog: module: restarted: once, in line 6. Look at its supply, and configure its inputs again.\n', LOST), (done.out.splitlines(), done.remarks, done.status))
     done = checked(RESTART, '--json')
     check.equal('its object', {'file': '-', 'line': 6, 'outcome': 'restarted', 'says': WORDS}, done.objects()[0])
-    check.equal('the object of the summary', (0, 1, 0), (done.summary()['breaches'], done.summary()['restarted'], done.status))
+    check.equal('the object of the summary', (0, 1, LOST), (done.summary()['breaches'], done.summary()['restarted'], done.status))
     done = checked(GOOD)
     check.equal('no restart', (0, False, 0), (done.status, 'restarted' in done.out + done.err, checked(GOOD, '--json').summary()['restarted']))
     for words in (['--rules', 'transcript'], ['--late-answers'], ['--no-loads'], ['--whole'], ['--at', 'module'], ['--at', 'bus'], ['--start-at-poll'],
                   ['--except', 'clock']):
         done = checked(RESTART, *words)
-        check.equal('a restart, ' + ' '.join(words), (['6: restarted'], True, 0),
+        check.equal('a restart, ' + ' '.join(words), (['6: restarted'], True, LOST),
                     (done.found(TOLD), 'breaches 0, restarted 1' in done.out, done.status))
     done = checked(RESTART + JUMP)
     check.equal('a breach below the next poll', (['6: restarted', '11: advance'], True, 1),
@@ -88,11 +90,11 @@ def check_others(check, folder):
     table = fiolog('check', *paths[::2]).out.splitlines()
     check.equal('a table', (['file', 'breaches', 'restarted'], ['0', '1'], 'line 6: restarted'),
                 (table[1].split()[:3], table[2].split()[1:3], table[2][-17:]))
-    for command, status in (('check', 1), ('stats', 0)):
-        check.equal('the status of %s' % command, (0, status), (fiolog(command, *paths[::2]).status, fiolog(command, *paths[2:]).status))
+    for command, *statuses in (('check', LOST, 1), ('stats', 0, 0)):
+        check.equal('the status of %s' % command, tuple(statuses), (fiolog(command, *paths[::2]).status, fiolog(command, *paths[2:]).status))
     done = fiolog('live', '-q', '--fifo', paths[2])
     first, *_, last = done.out.splitlines()
-    check.equal('live', ('line 6: restarted: ' + WORDS, ['breaches 0', 'breaches in content 0', 'restarted 1'], 0),
+    check.equal('live', ('line 6: restarted: ' + WORDS, ['breaches 0', 'breaches in content 0', 'restarted 1'], LOST),
                 (first, last.split(', ')[-3:], done.status))
     done = fiolog('live', '-q', '--fifo', paths[0])
     check.equal('live without one', (0, False), (done.status, 'restarted' in done.out))
@@ -115,12 +117,13 @@ def check_record(check):
     rows = fiolog('record', '-q', '--json', text=text_of(lines)).objects()
     check.equal('the objects', [(2, None), (4, 'restarted'), (4, None)], [(row['line'], row.get('outcome')) for row in rows])
     rows = [row.split(',') for row in fiolog('record', '-q', '--csv', text=text_of(lines)).out.splitlines()[1:]]
-    check.equal('the rows', [('2', ''), ('4', 'restarted'), ('4', '')], [(row[0], row[-1]) for row in rows])
+    check.equal('the rows', [('2', ''), ('4', 'restarted'), ('4', '')], [(row[2], row[-2]) for row in rows])
 
 
 # Below a damaged line an entry is before the block above it.
 EARLY = [*ABOVE, CUT_LOAD, '> 3602', '< b602010c03e8000000044c', '> 3603', '< b603018c03e7000000044d']
-# A log, which breaches or restarts are reported in it and where, and what is not judged.
+# A log, which breaches or restarts are reported in it and where, and what is not judged. (The answer knows no load but one that is in the
+# log: in one of these it says a restart.)
 LOADS = {
     'a load that was sent': ([*ABOVE, *LOAD, *BACK], [], {'frames_below_loads': 1, 'losses_of_sync': 1}),
     'it explains one stamp': ([*ABOVE, *LOAD, *BACK, *AGAIN], ['12: restarted'], {'frames_below_loads': 1, 'losses_of_sync': 2}),
@@ -146,7 +149,8 @@ def check_loads(check):
     """A load of the counter, one that a lost line may have been too, explains one stamp that is before the latest."""
     for name, (lines, told, unjudged) in LOADS.items():
         done = checked(lines)
-        check.equal('a load: ' + name, (told, 0, unjudged), (done.found(TOLD), done.status, not_judged(lines)))
+        is_restart = told or name == 'one that a damaged line may have been'
+        check.equal('a load: ' + name, (told, LOST if is_restart else 0, unjudged), (done.found(TOLD), done.status, not_judged(lines)))
     for name, (lines, told, unjudged) in NO_LOADS.items():
         for words in (['--no-loads'], ['--no-loads', '--whole']):
             check.equal('%s: %s' % (' '.join(words), name), (told, unjudged), (checked(lines, *words).found(TOLD), not_judged(lines, *words)))
@@ -188,6 +192,8 @@ LOSS, HEADING, TEXT, BROKEN = (('passed over', reason, ()) for reason in ('loss'
 POSSIBLE, MORE = ('possible', 'no form', ()), ('frames', 'more', LATER[2])
 NEXT_POLL, SENT_AGAIN, NEXT_ANSWER, LATER_ANSWER = (
     ('frames', '', (bytes.fromhex(digits),)) for digits in ('3606', 'b60600020000000b', 'b60600000000000b', 'b60700000000000c'))
+# Of these the answer says that the module was restarted: a block has the number of the one above, and no E, or an earlier stamp.
+OF_BLOCKS = ('a remark above an answer that nothing waits for', 'octets beside a poll', 'a heading above an answer', 'a heading below a frame')
 # Lines, which rules are broken, and how often sync is lost. Block 6 is due below block 5. A remark of loss explains that up to the next
 # block or poll, and a block that is sent again up to the next block; a heading, a line that may be a message, and octets that are in no
 # frame explain that, and what is up to the next poll.
@@ -220,6 +226,11 @@ WHOLE = {
 }
 
 
+def status_of(name, broken):
+    """The status of a log of this name that breaks these rules."""
+    return 1 if broken else LOST if name in OF_BLOCKS else 0
+
+
 def check_whole(check, folder):
     """Above the first frame of a log that begins with both ends a line that may be a message is one, a heading is none."""
     for name, (lines, broken, lost) in WHOLE.items():
@@ -227,7 +238,7 @@ def check_whole(check, folder):
         with reading(lines):
             for command in ('check', '-q'), ('live', '-q', '--fifo'):
                 status, out = copied((command[0], '--whole', *command[1:], path), b'')[:2]
-                check.equal('%s --whole, %s' % (command[0], name), (int(bool(broken)), list(broken)),
+                check.equal('%s --whole, %s' % (command[0], name), (status_of(name, broken), list(broken)),
                             (status, re.findall(r'^line \d+: (\w+)', out.decode(), re.M)))
             told = json.loads('[%s]' % copied(('check', '--json', '--whole', path), b'')[1].decode().replace('}\n{', '},{'))
         check.equal('losses of sync --whole, ' + name, lost, told[-1]['summary']['not_judged']['losses_of_sync'])
@@ -247,7 +258,7 @@ def check_remarks(check, folder):
         if lost is not None:
             check.equal('losses of sync, ' + name, lost, found.left_out['losses_of_sync'])
         for command, (status, out) in (('check', check_run), ('live', live)):
-            check.equal('%s, %s' % (command, name), (int(bool(broken)), list(broken)),
+            check.equal('%s, %s' % (command, name), (status_of(name, broken), list(broken)),
                         (status, re.findall(r'^line \d+: (\w+)', out.decode(), re.M)))
         check.equal('record, ' + name, (int(bool(broken)), list(broken)), (record[0], re.findall(r'breaks (\w+)', record[1].decode())))
 
@@ -335,7 +346,7 @@ def check_blocks_sent_again(check):
 
 
 def main():
-    check = Check(links=(60, 1000))
+    check = Check(links=(60, 200, 1000))
     use_library(check, 'restarts')
     for part in (check_check, check_short_lives, check_record, check_loads, check_losses, check_blocks_sent_again):
         part(check)

@@ -9,6 +9,7 @@ import tempfile
 from support.check import Check
 from support.fiolog import fiolog, use_library, written
 from support.kinds import KINDS, LIKE, LITTLE, SIGNS, blocks, polls
+from support.line_model import line_of
 from support.loggers import LOGGERS
 from support.talking import session
 
@@ -16,7 +17,13 @@ COMMANDS = 'fiolog: this log has the commands alone: the answers were not logged
 ANSWERS = 'fiolog: this log has the answers alone: the commands were not logged, so no rule is judged (two files of one line: see --merge)'
 SILENT = 'fiolog: no answer came: the module is silent, or its direction was not logged'
 NOT_WHOLE = 'fiolog: no answer in this log is whole, so no rule is judged'
-SENTENCES = COMMANDS, ANSWERS, SILENT, NOT_WHOLE
+UNREAD = 'fiolog: this log has one direction alone, but for frames in lines of no form, so no rule is judged'
+SENTENCES = COMMANDS, ANSWERS, SILENT, NOT_WHOLE, UNREAD
+
+
+def unread(octets):
+    """A line between flags in a log without."""
+    return 'ttyS1 saw %s\n' % line_of(bytes.fromhex(octets)).hex(' ')
 
 
 # A log, what is said of it, how many breaches it has, and the status. Below a breach the rules begin anew at the next poll.
@@ -27,7 +34,7 @@ SIDES = {
     'polls of one number': (polls(5, 5, 5, 5), [SILENT], 0, 0),
     'commands without a poll': ('TX 31 80\n' * 4, [SILENT], 0, 0),
     'answers': (blocks(5, 6, 7, 8), [ANSWERS], 0, LITTLE),
-    'answers that the module sends again': (blocks(5, 5, 5, 5), [ANSWERS], 0, LITTLE),
+    'answers that the module sends again': (blocks(5) + 'RX B6 05 00 02 00 00 00 05\n' * 3, [ANSWERS], 0, LITTLE),
     'three polls': (polls(5, 6, 7), [], 1, 1),
     'one answer among polls': (polls(5, 6, 7) + blocks(7) + polls(8, 9), [], 2, 1),
     'one answer above polls': (blocks(4) + polls(5, 6, 7, 8), [], 2, 1),
@@ -36,6 +43,12 @@ SIDES = {
     'answers that are cut': (''.join(polls(number) + 'RX B6 %02X 01 8C 03 ..\n' % number for number in range(5, 9)), [NOT_WHOLE], 0, LITTLE),
     'half as many answers that are cut': (polls(5, 6, 7, 8) + 'RX B6 05 01 8C 03 ..\n' * 2, [NOT_WHOLE], 0, LITTLE),
     'fewer': (polls(5, 6, 7, 8) + 'RX B6 05 01 8C 03 ..\n', [COMMANDS], 0, LITTLE),
+    'polls, and an answer that no form reads': (polls(5, 6, 7, 8) + unread('b608000000000001'), [UNREAD], 0, LITTLE),
+    'polls, and each answer': (''.join(polls(number) + unread('b6%02x000000000001' % number) for number in range(5, 9)), [UNREAD], 0, LITTLE),
+    'polls of one number, and an answer': (polls(5, 5, 5, 5) + unread('b605000000000001'), [UNREAD], 0, LITTLE),
+    'answers, and a poll that no form reads': (blocks(5, 6, 7, 8) + unread('3609'), [UNREAD], 0, LITTLE),
+    'both, and an answer that no form reads': (polls(5) + blocks(5) + polls(6, 7) + unread('b607000000000001') + polls(8), [], 1, 1),
+    'a line of no form whose check is wrong': (polls(5, 6, 7, 8) + unread('b608000000000001').replace('00 00', '00 01'), [COMMANDS], 0, LITTLE),
     'few lines that are cut': (polls(*range(5, 25)) + 'RX B6 05 01 8C 03 ..\n', [COMMANDS], 0, LITTLE),
 }
 
@@ -215,7 +228,7 @@ def check_places(check, folder):
     row = merged(folder, ('decode', '--json'), sent, heard).objects()[1]
     check.equal('the object of a frame', ('part1', 1, 'b605010c00010000000001'), (os.path.basename(row['file']), row['line'], row['octets']))
     record = merged(folder, ('record',), sent, heard).out.splitlines()
-    check.equal('the record', ['part1 1: 1.100000 input 12 state 0 stamp 1 wide 1', 'part0 line 3 breaks advance'],
+    check.equal('the record', ['part1 1: 1.100 input 12 state 0 stamp 1 wide 1', 'part0 line 3 breaks advance'],
                 [' '.join(os.path.basename(line).split()) for line in record])
 
 

@@ -1,55 +1,70 @@
 #!/usr/bin/env -S python3 -B
-"""Logs of several stations on one line: what is said of each is what is said of a log with its frames alone, whatever is between
-them. The stations are proved modules, of which some get planted faults; support/mixes.py mixes their lines, and cuts some. Options: how many
-mixes are made, and the first seed. Last line: `N passed, M failed`."""
+"""Logs of several stations on one line, read in many parts. What `fiolog check` says of each is what it says of a log with its frames
+alone, whatever is between them: the stations are proved modules, of which some get planted faults; support/mixes.py mixes their lines,
+and cuts some. And logs of which it is known what is said (support/stations.py). Options: how many mixes are made, and the first seed.
+Last line: `N passed, M failed`."""
+
+from collections import Counter
 
 from support.check import Check
-from support.fiolog import use_library
+from support.fiolog import fiolog, use_library
 from support.mixes import mix_of
+from support.stations import CASES
+
+# What is not judged of lines; which of these one is that is cut depends on the forms that the log shows.
+OF_LINES = 'damaged_lines', 'lines_with_dropped_octets', 'possible_lines', 'skipped_lines'
+# What is lost with a line.
+OF_SYNC = 'losses_of_sync', 'frames_at_losses_of_sync'
+NUMBERS = 'frames', 'polls', 'repeats', 'answers_lost', 'gap_marks', 'breaches'
 
 
-def unjudged(part):
-    """What is not judged. Which kind of line one is that is cut depends on the forms that the log shows: it is an event in any."""
-    from fiolog.stations import OF_LINES
-    found = {name: count for name, count in part.unjudged.items() if count and name not in OF_LINES}
-    return {**found, 'lines': sum(part.unjudged[name] for name in OF_LINES)}
+def said_of(parts):
+    """What is said of a log in these parts: each breach and restart, as its line, its station and its rule; and the summary."""
+    *found, last = fiolog('check', '--at', 'cpu', '--json', parts=[part.encode() for part in parts]).objects()
+    return [(one['line'], one.get('address', ''), one.get('rule') or one['outcome']) for one in found], last['summary']
 
 
-def said_of(lines):
-    """What is said of a log: of each station, or of the whole log, its numbers, its breaches and restarts, and what is not judged."""
-    from fiolog.judgement import Judgement
-    from fiolog.reader import Reader
-    from fiolog.rules import Rules
-    from fiolog.counts import Counts
-    from fiolog.stations import Stations
-    counts = Counts()
-    stations, found = Stations(lambda: Judgement(Rules()), counts), []
-    for batch in Reader().read([('\n'.join(lines) + '\n').encode()]):
-        found += [(event, one) for _, event, one in stations.take(batch)]
-        counts.take(batch)
-    found += list(stations.end())
-    parts = stations.parts or {b'': stations.alone}
-    return {address: (unjudged(part), part.verdict, stations.counts.get(address, counts).in_short(),
-                      [(event.number, one.rule) for event, one in found if event.station == address.hex().upper()])
-            for address, part in parts.items()}
+def unjudged(summary):
+    """What is not judged of a log, and what is said of it."""
+    found = {name: count for name, count in summary['not_judged'].items() if count and name not in OF_LINES}
+    return Counter(found), sum(summary['not_judged'][name] for name in OF_LINES), sorted(summary.get('remarks', []))
+
+
+def row_of(summary):
+    """What is said of a log in short, as of a station."""
+    return {**{name: summary[name] for name in NUMBERS}, **({'restarted': summary['restarted']} if summary['restarted'] else {})}
 
 
 def check_mix(check, seed):
-    """A mix: of each station the same as of its log alone, with the lines that are cut."""
-    form, addresses, lines, owners, cut = mix_of(seed)
-    whole = said_of(lines)
-    name = 'seed %d, %s, %s' % (seed, form, ' '.join('%02X' % one for one in addresses))
-    check.equal(name, sorted(bytes([one]) for one in addresses), sorted(whole))
-    for link, address in enumerate(addresses):
-        places = [place for place, owner in enumerate(owners, 1) if owner == link or place - 1 in cut]
-        alone = said_of([lines[place - 1] for place in places])[b'']
-        expected = *alone[:3], [(places[number - 1], rule) for number, rule in alone[3]]
-        check.equal('%s: %02X' % (name, address), expected, whole.get(bytes([address])))
+    """A mix: of each station the same as of its log alone, with the lines that are cut; and of the log what is said of all of these."""
+    mix = mix_of(seed)
+    name = 'seed %d, %s, %s' % (seed, mix.form, ' '.join('%02X' % one for one in mix.addresses))
+    found, summary = said_of(mix.parts())
+    rows, missing, lines, remarks = {}, Counter(), set(), []
+    for link, address in enumerate('%02X' % one for one in mix.addresses):
+        places = [place for place, owner in enumerate(mix.owners, 1) if owner == link or place - 1 in mix.cut]
+        alone, of_alone = said_of([''.join(mix.lines[place - 1] + '\n' for place in places)])
+        rows[address] = row_of(of_alone)
+        check.equal('%s: %s' % (name, address), [(places[number - 1], rule) for number, _, rule in alone],
+                    [(number, rule) for number, station, rule in found if station == address])
+        more = unjudged(of_alone)
+        missing, lines, remarks = missing + more[0], lines | {more[1]}, remarks + more[2]
+    check.equal('%s: each station' % name, rows, summary.get('stations'))
+    check.equal('%s: what is not judged' % name, (missing, lines, sorted(remarks)), (unjudged(summary)[0], {unjudged(summary)[1]}, unjudged(summary)[2]))
+
+
+def check_case(check, case):
+    """A log of which it is known what is said."""
+    found, summary = said_of(case.parts)
+    missing = {name: count for name, count in summary['not_judged'].items() if count and name not in OF_SYNC}
+    check.equal(case.name, (case.rows, case.found, case.missing), (summary.get('stations', {}), found, missing))
 
 
 def main():
-    check = Check(mixes=(40, 1000), first=0)
+    check = Check(mixes=(40, 200, 1000), first=0)
     use_library(check, 'logs of several stations')
+    for case in CASES:
+        check_case(check, case)
     for seed in range(check.given.first, check.given.first + check.given.mixes):
         check_mix(check, seed)
     check.end()

@@ -7,7 +7,7 @@ import tempfile
 
 from support.check import Check
 from support.fiolog import fiolog, use_library, written
-from support.kinds import KINDS, LIKE, LITTLE, blocks, polls
+from support.kinds import KINDS, LIKE, LITTLE, LOST, blocks, polls
 from support.pages import text_of
 
 
@@ -50,9 +50,6 @@ def check_cures(check):
     check.equal('a line is named by its words', ['4: octets that are no message', '5: octets may be lost', '6: heading', '7: no octets'],
                 re.findall(r'line (\d+: [^:]*): ', said))
     cut = 'RX B6 05 01 8C 03 E7 00 00 00 03 E8 A4 7C\n'
-    header = 'TX 00 08 36 05\nRX 00 08 B6 05 00 00 00 00 00 01\n'
-    check.equal('it helps: --sdlc --no-check', ['poll block 5', 'block 5 entries 0 status 00 stamp 1'],
-                [line[9:] for line in fiolog('decode', '-q', '--sdlc', '--no-check', text=header).out.splitlines()])
     check.equal('it helps: --pattern', ['block 5 entries 1 status 00 stamp 1000', 'input 12 state 1 stamp 999 wide 999'],
                 [line.split('< ')[-1].strip() for line in fiolog('decode', '-q', '--pattern', '(?P<octets>B6.*) .. ..$', text=cut).out.splitlines()])
     block = 'B6 0%d 00 00 00 00 00 0%d'
@@ -85,37 +82,41 @@ def check_few(check):
 
 ROUND, JUMP, CUT = polls(5) + blocks(5), polls(9) + blocks(9), 'RX B6 06 00 00\n'
 BACK = polls(6) + 'RX B6 06 00 00 00 00 00 01\n'
-# A log, the status of what judges it, and that of what counts it.
+OVERFLOW = polls(6) + 'RX B6 06 FF%s 0C 00 00 01 00\n' % ''.join(' %02X 00 %02X' % (place % 64 | place // 64 % 2 << 7, place // 64 + 16) for place in range(255))
+# A log, the status of `check` and `live`, that of `record`, and that of `stats`.
 STATUSES = {
-    'a good log': (ROUND + polls(6), 0, 0),
-    'a breach': (ROUND + JUMP, 1, 0),
-    'a restart': (ROUND + BACK, 0, 0),
-    'a restart and a breach': (ROUND + BACK + polls(7) + blocks(8), 1, 0),
-    'no frame': ('nothing here\n', LITTLE, LITTLE),
-    'no frame, and a damaged line': (CUT, LITTLE, LITTLE),
-    'fewer than half': (ROUND + CUT * 3, LITTLE, 0),
-    'fewer than half, and a breach': (ROUND + JUMP + CUT * 5, 1, 0),
-    'a restart, and fewer than half': (ROUND + BACK + CUT * 5, LITTLE, 0),
-    'frames that are all below losses': ((polls(5) + CUT) * 8 + blocks(5), LITTLE, 0),
-    'commands alone': (polls(5, 6, 7, 8), LITTLE, 0),
-    'polls that nobody answers': (polls(5, 5, 5, 5), 0, 0),
+    'a good log': (ROUND + polls(6), 0, 0, 0),
+    'a breach': (ROUND + JUMP, 1, 1, 0),
+    'a restart': (ROUND + BACK, LOST, 0, 0),
+    'transitions that are lost': (ROUND + OVERFLOW, LOST, 0, 0),
+    'a restart and a breach': (ROUND + BACK + polls(7) + blocks(8), 1, 1, 0),
+    'no frame': ('nothing here\n', LITTLE, LITTLE, LITTLE),
+    'no frame, and a damaged line': (CUT, LITTLE, LITTLE, LITTLE),
+    'fewer than half': (ROUND + CUT * 3, LITTLE, LITTLE, 0),
+    'fewer than half, and a breach': (ROUND + JUMP + CUT * 5, 1, 1, 0),
+    'a restart, and fewer than half': (ROUND + BACK + CUT * 5, LOST, LITTLE, 0),
+    'frames that are all below losses': ((polls(5) + CUT) * 8 + blocks(5), LITTLE, LITTLE, 0),
+    'commands alone': (polls(5, 6, 7, 8), LITTLE, LITTLE, 0),
+    'polls that nobody answers': (polls(5, 5, 5, 5), 0, 0, 0),
     # By sample lines the second of equal frames is no copy.
-    **{name: (''.join(lines), *[0 if name == 'one link in order' else LITTLE] * 2) for name, (lines, _) in KINDS.items()},
+    **{name: (''.join(lines), *[0 if name == 'one link in order' else LITTLE] * 3) for name, (lines, _) in KINDS.items()},
 }
 
 
 def check_statuses(check, folder):
-    """All commands that judge have the same statuses: 1 for a breach alone, 4 if little could be judged. Of several logs the worst counts: a
-    breach, else one of which little could be judged."""
-    paths = {name: written(folder, name.replace(' ', '-'), text) for name, (text, _, _) in STATUSES.items()}
-    for name, (_, judged, counted) in STATUSES.items():
+    """The statuses of all commands that judge: 1 for a breach; 5 if transitions are lost or the module was restarted, of those that say so;
+    4 if little could be judged. Of several logs the first of these counts that one has."""
+    paths = {name: written(folder, name.replace(' ', '-'), text) for name, (text, *_) in STATUSES.items()}
+    for name, (_, judged, recorded, counted) in STATUSES.items():
         runs = {words: fiolog(*words, *LIKE, paths[name]).status for words in (
             ('check',), ('check', '--json'), ('check', '--csv'), ('record',), ('record', '--json'), ('stats',), ('stats', '--json'))}
         runs['check', 'twice'], runs['stats', 'twice'] = (fiolog(word, *LIKE, *[paths[name]] * 2).status for word in ('check', 'stats'))
         runs['live', '-q'] = fiolog('live', '-q', *LIKE, '--fifo', paths[name]).status
-        check.equal('the statuses of ' + name, {words: counted if words[0] == 'stats' else judged for words in runs}, runs)
+        due = {'stats': counted, 'record': recorded}
+        check.equal('the statuses of ' + name, {words: due.get(words[0], judged) for words in runs}, runs)
     for names, status in ((('a good log', 'fewer than half'), LITTLE), (('a good log', 'no frame'), LITTLE), (('the last line first', 'a good log'), LITTLE),
-                          (('a breach', 'two links'), 1), (('a restart', 'a good log'), 0), (('a restart', 'a breach', 'no frame'), 1)):
+                          (('a breach', 'two links'), 1), (('a restart', 'a good log'), LOST), (('no frame', 'transitions that are lost'), LOST),
+                          (('a restart', 'a breach', 'no frame'), 1)):
         runs = [fiolog('check', *words, *LIKE, *map(paths.get, names)).status for words in ((), ('--csv',), ('--json', '--jobs', '2'))]
         check.equal('the status of ' + ', '.join(names), [status] * 3, runs)
 
@@ -130,56 +131,42 @@ def check_messages(check):
             ('the first message of a line', '> 3605\n< b6050000000003e8\n> 3609 < b6090000000003e9\n> 360a\n', 'line 3, message 1, octet 1',
              {'line': 3, 'message': 1, 'octet': 1})):
         done = fiolog('check', text=text)
-        check.equal('the place of a breach: ' + name, (words + ': advance', 'fiolog: advance: once, in ' + words + '\n'),
-                    (done.out.partition(': block')[0], done.remarks))
+        check.equal('the place of a breach: ' + name, ([words + ': advance'], 'fiolog: CPU: advance: once, in ' + words + '. If this is not the log of the CPU, log there.\n'),
+                    (done.found('^line .*?: advance'), done.remarks))
         first = fiolog('check', '--json', text=text).objects()[0]
         check.equal('the place in JSON: ' + name, place, {key: first[key] for key in ('line', 'message', 'octet') if key in first})
 
 
 def check_except(check):
     """A rule that is left out is not said to be broken; what it would have said is counted."""
+    # Between the blocks of a jump nothing is in the log; the other block says F.
     jump, lost = '> 3605\n< b6050000000003e8\n> 3609\n< b6090000000003e9\n', '> 3605\n< b605010c03ea04000003eb\n'
-    for name, text, words, rules, count in (
-            ('one rule', jump, ['--except', 'advance'], [], 1), ('another rule', jump, ['--except', 'pair'], ['advance'], 0),
-            ('two rules', jump + lost, ['--except', 'advance', '--except', 'limits'], [], 2),
-            ('one rule of two', jump + lost, ['--except', 'limits'], ['advance'], 1),
-            ('a rule on content', '> 32000000ff\n< b201\n', ['--except', 'done'], [], 1)):
+    for name, text, words, rules, count, status in (
+            ('one rule', jump, ['--except', 'advance'], [], 1, LITTLE), ('another rule', jump, ['--except', 'pair'], ['advance'], 0, 1),
+            ('two rules', jump + lost, ['--except', 'advance', '--except', 'limits'], [], 2, LOST),
+            ('one rule of two', jump + lost, ['--except', 'limits'], ['advance'], 1, 1),
+            ('a rule on content', '> 32000000ff\n< b201\n', ['--except', 'done'], [], 1, 0)):
         done = fiolog('check', *words, text=text)
         left_out = done.found(r'(\d+) breach(?:es)? of (?:a rule|rules) that (?:is|are) left out')
-        check.equal('--except, %s' % name, (rules, int(bool(rules)), [str(count)] * bool(count)),
+        check.equal('--except, %s' % name, (rules, status, [str(count)] * bool(count)),
                     (done.found(r'^line \d+: (\w+)'), done.status, left_out))
     check.equal('--except of no rule', 2, fiolog('check', '--except', 'nothing', text=jump).status)
     with tempfile.TemporaryDirectory() as folder:
         path = written(folder, 'jump', jump)
         for name, command, *files in (('two logs', 'check', path, path), ('a live line', 'live', '--fifo', path)):
-            check.equal('--except of ' + name, (1, 0), (fiolog(command, *files).status, fiolog(command, '--except', 'advance', *files).status))
-
-
-def with_wrong_check(*frames):
-    """A log of these frames with their checks, the fourth of which is wrong."""
-    from fio2070 import wire_check
-    spelled = [bytes.fromhex('1483' + octets) for octets in frames]
-    return ''.join('%s %s\n' % ('><'[place % 2], (octets + (wire_check(octets) ^ (place == 3)).to_bytes(2, 'little')).hex(' '))
-                   for place, octets in enumerate(spelled))
+            check.equal('--except of ' + name, (1, LITTLE), (fiolog(command, *files).status, fiolog(command, '--except', 'advance', *files).status))
 
 
 def check_places(check):
     """What is judged below damage, with limits, at the module's end, and in the second of two files."""
     good, cut = '> 3605\n< b60500000000000a\n> 3606\n', '< b6060000\n'
     lost = '> 3607\n< b607010c000a040000000b\n'
-    checked, again = (with_wrong_check('3605', 'b60500000000000a', '3606', 'b60600000000000b', last) for last in ('3607', '3606'))
     for name, words, text, expected in (
             ('the limits hold below damage', ['--limits', '255', '64'], good + cut + lost, []),
             ('as do the standard ones', [], good + cut + lost, ['line 6: limits']),
             ('below other damage nobody is', [], good + cut + '> 3607\n', []),
-            ('the CPU did not hear a wrong check', ['--sdlc', '--at', 'cpu'], checked, ['line 5: advance']),
-            ('on the bus it may have', ['--sdlc', '--at', 'bus'], checked, []),
             ('the state of an entry below a gap mark', ['--limits', '255', '64'], good + '< b606028c000b8c000d040000000e\n', ['line 4: alternate: input 12 went to 1 twice in a row'])):
         check.equal('judged: %s' % name, expected, fiolog('check', *words, text=text).found(r'^line \d+: \w+(?:: input[^,]*)?'))
-    for place, numbers in (('cpu', ['not judged: 1 damaged line']),
-                           ('bus', ['not judged: 1 damaged line, 1 loss of sync'])):
-        check.equal('what a wrong check hides, at the %s' % place, numbers,
-                    fiolog('check', '--sdlc', '--at', place, text=again).found('^not judged.*'))
     again = '%s 36 05\n%s B6 05 00 00 00 00 00 01\n%s 36 05\n%s B6 05 00 02 00 00 00 01\n'
     for name, sides, status in (('the CPU', ('TX', 'RX'), 1), ('the module', ('RX', 'TX'), 0), ('the CPU, with arrows', ('>', '<'), 1),
                                 ('the module, with arrows', ('<', '>'), 0)):

@@ -12,6 +12,7 @@ import fcntl
 import functools
 import glob
 import itertools
+import math
 import os
 import pty
 import random
@@ -56,8 +57,8 @@ RING, HELD = 1024, 40
 SMALL_RING = 8
 # Cuts of the power, each with another seed.
 CUTS = 200
-# Options of run.py for a line on which one command in thirty is answered.
-BAD = ['--lose', '0.8', '--deadline', '40']
+# Options of run.py for a line on which one command in three is answered.
+BAD = ['--lose', '0.4', '--deadline', '40']
 # The rows of runs: name, seconds of moves, options of run.py.
 RUNS = [('frames lost, damaged and delayed', 8, []),
         ('a restart of the module', 6, ['--restart', 'module']),
@@ -71,6 +72,9 @@ NOT_REPORTED = ('firmware.c', '    if (item & UART_LOSS) fio2070_wire_lose(&line
 NO_HOLD = ('board.h', '__asm volatile("msr basepri, %0\\n isb" : : "r"(SCANS_PRIORITY) : "memory");', '')
 LOST_TICKS = ('firmware.c', 'for (; due > 0; due--, scanned_to += SCAN_US) {',
               'for (scanned_to += due * SCAN_US, due = due > 0; due > 0; due--) {')
+# The first controller ends when the module was polled for 0, and its answer had entries.
+ENDS_AT_ONE = ('tables.c', '    keep(tables, next_number);', '    static int blocks;\n    int has_rows = flushed(tables->csv) > tables->csv_kept;\n'
+               '    keep(tables, next_number);\n    if (++blocks > 1 && next_number == 1 && has_rows && !tables->was_kept) _exit(9);')
 NUMBER_ANEW = ('controller.c', 'settings_with((uint32_t)deadline), tables.number)', 'settings_with((uint32_t)deadline), 0)')
 NEVER_CUT = ('tables.c', '    if (is_again) {\n', '    if (0) {\n')
 # No fault of the link: the first controller ends after a block is written, and before its number is kept.
@@ -85,8 +89,10 @@ STATE_STUCK = ('firmware.c', '    LAMPS = ', '    if (answer[0] == 182 && answer
 NOT_AGAIN = ('controller.c', 'is_ending ? controller_link_finish(&cpu, (uint32_t)milliseconds())', 'is_ending ? 0')
 UNSEEN_RESTART = ('controller_link.c', 'if (link->step == CONTROLLER_LOOK && (answer->flags & FIO2070_BIT_WAS_RESET)) {', 'if (0) {')
 
+# The chance that a row of chance fails, and that of an entry to be wrong where scans are not held off.
+CHANCE, ONE_WRONG = 1e-9, 1 / 60_000
 # On a busy machine less happens in a time: how many times as long a run is that comes after one in which too little did.
-LONGER = 1, 4, 16
+LONGER = 1, 4, 16, 64
 
 check = Check()
 room = tempfile.mkdtemp()
@@ -202,11 +208,8 @@ def is_wrong(seconds, words, *changes):
 
 
 def runs_over():
-    """A run on a line so bad that the module's buffer runs over: the table has marks, where entries are missing."""
-    for longer in LONGER:
-        last, text = run_of(built(), 8 * longer, BAD)
-        if not last.endswith(' right') or ' missing at ' in last:
-            break
+    """A run on a line that is cut until the module's buffer runs over: the table has marks, where entries are missing."""
+    last, text = run_of(built(), 2, [*BAD, '--overflow'])
     return None if last.endswith(' right') and ' missing at ' in last else text
 
 
@@ -220,12 +223,9 @@ def rough_is_wrong():
 
 
 def is_missed(seconds, words, *changes):
-    """A planted fault: a run says that it is wrong, the first one or a longer one."""
-    for longer in LONGER:
-        last, text = run_of(built(*changes), seconds * longer, words)
-        if 'WRONG: ' in last:
-            return None
-    return text
+    """A planted fault: a run says that it is wrong."""
+    last, text = run_of(built(*changes), seconds, words)
+    return None if 'WRONG: ' in last else text
 
 
 @contextlib.contextmanager
@@ -267,6 +267,16 @@ def connected(path):
     return one
 
 
+def room_of_socket():
+    """How many octets such a socket takes, one by one, while nobody reads them."""
+    one, other = socket.socketpair()
+    with one, other, contextlib.suppress(BlockingIOError):
+        one.setblocking(False)
+        for count in itertools.count():
+            one.send(b'x')
+    return count
+
+
 def unread(one, request):
     """What waits in such a socket to be read: of it (`FIONREAD`), or by QEMU (`TIOCOUTQ`), which takes an octet when the UART has
     room for it."""
@@ -294,13 +304,13 @@ class UnreadLines(board.Lines):
         self.file = self.socket.makefile('rw', newline='\n')
 
     def hold(self):
-        """Asks until the main loop waits: it has taken no more of what is asked for a while, and some is left."""
+        """Asks until the main loop waits: the socket takes no more of its answers, whose number has been the same for a while."""
         self.socket.sendall(HELD * b'counts\n')
-        same = before = 0
+        same, before, room = 0, 0, room_of_socket()
         while same < 4:
             time.sleep(0.5)
             left = unread(self.socket, termios.FIONREAD)
-            same, before = same + 1 if 0 < left == before else 0, left
+            same, before = same + 1 if room <= left == before else 0, left
 
     def release(self):
         """Reads the answers."""
@@ -777,13 +787,12 @@ def main():
         check.fault('run: frames late and repeated', rough_is_wrong)
         check.fault('found: a last command that is not sent again', is_missed, 2, BAD, NOT_AGAIN)
         # The transcript of this one has a block that is requested again.
-        restart, alone = ['--restart', 'controller'], ['--restart', 'controller', '--program', 'none']
+        alone = ['--restart', 'ended', '--program', 'none']
         check.fault('run: a controller that ends before it keeps its number', is_wrong, 6, alone, ENDS_BETWEEN)
         check.fault('found: a block that is written twice', is_missed, 6, alone, ENDS_BETWEEN, NEVER_CUT)
-        check.fault('found: a number that begins anew', is_missed, 6, restart, NUMBER_ANEW)
-        # Where scans are not held off, one entry in some 60,000 is wrong.
+        check.fault('found: a number that begins anew', is_missed, 6, alone, NUMBER_ANEW, ENDS_AT_ONE)
         check.fault('polls that race scans', races, 40_000)
-        check.fault('found: scans that are not held off', finds_nothing, races, 1_000_000, NO_HOLD)
+        check.fault('found: scans that are not held off', finds_nothing, races, round(math.log(CHANCE, 1 - ONE_WRONG)), NO_HOLD)
         check.fault('found: a restart that is not seen', is_missed, 6, ['--restart', 'module'], UNSEEN_RESTART)
         tester_rows()
     check.end()

@@ -227,14 +227,14 @@ holds 'a page for each command, and a command for each page' has_pages "$prefix"
 needing groff groff 'a page for each call of the library' has_calls "$prefix"
 holds 'no link hangs' is_whole "$prefix"
 holds 'no generator of the repository' is_empty_of "$prefix" 'generate-*' translate join sources.py draw-pictures stack-use
-for file in lossy-script transcript waveform/vcd wireshark/fio2070.lua conformance/conformance.h; do
+for file in lossy-script transcript wireshark/fio2070.lua conformance/conformance.h; do
     holds "the tool $file" cmp "$top/tools/$file" "$tools/$file"
 done
-for name in fiolog fio2070-test fio2070-vcd fio2070-transcript fio2070-lossy-script; do
+for name in fiolog fio2070-test fio2070-transcript fio2070-lossy-script; do
     holds "the installed $name" runs_alone "$prefix" "$prefix/bin/$name"
 done
 holds 'without the shared library' without_library
-holds 'the page names the tools' sh -c 'cd "$1" && for file in lossy-script transcript */[a-z]*2pcap */vcd */*.lua; do
+holds 'the page names the tools' sh -c 'cd "$1" && for file in lossy-script transcript */[a-z]*2pcap */*.lua; do
     grep -q "^\.I $file\$" "$2" || exit 1; done' sh "$tools" "$page"
 holds 'installing says how Wireshark finds the dissector' sh -c 'grep -q "ln -sf .*/fio2070.lua" "$1"' sh "$room/installing"
 

@@ -71,6 +71,50 @@ def fault_of_command():
     return None if fits else (plain.out[-300:], late)
 
 
+def block(number, again=False, later=0):
+    """A block without entries, made `later` than the first one of its number."""
+    return '< b6%02x00%02x%08x' % (number, 2 * again, 100 * number + later)
+
+
+def inputs(stamp):
+    """An answer to command 52."""
+    return '< b4' + 16 * 'f' + '%08x' % stamp
+
+
+def round_of(number):
+    """A poll, and its block."""
+    return ['> 36%02x' % number, block(number)]
+
+
+# Logs of a CPU's end; whether `check` says that answers came late, the rules that it finds broken if it does not, whether it says what to try,
+# and with --late-answers how many were late, of a log of right ends.
+LOGS = {
+    'two polls for a block, both answered late': ([*round_of(4), '> 3605', '> 3605', block(5), block(5, again=True), *round_of(6)], True, [], False, 1),
+    'a second block without E': ([*round_of(4), '> 3605', '> 3605', block(5), block(5, later=1), *round_of(6)], False, ['pair'], True, None),
+    'two commands, both answered late': ([*round_of(4), '> 34', '> 34', inputs(401), inputs(402), *round_of(5)], True, [], False, 1),
+    'the same answer twice': ([*round_of(4), '> 34', '> 34', inputs(401), inputs(401), *round_of(5)], False, ['pair'], True, None),
+    'an answer three rounds late': (['> 3c', *round_of(4), *round_of(5), *round_of(6), '< bc02', *round_of(7)], True, [], False, 1),
+    'an answer four rounds late': (['> 3c', *round_of(4), *round_of(5), *round_of(6), *round_of(7), '< bc02'], False, ['pair'], True, 1),
+    'an answer to nothing': ([*round_of(4), '< bc02', *round_of(5)], False, ['pair'], False, None),
+    'an answer to nothing, and a block of the round above': (
+        [*round_of(4), '< bc02', '> 3605', *round_of(5), *round_of(6), block(5, again=True), *round_of(7)], False, ['pair', 'pair'], True, None),
+    'an answer to nothing, and a block two rounds above': (
+        [*round_of(4), '< bc02', '> 3605', *round_of(5), *round_of(6), *round_of(7), block(5, again=True)], False, ['pair', 'restarted'], False, None),
+}
+
+
+def check_logs(check):
+    """Which answers are late, and which are one too many."""
+    for name, (lines, is_late, rules, is_hinted, late) in LOGS.items():
+        text = ''.join(line + '\n' for line in lines)
+        done = fiolog('check', '--json', '--format', 'transcript', text=text)
+        check.equal(name, (is_late, rules, is_hinted), ('late answers' in done.summary().get('remarks', ()), [one.get('rule', one.get('outcome')) for one in done.objects()[:-1]],
+                                                        'answers came late or twice: try --late-answers' in done.err))
+        if late is not None:
+            found = fiolog('check', '--json', '--late-answers', '--format', 'transcript', text=text).summary()
+            check.equal(name + ', with --late-answers', (0, late), (found['breaches'], found['late_answers']))
+
+
 def main():
     check = Check(runs=(40, 400))
     use_library(check, 'fiolog check --late-answers')
@@ -81,6 +125,7 @@ def main():
     for fault in OF_CONTENT:
         check.fault('an end that %s' % fault, fault_of_planted, fault, 2)
     check.fault('the command', fault_of_command)
+    check_logs(check)
     check.end()
 
 

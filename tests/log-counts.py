@@ -84,10 +84,11 @@ def by_library(log):
 
 def by_fiolog(log):
     from fiolog.batch import made_of
-    from fiolog.event import DAMAGED, Line as Event, frame_of
+    from fiolog.event import DAMAGED, SINCE_START, Line as Event, frame_of
     from fiolog.counts import NUMBERS as COUNTED, TABLES, Counts
     counts = Counts()
-    events = [Event(number, DAMAGED) if line.octets is None else frame_of(number, line.octets, time=None if line.time is None else line.time / 1e6)
+    events = [Event(number, DAMAGED) if line.octets is None else
+              frame_of(number, line.octets, time=None if line.time is None else line.time / 1e6, time_kind=SINCE_START)
               for number, line in enumerate(log, 1)]
     for batch in made_of(events):
         counts.take(batch)
@@ -142,7 +143,7 @@ def fault_of_random_logs(count):
 
 
 def main():
-    check = Check(logs=(300, 5000))
+    check = Check(logs=(300, 1200, 5000))
     use_library(check, 'what is counted of a log')
     frames = 0
     for path in sorted(path for form in ('*.transcript', '*.frames', 'captures/*.txt') for path in Path(TOP, 'examples').glob(form)):

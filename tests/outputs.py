@@ -37,7 +37,7 @@ LOCALES = {'UTF-8, strict': {'PYTHONIOENCODING': 'utf-8:strict'}, 'ASCII, strict
 COMMANDS = [['decode'], ['decode', '-v'], ['decode', '--json'], ['decode', '--csv'], ['check', '-v'], ['check', '--json'], ['stats'],
             ['stats', '--json'], ['record', '-v'], ['record', '--json'], ['record', '--csv'], ['record', '--text'],
             ['record', '--vcd'], ['convert', '--to', 'transcript'], ['convert', '--to', 'frames'], ['convert', '--to', 'pcapng'],
-            ['convert', '--to', 'vcd'], ['decode', '--sdlc'], ['decode', '--pattern', '(?P<octets>[0-9a-f]+)$'],
+            ['convert', '--to', 'vcd'], ['decode', '--pattern', '(?P<octets>[0-9a-f]+)$'],
             ['decode', '--format', 'frames'], ['decode', '--format', 'transcript']]
 EVENTS = ['--start', '2026-03-01T07:00:00', '--signal', '7', '--on', '0']
 
@@ -129,7 +129,7 @@ def check_evidence(check, folder):
     os.link(log, hard)
     for path in (log, link, hard, os.path.join(folder, '.', 'log')):
         for words in (['convert', '--to', 'frames', '-o', path, log], ['record', '--hires', path, *EVENTS, log],
-                      ['record', '--plot', path, log], ['convert', '--to', 'pcapng', '-o', log, 'none', path],
+                      ['convert', '--to', 'pcapng', '-o', log, 'none', path],
                       ['live', '--fifo', log, '--transcript', path, '--force'], ['live', '--fifo', path, '--pcapng', log, '--force']):
             status, _, err = run(*words, folder=folder)
             check.equal('%s over its input' % ' '.join(words[:3]), (2, True, GOOD), (status, b' is read and written' in err, state(log)[0]))
@@ -225,7 +225,7 @@ def check_full(check, folder):
                   ['live', '-q', '--fifo', log, '--transcript', '/dev/full']):
         status, _, err = run(*words)
         check.equal('%s into a full disk' % words[0], (3, 'fiolog: /dev/full' + full), (status, err.decode()))
-    for tool, words, text, status in (('tools/waveform/vcd', [], b'block 5 entries 0 status 00 stamp 1\n', 3), ('tools/transcript', [], b'0 quiet\n', 3), ('fio2070-test', ['--self', 'module', '1000'], b'', 2)):
+    for tool, words, text, status in (('tools/transcript', [], b'0 quiet\n', 3), ('fio2070-test', ['--self', 'module', '1000'], b'', 2)):
         path = os.path.join(TOP, *tool.split('/'))
         if not os.path.exists(path):
             check.skip('a full disk: ' + tool, 'it is not built here (make library)')
@@ -241,7 +241,7 @@ def check_tools(check, folder):
     """The tools beside it: noise on standard input, a file that is not there, a capture over its text."""
     def run_tool(name, *words, **settings):
         return run(*words, tool=[os.path.join(TOP, 'tools', name)], folder=folder, **settings)
-    for name in ('waveform/vcd', 'transcript'):
+    for name in ('transcript',):
         for text in (b'\xff\xfe\x1b]0;x\x07\n', b'', b'\0' * 70000):
             status, out, err = run_tool(name, text=text, PYTHONIOENCODING='utf-8:strict')
             check.equal('%s of noise' % name, (1, False, None), (status, b'Traceback' in err, ACTS.search((out + err).decode())))
@@ -259,13 +259,10 @@ def seconds_of(*words, text):
 
 def check_long(check):
     """Long lines take time in proportion; what is sought in them is found, and no cut makes a frame."""
-    for name, words, line in (('--sdlc', ['--sdlc'], b'a '), ('--sdlc, octets', ['--sdlc'], b'36 '), ('--sdlc, blanks', ['--sdlc'], b' '),
-                              ('--pattern', ['--pattern', r'(?P<octets>(?:[0-9a-f]{2} *)+)\s*$'], b'36 '), ('colours', [], b'\x1b[')):
+    for name, words, line in (('letters', [], b'a '), ('octets', [], b'36 '), ('blanks', [], b' '), ('--pattern', ['--pattern', r'(?P<octets>(?:[0-9a-f]{2} *)+)\s*$'], b'36 '),
+                              ('colours', [], b'\x1b[')):
         lines = (b'36 ' + line * 20000 + b'x\n') * 4
         check.holds('long lines: ' + name, seconds_of('decode', '-q', *words, text=lines) < 20, 'too slow')
-    frame = b'7E 14 83 36 05 C4 1B 7E'
-    status, out, _ = run('decode', '-q', '--sdlc', text=b'x' * 30000 + b' ' + frame + b'\nx 14 83 36 05 C4 1B' + b' ' * 9000 + b'\n3605 x\n')
-    check.equal('frames at the ends of long lines', (0, 2), (status, out.count(b'poll block 5')))
     for name, text in (('a plain line', b'TX 3605;' + b'y' * 100), ('a long line', b'TX 3605;' + b'y' * 20000)):
         check.holds('a pattern finds the beginning of %s' % name, b'poll block 5' in run('decode', '--pattern', r'^TX (?P<octets>\w+);', text=text)[1])
     status, out, err = run('decode', '-v', '--pattern', r'(?P<octets>[0-9a-f]+)$', text=b'z' * 8188 + b'3605' + b'11\n3605\n')

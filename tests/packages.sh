@@ -108,7 +108,7 @@ dpkg -i packages/*.deb >log 2>&1 || { cat log; exit 1; }
 [ "$(echo 3605 | fio2070 show)" = 'poll block 5' ]
 [ "$(echo 'RX B6 05 00 00 00 00 03 E8' | fiolog decode -q)" = '1:     < block 5 entries 0 status 00 stamp 1000' ]
 [ "$(echo 'TX 36 05' | fiolog convert -q --like 'TX 36 05' --to frames)" = 3605 ]
-for command in fio2070-vcd fio2070-transcript fio2070-lossy-script fio2070-test; do $command --help >log 2>&1; done
+for command in fio2070-transcript fio2070-lossy-script fio2070-test; do $command --help >log 2>&1; done
 ldconfig -p | grep -q 'libfio2070\.so\.1 '
 dpkg -r fio2070-tools python3-fio2070 fio2070 libfio2070-dev libfio2070-1 >log 2>&1 || { cat log; exit 1; }
 [ ! -e /usr/bin/fiolog ]

@@ -4,6 +4,7 @@
 change nothing but the table; the views follow pointer and keys; the planning table is that of docs/PLANNING.md. With
 `--pictures` the pictures of tools/page/, and that of *Play* in docs/pictures/, are taken again. Last line: `N passed, M failed`."""
 
+import json
 import os
 import random
 import re
@@ -12,8 +13,8 @@ import subprocess
 import tempfile
 import time
 
-from support import page_judged, page_lines, page_logs, page_packets, page_reading, page_stations, page_views
-from support.fiolog import may_use_library
+from support import page_answer, page_judged, page_lines, page_logs, page_packets, page_reading, page_stations, page_views
+from support.fiolog import LIBRARY, fiolog, may_use_library
 from support.browsers import KEYS, Chromium, browsers, running
 from support.check import Check
 from support.opened import (CELLS, PAGE, RANGE, InBrowser, address, example, has_hash, make_page, opened, saved, script_hash, scripts_in, started, text_of,
@@ -23,7 +24,7 @@ from support.waits import slowness
 
 PICTURES = os.path.join(TOP, 'tools', 'page')
 PLAYED_PICTURE = os.path.join(TOP, 'docs', 'pictures', 'play.png')
-MOST_OCTETS = 500_000
+MOST_OCTETS = 512_000
 MANY = 100_000
 # Seconds of a processor of all processes of the browser; more where a processor does less in a second.
 MOST_SECONDS = 3
@@ -269,12 +270,12 @@ def check_print(check, browser, folder):
 
 
 def check_plan(check, browser, _):
-    """The rows of docs/PLANNING.md; and how often to poll 8 inputs with filters of 5, if few entries may wait."""
+    """The rows of docs/PLANNING.md; how often to poll 8 inputs with filters of 5, if few entries may wait; and what `fiolog plan` says."""
     browser.click('#tab-plan')
     with open(os.path.join(TOP, 'docs', 'PLANNING.md'), encoding='utf-8') as page:
         rows = [[cell.strip() for cell in line.strip('|\n ').split('|')] for line in page if re.match(r'\| \d', line)]
-    move = '''["plan-inputs", "plan-filter", "plan-waiting", "plan-lost", "plan-rate"].forEach((id, place) => {
-        const it = document.getElementById(id);
+    move = '''["inputs", "filter", "waiting", "lost", "drift", "jitter", "rate", "stop_bits"].forEach((name, place) => {
+        const it = document.getElementById("plan-" + name);
         it.value = arguments[0][place] ?? it.value; it.dispatchEvent(new Event("input")); });
         return [...document.querySelectorAll(arguments[1])].map((it) => it.textContent)'''
     for row in rows:
@@ -283,9 +284,32 @@ def check_plan(check, browser, _):
     check.equal('the number of rows', 16, len(rows))
     for waiting, lost, every in ((1024, 0, 159), (71, 0, 40), (70, 0, 39), (71, 1, 10), (7, 0, 0)):
         check.equal('the pace if %d may wait, with %d lost' % (waiting, lost), '%d ms' % every,
-                    browser.run(move, [8, 5, waiting, lost], '.answers td.mono')[0])
+                    browser.run(move, [8, 5, waiting, lost, 0], '.answers td.mono')[0])
     for rate, every in ((614_400, '4 ms'), (153_600, 'no pace')):
-        check.equal('the least pace at %d bit/s' % rate, every, browser.run(move, [64, 5, 1024, 0, rate], '.plan .answers td.mono')[-1])
+        check.equal('the least pace at %d bit/s' % rate, every, browser.run(move, [64, 5, 1024, 0, 0, 0, rate, 0], '.plan .answers td.mono')[-1])
+    check_clocks(check, browser, move)
+
+
+# Inputs, filter, entries that may wait, drift, jitter, rate and stop bits.
+CLOCKS = ((64, 5, 1024, 0, 0, 614_400, 0), (64, 5, 1024, 100, 0, 614_400, 0), (8, 5, 71, 10_000, 3, 1_200, 1), (8, 5, 1024, 100, 7, 19_200, 2),
+          (40, 10, 1024, 2_000, 0, 153_600, 0), (64, 1, 1024, 100, 3, 614_400, 0), (16, 50, 8192, 50, 255, 153_600, 1))
+
+
+def check_clocks(check, browser, move):
+    """How often to poll, at most and at least, by a clock that drifts and polls late: as `fiolog plan` says."""
+    if not os.path.exists(LIBRARY):
+        check.skip('plans as fiolog gives them', 'no libfio2070.so here (make library)')
+        return
+    for clock in CLOCKS:
+        inputs, length, waiting, drift, jitter, rate, stop = clock
+        words = [('--inputs', inputs), ('--filter', length), ('--waiting', waiting), ('--drift', drift), ('--jitter', jitter), ('--rate', rate)]
+        line = ['--async', str(stop)] if stop else ['--sync']
+        rows = json.loads(fiolog('plan', '--json', *line, *(str(one) for pair in words for one in pair)).out)
+        numbers = {one['what']: str(one['number']) for one in rows}
+        least = next(number for what, number in numbers.items() if what.startswith('at {:,} bit/s'.format(rate)))
+        seen = browser.run(move, [inputs, length, waiting, 0, drift, jitter, rate, stop], '.plan .answers td.mono')
+        check.equal('the plan of %s inputs with filters of %s, %s wait, drift %s, jitter %s, %s bit/s, %s stop bits' % clock,
+                    [numbers['poll every'], least], [seen[0], seen[-1]])
 
 
 # What the clicks of `check_play` do, and what the profile says of it: input 5 goes to 0 at the second of two samples; the
@@ -324,7 +348,7 @@ def check_access(check, browser, _):
 
 
 CHECKS = (check_examples, *page_logs.CHECKS, check_fields, check_many, check_touch, check_hostile, check_print, check_plan, check_play, check_access,
-          *page_views.CHECKS, *page_judged.CHECKS, *page_stations.CHECKS, *page_lines.CHECKS, *page_packets.CHECKS, *page_reading.CHECKS)
+          *page_views.CHECKS, *page_answer.CHECKS, *page_judged.CHECKS, *page_stations.CHECKS, *page_lines.CHECKS, *page_packets.CHECKS, *page_reading.CHECKS)
 
 
 def check_browser(check, kind, folder):
@@ -346,17 +370,13 @@ def take_pictures(folder):
     with running(Chromium) as browser:
         browser.size(1280, 800)
         started(browser)
-        example(browser, 'serial-log.txt')
-        browser.click('#row-2')
-        browser.point('.detail .grid span:nth-child(4)')
-        browser.run('document.querySelector(".rows").scrollLeft = 0')
+        path = os.path.join(folder, 'cabinet.log')
+        with open(path, 'w', encoding='ascii') as file:
+            file.write(page_answer.cabinet_log())
+        opened(browser, path)
+        browser.click('#first-breach')
         browser.picture(os.path.join(PICTURES, 'messages.png'))
-        many = os.path.join(folder, 'many.transcript')
-        many_messages(many)
-        opened(browser, many)
         browser.click('#tab-inputs')
-        browser.turn_wheel('#waves', -4000)
-        browser.click('#waves')
         browser.picture(os.path.join(PICTURES, 'inputs.png'))
         browser.size(1180, 1090)
         browser.click('#tab-play')

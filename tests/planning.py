@@ -4,8 +4,8 @@ alone, that it reaches each bound, and that one scan more loses a transition; an
 states, that the bounds are exact. Runs the densest traffic by `simulate`: what arrives at the end of each clean round, how
 late it is, outages of the length in the table and of one scan more, rounds as far apart as the table says and one scan
 further, restarts, and configurations that open other inputs; and by `libfio2070` over rings with exactly the room that the
-page asks for, and one slot less. Compares the paces at a rate that `fiolog plan` and `libfio2070` find with a calculation of its
-own, and plays both ends at each over a line that takes its time. Last line: `N passed, M failed`."""
+page asks for, and one slot less. Compares the paces at a rate that `libfio2070` finds with a calculation of its own, and plays both
+ends at each over a line that takes its time, polled by a clock that drifts. Last line: `N passed, M failed`."""
 
 import itertools
 import random

@@ -1,6 +1,6 @@
 #!/usr/bin/env -S python3 -B
-"""Makes the packages of `make release`, compares their checksums, and with `--all` installs and uses each in a new Debian
-system without the kit, the repository and a network. Last line: `N passed, M failed`."""
+"""With `--all` makes the packages of `make release`, and compares their checksums; with `--release` also installs and uses each in a
+new Debian system without the kit, the repository and a network. Last line: `N passed, M failed`."""
 
 import os
 import shutil
@@ -109,13 +109,15 @@ def main():
     if not shutil.which('cargo'):
         check.skip('packages', 'no cargo here')
         check.end()
-    if not check.whole('all packages, in a new Debian system'):
+    if not check.whole('all packages'):
         check.end()
     fault = make(release)
     check.equal('make release', None, fault)
     if fault:
         check.end()
     check.fault('the checksums', is_listed)
+    if not check.release('all packages, in a new Debian system'):
+        check.end()
     why = roots.missing()
     root = None if why else roots.made(room)
     if root is None:

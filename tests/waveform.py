@@ -1,6 +1,6 @@
 #!/usr/bin/env -S python3 -B
-"""Reads back what tools/waveform/vcd writes, and compares it with the text of the program: on all examples, on random runs
-and on random blocks, with overflows, restarts and a counter that wraps around. If GTKWave's vcd2fst and fst2vcd are
+"""Reads back the VCD files that `fiolog` writes, and compares them with the text of the program: of all examples and of random runs
+by their transcripts, and of random blocks, with overflows, restarts and a counter that wraps around. If GTKWave's vcd2fst and fst2vcd are
 installed, it compares what they make of it too. Last line: `N passed, M failed`."""
 
 import glob
@@ -13,10 +13,9 @@ import subprocess
 import tempfile
 
 from support.check import Check
+from support.fiolog import fiolog, use_library
 from support.tables import TOP, output_of
-from support.waits import LONGEST
 
-VCD = os.path.join(TOP, 'tools', 'waveform', 'vcd')
 TURN = 1 << 32
 ENTRY = re.compile(r' *input (\d+) state ([01]) stamp \d+ wide (\d+)')
 HEAD = re.compile(r'block (\d+) entries \d+ status ([0-9a-f]{2}) stamp (\d+)')
@@ -48,16 +47,6 @@ $end
 %s1i0
 #3
 ''' % (bits('$var wire 1 n{0} block [{0}] $end', reversed(range(8))), bits('xn{}'), bits('1n{}'), bits('0n{}'))
-
-# Texts that belong to something else.
-NOT_DRAWN = {
-    'no text': '',
-    'frames': '3605\nb605018c03e700000003e8\n',
-    'a transcript': '> 3605\n< b605018c03e700000003e8\n' * 6,
-    'a script': 'fio2070 script 1 2 0\nscan ffffffffffffffff\npoll\n',
-    'a verdict': 'good 7 frames\n',
-    'a waveform': '$version fio2070 waveform $end\n#0\n',
-}
 
 
 class Dump:
@@ -106,10 +95,20 @@ class Dump:
                 yield int(''.join(bits), 2)
 
 
-def drawn(text):
-    """What the tool writes of a text, on both streams, and its exit status."""
-    done = subprocess.run([VCD], input=text.encode(), stdout=subprocess.PIPE, stderr=subprocess.PIPE, timeout=LONGEST)
-    return done.stdout.decode(), done.stderr.decode(), done.returncode
+def drawn(frames):
+    """The VCD of frames, what is said of it, and the status."""
+    done = fiolog('convert', '-q', '--format', 'frames', '--to', 'vcd', text=frames)
+    return done.out, done.err, done.status
+
+
+def recorded(script, report):
+    """The same of what the CPU took in a simulated run."""
+    with tempfile.NamedTemporaryFile('w', suffix='.script') as file:
+        file.write(script)
+        file.flush()
+        text = subprocess.run([os.path.join(TOP, 'tools', 'transcript'), file.name], input=report, stdout=subprocess.PIPE, check=True, text=True).stdout
+    done = fiolog('record', '-q', '--format', 'transcript', '--vcd', text=text)
+    return done.out, done.err, done.status
 
 
 def entries_of(text):
@@ -178,7 +177,7 @@ def fault_of_gtkwave(vcd, folder):
 
 
 def random_blocks(draw, start):
-    """What `show` writes of good blocks: entries in the order of time, some blocks sent again, and commands between."""
+    """Good blocks: entries in the order of time, some blocks sent again, and commands between."""
     number, time, lines = draw.randrange(256), start, []
     for _ in range(draw.randrange(1, 40)):
         entries = []
@@ -193,13 +192,12 @@ def random_blocks(draw, start):
             lines += ['36%02x' % number, (body + b'\2' + stamp).hex()]
         number = (number + 1) % 256
         time += draw.choice([0, 5, 1000, 100_000_000])
-    return output_of('show', '\n'.join(lines) + '\n')[0]
+    return '\n'.join(lines) + '\n'
 
 
-def simulated(words):
-    """The report of a lossy script with these options."""
-    script = subprocess.run([os.path.join(TOP, 'tools', 'lossy-script'), *words.split()], stdout=subprocess.PIPE)
-    return output_of('simulate', script.stdout.decode())[0]
+def lossy(words):
+    """A lossy script with these options."""
+    return subprocess.run([os.path.join(TOP, 'tools', 'lossy-script'), *words.split()], stdout=subprocess.PIPE, check=True, text=True).stdout
 
 
 def outcome(fault_of, *given):
@@ -211,22 +209,19 @@ def outcome(fault_of, *given):
 
 
 def check_texts(check, folder):
-    """A row for the VCD of each text that the program writes for the examples and for random inputs."""
-    texts = [(os.path.basename(path), open(path, encoding='ascii').read(), fault_of_report)
-             for path in sorted(glob.glob(os.path.join(TOP, 'examples', '*.report'))) if 'refused' not in path]
-    texts += [(words, simulated(words), fault_of_report)
-              for words in ('--rounds 300 --seed %d --loss 0.%d' % (seed, seed) for seed in range(1, 7))]
-    texts += [('overflow', simulated('--rounds 60 --inputs 64 --change 1 --scans 40 --loss 0.2'), fault_of_report)]
-    texts += [(name, output_of('show', open(os.path.join(TOP, 'examples', name), encoding='ascii').read())[0], fault_of_dump)
-              for name in ('lost-answer.frames', 'every-type.frames')]
-    texts += [('random blocks %d' % seed, random_blocks(random.Random(seed), draw), fault_of_dump)
-              for seed, draw in enumerate([0, 5, 70_000, TURN - 3, TURN - 70_000, TURN // 2, 3 * TURN // 2])]
+    """A row for the VCD of each example and of random inputs."""
+    scripts = [(os.path.basename(path), open(path, encoding='ascii').read())
+               for path in sorted(glob.glob(os.path.join(TOP, 'examples', '*.script'))) if 'refused' not in path]
+    scripts += [(words, lossy(words)) for words in ('--rounds 300 --seed %d --loss 0.%d' % (seed, seed) for seed in range(1, 7))]
+    scripts += [('overflow', lossy('--rounds 60 --inputs 64 --change 1 --scans 40 --loss 0.2'))]
+    frames = [(name, open(os.path.join(TOP, 'examples', name), encoding='ascii').read()) for name in ('lost-answer.frames', 'every-type.frames')]
+    frames += [('random blocks %d' % seed, random_blocks(random.Random(seed), draw))
+               for seed, draw in enumerate([0, 5, 70_000, TURN - 3, TURN - 70_000, TURN // 2, 3 * TURN // 2])]
+    runs = [(name, script, output_of('simulate', script)[0]) for name, script in scripts]
+    texts = [(name, report, fault_of_report, recorded(script, report)) for name, script, report in runs]
+    texts += [(name, output_of('show', text)[0], fault_of_dump, drawn(text)) for name, text in frames]
     has_gtkwave = shutil.which('vcd2fst') and shutil.which('fst2vcd')
-    for name, text, fault_of in texts:
-        vcd, complaints, status = drawn(text)
-        check.equal(name + ' is drawn', ('', 0), (complaints, status))
-        if status:
-            continue
+    for name, text, fault_of, (vcd, _, _) in texts:
         check.fault(name, outcome, fault_of, text, vcd)
         if has_gtkwave:
             check.fault(name + ' by GTKWave', outcome, fault_of_gtkwave, vcd, folder)
@@ -235,37 +230,21 @@ def check_texts(check, folder):
 
 
 def check_edges(check):
-    """A whole file; a counter that goes back or wraps around; what is unknown at a gap mark; faulty lines; no block."""
+    """A whole file; a counter that goes back or wraps around; what is unknown at a gap mark; no block."""
     with open(os.path.join(TOP, 'examples', 'lost-answer.frames'), encoding='ascii') as file:
-        check.equal('a whole file', (LOST_ANSWER, '', 0), drawn(output_of('show', file.read())[0]))
-    turn = Dump(drawn(output_of('show', 'b600010cfffe0000000005\nb601018c00070000000009\n')[0])[0])
+        check.equal('a whole file', LOST_ANSWER, drawn(file.read())[0])
+    turn = Dump(drawn('b600010cfffe0000000005\nb601018c00070000000009\n')[0])
     check.equal('a counter that turns over', [(TURN - 2, 12, 0), (TURN + 7, 12, 1)], turn.inputs())
-    back = Dump(drawn(output_of('show', 'b600020c03e88c03e900000003ea\nb600028c00030c00050000000007\n')[0])[0])
-    check.equal('a restart', ([1002], [(1000, 12, 0), (1001, 12, 1), (1002, 12, 1), (1004, 12, 0)]),
-                (back.rises('back'), back.inputs()))
-    lost = Dump(drawn(output_of('show', 'b600010500010000000001\nb601010600050c00000005\n')[0])[0])
-    states = [lost.value('input_5', time) for time in (0, 4, 5)]
-    check.equal('a gap mark', ([5], ['x', '0', 'x']), (lost.rises('gap'), states))
-    vcd, complaints, status = drawn(output_of('show', '3605\nzz\nb605018c03e700000003e8\n')[0])
-    check.equal('a faulty line', ([(999, 12, 1)], 'vcd: not drawn: line 2: bad line\n', 1),
-                (Dump(vcd).inputs(), complaints, status))
-    vcd, complaints, status = drawn('1 sent 1 3600\n2 refused not sent 2\n')
-    check.equal('a refused event', ('vcd: not drawn: 2 refused not sent 2\n', 1), (complaints, status))
-    for name, text in NOT_DRAWN.items():
-        lines = text.splitlines()
-        complaints = ['vcd: not drawn: ' + line for line in lines[:10]]
-        if len(lines) > 10:
-            complaints.append('vcd: not drawn: %d more lines' % (len(lines) - 10))
-        complaints.append('vcd: none of the %d lines is of `fio2070 show` or of `fio2070 simulate`\n' % len(lines))
-        check.equal('not drawn: ' + name, ('', '\n'.join(complaints), 1), drawn(text))
-    cut = drawn('poll block 5\nblock 5 entries 2 status 00 stamp 9\n  input 1 state 0 stamp 8 wide 8\n')
-    check.equal('a block that is cut', ('vcd: block 5 of 2 entries is cut\n', 1), cut[1:])
-    quiet = drawn('1 quiet\ncounter 1\nnumber 0\nwaiting 0\nrecord 0\n')
-    check.equal('a run without blocks', ([], '', 0), (Dump(quiet[0]).changes, *quiet[1:]))
+    back = Dump(drawn('b600020c03e88c03e900000003ea\nb600028c00030c00050000000007\n')[0])
+    check.equal('a restart', ([1002], [(1000, 12, 0), (1001, 12, 1), (1002, 12, 1), (1004, 12, 0)]), (back.rises('back'), back.inputs()))
+    lost = Dump(drawn('b600010500010000000001\nb601010600050c00000005\n')[0])
+    check.equal('a gap mark', ([5], ['x', '0', 'x']), (lost.rises('gap'), [lost.value('input_5', time) for time in (0, 4, 5)]))
+    check.equal('a log without blocks', [], Dump(drawn('3605\n')[0]).changes)
 
 
 def main():
     check = Check()
+    use_library(check, 'waveforms')
     with tempfile.TemporaryDirectory() as folder:
         check_texts(check, folder)
     check_edges(check)

@@ -199,7 +199,7 @@ def fault_of_bad_line():
 
 
 def main():
-    check = Check(lines=(10_000, 100_000))
+    check = Check(lines=(10_000, 30_000, 100_000))
     use_library(check, 'the wire')
     check.fault('the frame check', fault_of_checks, 2000)
     check.fault('frames are written', fault_of_written)

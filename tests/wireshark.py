@@ -1,9 +1,9 @@
 #!/usr/bin/env -S python3 -B
 """Compares the Wireshark dissector, as tshark runs it, with `show`: frames of the protocol's tables and random ones in each
 way in which a capture carries them; the links between commands and answers of transcripts; frames for which `show` has no
-line; the captures of hex2pcap; and what is between the flags of 2,000 hostile lines with the library. With `--all` ten times
-the number of random frames and of lines, and wrong dissectors, each of which has to be caught by the comparison that is named with it. `tests/wireshark.py SEED COUNT` takes another seed and another
-number of random frames. Last line: `N passed, M failed`."""
+line; the captures of hex2pcap; and what is between the flags of 2,000 hostile lines with the library. With `--all` more random frames
+and lines, with `--release` ten times as many, and wrong dissectors, each of which has to be caught by the comparison that is named
+with it. `tests/wireshark.py SEED COUNT` takes another seed and another number of random frames. Last line: `N passed, M failed`."""
 
 import concurrent.futures
 import os
@@ -278,7 +278,7 @@ def comparisons(check, cases):
     if can_simulate():
         yield 'a simulated run', over(fault_of_simulated_run)
     yield 'filters', over(fault_of_filters)
-    lines = 20_000 if check.given.all else 2_000
+    lines = 20_000 if check.given.release else 5_000 if check.given.all else 2_000
     if may_use_library(check, 'hostile lines'):
         yield '%d hostile lines' % lines, over(fault_of_hostile_lines, lines)
     by_name = short_comparisons(cases)
@@ -295,7 +295,7 @@ def outcome(folder, function):
 
 
 def main():
-    check = Check(seed=2070, count=(500, 5000))
+    check = Check(seed=2070, count=(500, 1500, 5000))
     if not shutil.which('tshark') or not shutil.which('text2pcap'):
         check.skip('the dissector', 'no tshark here (Debian package tshark)')
         check.end()

@@ -26,11 +26,9 @@ class Calls(unittest.TestCase):
             self.assertEqual(encode.answer(fio2070.decode_answer(bytes.fromhex(octets))).hex(), octets)
         self.assertEqual(fio2070.decode_command(bytes.fromhex('33020c0503830000')).items, [(12, False, 5, 3), (3, True, 0, 0)])
         self.assertEqual(fio2070.decode_answer(BLOCK)[:8], (182, 0, 0, 0, 0, 5, 1000, 0))
-        self.assertEqual(fio2070.read_outputs_answer(bytes.fromhex('b70001020304')), 0x01020304)
-        self.assertEqual((fio2070.read_identification(b'\xbc\xfe'), encode.raw_inputs()), (254, b'4'))
+        self.assertEqual((fio2070.decode_answer(b'\xbc\xfe').body, encode.raw_inputs()), (b'\xfe', b'4'))
         for read, octets, why in ((fio2070.decode_command, b'', 'empty'), (fio2070.decode_command, bytes(774), 'too long got 774'),
-                                  (fio2070.decode_answer, b'6\5', 'unknown type 54'), (fio2070.read_identification, BLOCK, 'unknown type 182'),
-                                  (fio2070.read_outputs_answer, b'\xb7\0', 'wrong length needed 6 got 2')):
+                                  (fio2070.decode_answer, b'6\5', 'unknown type 54')):
             with self.assertRaisesRegex(fio2070.Fault, '^%s$' % why):
                 read(octets)
 
@@ -59,7 +57,7 @@ class Calls(unittest.TestCase):
     def test_lines(self):
         reader = fio2070.LogReader()
         found = reader.read(LOG) + reader.end()
-        self.assertEqual(found[0], (1, 'frames', '', (BLOCK,), ((1, 16, 48),), 26102000000, '<', b'', 0, 0))
+        self.assertEqual(found[0], (1, 'frames', '', (BLOCK,), ((1, 16, 48),), 26102000000, '<', b'', 0, 0, 'day'))
         self.assertEqual([one[1:3] for one in found[1:]], [('passed over', 'no octets'), ('blank', '')])
 
     def test_types(self):
@@ -139,8 +137,7 @@ class Messages(unittest.TestCase):
 
     def test_what_is_no_octets(self):
         # A number is not octets, of which `bytes` would make as many zeros.
-        calls = [fio2070.show, fio2070.decode_command, fio2070.decode_answer, fio2070.read_outputs_answer,
-                 fio2070.read_identification, fio2070.Poller(5).hear, fio2070.Checker().sent, fio2070.Checker().heard,
+        calls = [fio2070.show, fio2070.decode_command, fio2070.decode_answer, fio2070.Poller(5).hear, fio2070.Checker().sent, fio2070.Checker().heard,
                  fio2070.ContentChecker().sent, fio2070.ContentChecker().heard, fio2070.Module().receive,
                  lambda octets: fio2070.LogJudge().frame(octets, True),
                  fio2070.LogReader().read, fio2070.LogCounts().frame, fio2070.Wire().read, fio2070.WireBits().read, fio2070.wire_frame, fio2070.wire_check,

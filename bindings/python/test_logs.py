@@ -75,12 +75,12 @@ class Logs(unittest.TestCase):
     def test_longest_frame_by_order(self):
         text = b'3b' * 773 + b'\n' + b'3b' * 774 + b'\n'
         self.assertEqual(fio2070.LogReader('frames').read(text), [
-            (1, 'frames', '', (b';' * 773,), ((1, 0, 1546),), None, '', b'', 0, 0), (2, 'damaged', 'no message', (), (), None, '', b'', 0, 0)])
+            (1, 'frames', '', (b';' * 773,), ((1, 0, 1546),), None, '', b'', 0, 0, ''), (2, 'damaged', 'no message', (), (), None, '', b'', 0, 0, '')])
 
     def test_long_line_by_order(self):
         for first, verdict in ((b'#', ('blank', '')), (b'3', ('damaged', 'too long'))):
             reader = fio2070.LogReader('frames')
-            self.assertEqual(reader.read(first * 70000 + b'\n'), [(1, *verdict, (), (), None, '', b'', 0, 0)])
+            self.assertEqual(reader.read(first * 70000 + b'\n'), [(1, *verdict, (), (), None, '', b'', 0, 0, '')])
 
 
 class LogBatches(unittest.TestCase):
@@ -146,14 +146,24 @@ class LogBatches(unittest.TestCase):
 
     def test_zero(self):
         # The time 0 is one; a frame without octets has the type 0.
-        verdicts = [fio2070.Verdict(number, 'frames', '', frames, (), time, '') for number, frames, time in (
+        verdicts = [fio2070.Verdict(number, 'frames', '', frames, (), time, '', time_kind='' if time is None else 'start') for number, frames, time in (
             (1, (b'', bytes([54, 5]), b''), 0), (2, (bytes([54]),), None), (3, (b'',), 7))]
         batch = fio2070.LogBatch(verdicts)
         self.assertEqual(batch.verdicts(), verdicts)
         self.assertEqual([batch.told(index).time for index in range(3)], [0, None, 7])
-        self.assertEqual((batch.timed, batch.types()), (bytes([1, 0, 1]), bytes([0, 54, 0, 54, 0])))
+        self.assertEqual((batch.time_kinds, batch.types()), (bytes([3, 0, 3]), bytes([0, 54, 0, 54, 0])))
         reader = fio2070.LogReader()
         self.assertEqual([one.time for one in reader.read(b'00:00:00 RX b6 05 00 00 00 00 00 01\n') + reader.end()], [0])
+        self.assertRaises(ValueError, fio2070.LogBatch, [verdicts[0]._replace(time_kind='')])
+
+    def test_kinds_of_times(self):
+        times = {'1970-01-01 00:00:07': 'date', 'Jan  1 00:00:07': 'date', '2000-00-00 00:00:07': 'day', '00:00:07': 'day', '12:00:07 AM': 'day',
+                 '1000000007': 'date', '7.000': 'start', '[    7.000000]': 'start', '7': ''}
+        for time, kind in times.items():
+            reader = fio2070.LogReader()
+            line = ('%s RX b6 05 00 00 00 00 00 01\n' % time).encode()
+            one, = reader.read(line) + reader.end()
+            self.assertEqual((one.time_kind, one.time), (kind, (kind != '') * (7 + 10 ** 9 * (time[:2] == '10')) * 10 ** 6 or None), time)
 
     def test_counts(self):
         counts = fio2070.LogCounts()
@@ -210,13 +220,13 @@ class LogBatches(unittest.TestCase):
         self.assertEqual(batch.verdicts(), verdicts)
 
     def test_pass_over(self):
-        verdicts = [fio2070.Verdict(1, 'damaged', 'no message', (), (), None, '', b'', 55, 15), fio2070.Verdict(2, 'frames', '', (b'\xb7\0',), (), 7, '<', b'\x14'),
+        verdicts = [fio2070.Verdict(1, 'damaged', 'no message', (), (), None, '', b'', 55, 15), fio2070.Verdict(2, 'frames', '', (b'\xb7\0',), (), 7, '<', b'\x14', time_kind='day'),
                     fio2070.Verdict(3, 'frames', '', (b'\x36\1',), (), None, '>')]
         batch = fio2070.LogBatch(verdicts)
         self.assertEqual((batch.verdicts(), batch.foreign, batch.sizes[0], batch.told(0).size), (verdicts, bytes([55, 0, 0]), 15, 15))
         self.assertEqual((batch.last_type(2), batch.last_frames(1), batch.last_frames(9)), (54, [b'\x36\1'], [b'\xb7\0', b'\x36\1']))
         batch.pass_over([1])
-        self.assertEqual(batch.verdicts(), [verdicts[0], fio2070.Verdict(2, 'passed over', 'no message', (), (), 7, '<', b'', 183), verdicts[2]])
+        self.assertEqual(batch.verdicts(), [verdicts[0], fio2070.Verdict(2, 'passed over', 'no message', (), (), 7, '<', b'', 183, time_kind='day'), verdicts[2]])
 
     def test_never_loads(self):
         """No lost line is a load of the counter, down to a load in the log."""
@@ -240,3 +250,102 @@ class LogBatches(unittest.TestCase):
         for call in [lambda: fio2070.LogJudge(place='bank'), lambda: fio2070.LogJudge(begun=True, late_answers=True),
                      lambda: fio2070.LogJudge(per_block=0), lambda: judge.frame(b'', False, 'module')]:
             self.assertRaises(ValueError, call)
+
+
+def block(number, status=0, stamp=0, entries=()):
+    """The octets of a block answer."""
+    return bytes([182, number, len(entries)]) + b''.join(bytes(one) for one in entries) + bytes([status]) + stamp.to_bytes(4, 'big')
+
+
+MORE, LOST, AGAIN, GAP = 8, 4, 2, 1
+
+
+class Stretches(unittest.TestCase):
+    """What is between two blocks of a log, one directly below the other."""
+
+    # What is below block 5 with the stamp 1,000 and an entry, whether the counter is loaded between, and the place above it.
+    ENTRY = ((0x8c, 3, 0xe7),)
+    LAST = 2 ** 32 - 3_600_000
+    ROWS = (
+        (block(5, AGAIN, 1000, ENTRY), False, None),
+        (block(5, AGAIN | GAP, 1000, ENTRY), False, None),
+        (block(5, 0, 1000, ENTRY), False, ('restart', False, 0)),
+        (block(5, AGAIN, 1001, ENTRY), False, ('restart', False, 0)),
+        (block(5, AGAIN | MORE, 1000, ENTRY), False, ('restart', False, 0)),
+        (block(5, AGAIN | LOST, 1000, ENTRY), False, ('restart', True, 0)),
+        (block(5, AGAIN, 1000, ((0x0c, 3, 0xe7),)), False, ('restart', False, 0)),
+        (block(5, AGAIN, 1000), False, ('restart', False, 0)),
+        (block(6, 0, 1000), False, None),
+        (block(6, MORE | AGAIN, 2000), False, None),
+        (block(6, LOST, 2000), False, ('', True, 0)),
+        (block(6, GAP, 2000), False, ('unknown', False, 0)),
+        (block(6, GAP | LOST, 2000), False, ('unknown', True, 0)),
+        (block(7, 0, 2000), False, ('missing', False, 1)),
+        (block(9, LOST, 2000), False, ('missing', True, 3)),
+        (block(4, 0, 2000), False, ('missing', False, 254)),
+        (block(7, GAP, 2000), False, None),
+        (block(8, GAP, 2000), False, ('passed over', False, 0)),
+        (block(4, GAP, 2000), False, ('passed over', False, 0)),
+        (block(7, AGAIN, 2000), False, ('unknown', False, 0)),
+        (block(7, AGAIN | GAP, 2000), False, ('unknown', False, 0)),
+        (block(6, 0, 999), False, ('restart', False, 0)),
+        (block(6, 0, 999), True, ('unknown', False, 0)),
+        (block(6, 0, 1000), True, None),
+        (block(7, GAP, 999), False, ('restart', False, 0)),
+    )
+
+    def stretches(self, frames, text=lambda octets: octets.hex()):
+        reader, judge, stretches = fio2070.LogReader('frames'), fio2070.LogJudge(), fio2070.LogStretches()
+        self.assertRaises(ValueError, stretches.batch, fio2070.LogBatch([]), judge)
+        found = []
+        octets = ''.join(text(one) + '\n' for one in frames).encode()
+        for batches in (reader.batches(octets), reader.last_batches()):
+            for batch in batches:
+                judge.batch(batch)
+                found += stretches.batch(batch, judge)
+        return stretches, found
+
+    def test_rows(self):
+        load = bytes([50, 0, 0, 0, 0])
+        for below, is_loaded, expected in self.ROWS:
+            frames = [block(5, 0, 1000, self.ENTRY), *[load] * is_loaded, below]
+            stretches, found = self.stretches(frames)
+            self.assertEqual([one[1:4] for one in found], [expected] if expected else [], below.hex())
+            self.assertEqual([one.frame for one in found], [len(frames) - 1] * len(found))
+            self.assertEqual((stretches.loads, stretches.lost), (is_loaded, bool(expected and expected[1])))
+            causes = {'missing': stretches.missing, 'passed over': stretches.passed_over, 'unknown': stretches.unknown, 'restart': stretches.restarts}
+            self.assertEqual({why: count for why, count in causes.items() if count}, {expected[0]: 1} if expected and expected[0] else {})
+            self.assertEqual(stretches.missing_blocks, expected[2] if expected else 0)
+
+    def test_end_of_the_counter(self):
+        for above, below, why in ((self.LAST, 3_599_999, None), (self.LAST - 1, 3_599_999, 'restart'), (self.LAST, 3_600_000, 'restart')):
+            stretches, found = self.stretches([block(5, 0, above), block(6, 0, below)])
+            self.assertEqual([one.why for one in found], [why] if why else [])
+            self.assertEqual(stretches.stamped, 0 if why else 7_199_999)
+
+    def test_first(self):
+        self.assertEqual([one[1:3] for one in self.stretches([block(5, LOST, 1000)])[1]], [('', True)])
+        self.assertEqual(self.stretches([block(5, AGAIN | GAP, 1000)])[1], [])
+        # A load above the first block says nothing of the next one.
+        self.assertEqual([one.why for one in self.stretches([bytes([50, 0, 0, 0, 0]), block(5, 0, 1000), block(6, 0, 999)])[1]], ['restart'])
+
+    def test_not_believed(self):
+        # The second entry is before the first.
+        turned = (0x8c, 3, 0xe7), (0x8d, 3, 0xe6)
+        stretches, found = self.stretches([bytes([54, 4]), block(4, 0, 900), bytes([54, 5]), block(5, 0, 1000, turned), bytes([54, 6]), block(6, 0, 1100)])
+        self.assertEqual([(one.frame, one.why) for one in found], [(3, 'disbelieved')])
+        self.assertEqual((stretches.disbelieved, stretches.transitions), (1, 2))
+
+    def test_times(self):
+        frames = [(10_000_000, bytes([54, 5])), (10_004_000, block(5, 0, 1000)), (10_100_000, bytes([54, 6])), (10_104_000, block(6, 0, 1100)),
+                  (13_300_000, bytes([54, 7])), (13_304_000, block(7, LOST, 4300, self.ENTRY))]
+        reader, judge, stretches = fio2070.LogReader(), fio2070.LogJudge(), fio2070.LogStretches()
+        text = ''.join('00:00:%09.6f %s %s\n' % (time / 1e6, 'TX' if octets[0] < 128 else 'RX', octets.hex(' ')) for time, octets in frames).encode()
+        found = []
+        for batches in (reader.batches(text), reader.last_batches()):
+            for batch in batches:
+                judge.batch(batch)
+                found += stretches.batch(batch, judge)
+        self.assertEqual(found, [fio2070.Seam(5, '', True, 0, 3_200_000)])
+        self.assertEqual((stretches.timed, stretches.timed_whole, stretches.stamped, stretches.stamped_whole, stretches.longest_pause),
+                         (3_300_000, 100_000, 3300, 100, 3_200_000))

@@ -9,15 +9,22 @@ import time
 QEMU = 'qemu-system-arm'
 # How long a line may be answered, also on a busy machine.
 ANSWER_S = 100
+# What shows other processes on this machine which ports are taken.
+PORTS = []
 
 
 def free_port():
-    """A port of the loopback that no one has now, nor gets before it is used: it is below those that the system gives."""
+    """A port of the loopback that no one has now, nor gets before it is used: it is below those that the system gives, and no other
+    process that asks here takes it while this one runs."""
     while True:
         port = random.randrange(10_000, 32_768)
+        taken = socket.socket(socket.AF_UNIX)
         with socket.socket() as one, contextlib.suppress(OSError):
             one.bind(('127.0.0.1', port))
+            taken.bind('\0fio2070 port %d' % port)
+            PORTS.append(taken)
             return port
+        taken.close()
 
 
 @contextlib.contextmanager

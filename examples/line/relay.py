@@ -6,8 +6,8 @@
 It keeps what docs/PROTOCOL.md assumes of the bus: no frame overtakes another of its direction, and a repeat comes directly after
 its frame. Damage is of octets, wherever they are: bits turn, an octet is lost, a flag or an escape is broken or made, a frame is
 joined with the next one; and noise comes before the first frame. With octets lost or made, one damaged frame in 65,536 has a
-right check, so the dice have a seed. It writes `open` once it listens. From SIGUSR1 on the line is good. At its end, by SIGINT or
-SIGTERM, it writes what it did."""
+right check, so the dice have a seed. It writes `open` once it listens. From SIGUSR2 on it loses all, up to the next SIGUSR2; from
+SIGUSR1 on the line is good. At its end, by SIGINT or SIGTERM, it writes what it did."""
 
 import argparse
 import asyncio
@@ -75,6 +75,7 @@ async def take(reader, queue, option, dice, counts):
         if not frame:
             continue
         fate = {kind: dice.random() < getattr(option, kind) for kind in FATES}
+        fate['lose'] |= option.is_cut
         counts.update(['frames', *(kind for kind in FATES if fate[kind])])
         if fate['lose']:
             continue
@@ -114,6 +115,12 @@ def mend(option):
     """Makes the line good from here on."""
     for name in (*FATES, 'delay'):
         setattr(option, name, 0.0)
+    option.is_cut = False
+
+
+def cut(option):
+    """Loses each frame from here on, or no longer each."""
+    option.is_cut = not option.is_cut
 
 
 async def relay(option):
@@ -127,7 +134,8 @@ async def relay(option):
 
     for number in signal.SIGINT, signal.SIGTERM:
         asyncio.get_running_loop().add_signal_handler(number, ended.set)
-    asyncio.get_running_loop().add_signal_handler(signal.SIGUSR1, mend, option)
+    for number, act in (signal.SIGUSR1, mend), (signal.SIGUSR2, cut):
+        asyncio.get_running_loop().add_signal_handler(number, act, option)
     async with await asyncio.start_server(accept, '127.0.0.1', option.port):
         print('open', flush=True)
         await ended.wait()
@@ -140,6 +148,7 @@ def main():
     for name in (*FATES, 'delay'):
         parser.add_argument('--' + name, type=float, default=0.0)
     parser.add_argument('--seed', type=int, default=1)
+    parser.set_defaults(is_cut=False)
     parser.add_argument('port', type=int)
     parser.add_argument('module')
     asyncio.run(relay(parser.parse_args()))

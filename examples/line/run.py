@@ -4,9 +4,9 @@ compares the controller's table with the moves, and with what `fio2070 check` an
 says what was compared, and ends in `right`; the status is 0 then.
 
 Without --rough no frame is repeated, and each answer comes by the deadline or never, unless the machine is too busy. With --rough
-answers come late and twice: `check` says so of the transcript, and the table is right all the same. On a line so bad that the
-module's buffer runs over (--lose 0.85) the table has gaps. When the controller is to end, the line becomes good: else it may
-give up the command under way, which is no fault."""
+answers come late and twice: `check` says so of the transcript, and the table is right all the same. With --overflow the line is cut
+until the module's buffer has run over, so the table has gaps. When the controller is to end, the line is cut, so that the command under
+way is lost, and then becomes good: it sends the command again, until it hears the answer."""
 
 import argparse
 import contextlib
@@ -26,8 +26,8 @@ import moves
 
 HERE = os.path.dirname(os.path.realpath(__file__))
 TOP = os.path.dirname(os.path.dirname(HERE))
-# The number at which --restart ends the first controller: the module has just been polled for 0.
-CRITICAL = '001'
+# The entries that wait in the module at most, by the standard limits.
+MOST_WAITING = 1024
 # How long the controller waits for its last answer, which comes on a good line, also on a busy machine.
 WAIT_S = 20
 
@@ -37,7 +37,9 @@ def options():
     parser = argparse.ArgumentParser(description=__doc__, formatter_class=argparse.RawDescriptionHelpFormatter)
     parser.add_argument('--seconds', type=float, default=20.0, help='how long inputs are moved')
     parser.add_argument('--rough', action='store_true', help='one frame in ten comes twice, and answers come up to 80 ms late')
-    parser.add_argument('--restart', choices=('module', 'controller'), help='half way through, an end is ended and begun anew')
+    parser.add_argument('--overflow', action='store_true', help='half way through, the line is cut until the buffer has run over')
+    parser.add_argument('--restart', choices=('module', 'controller', 'ended'), help='half way through, an end is ended and begun anew; '
+                        '`ended`: the controller, once it has ended by itself')
     parser.add_argument('--deadline', type=int, metavar='MS', help='how long the controller waits for an answer')
     for name, default in ('lose', 0.1), ('damage', 0.05), ('repeat', 0.0):
         parser.add_argument('--' + name, type=float, default=default, metavar='P', help='the part of frames, %s by default' % default)
@@ -68,10 +70,19 @@ class Controller:
     def begin(self):
         self.process = subprocess.Popen(self.words, stdin=subprocess.DEVNULL)
 
+    def commands(self):
+        """How many commands it has sent."""
+        with open(self.files['line.transcript'], encoding='ascii') as file:
+            return sum(line.startswith('> ') for line in file)
+
     def end(self, relay):
-        """Ends it as a user does, while a command may be lost, and makes the line good. Returns whether its status is 0: it sends
-        the command again, until it hears the answer."""
-        self.process.send_signal(signal.SIGINT)
+        """Ends it as a user does, while a command is lost, and makes the line good once it is sent again. Returns whether its status
+        is 0: it sends the command again, until it hears the answer."""
+        for process, number in (relay, signal.SIGUSR2), (self.process, signal.SIGINT):
+            process.send_signal(number)
+            sent = self.commands()
+            # The first of these may have been sent before the signal came.
+            wait_for(lambda before=sent: self.process.poll() is not None or self.commands() > before + 1)
         relay.send_signal(signal.SIGUSR1)
         return self.process.wait(board.ANSWER_S) == 0
 
@@ -90,17 +101,22 @@ class Controller:
         return bool(blocks) and self.number() == '%03d' % ((int(blocks[-1], 16) + 1) % 256)
 
     def kill(self, seconds=board.ANSWER_S):
-        """Kills it when the number that it keeps is CRITICAL, or any after this time, if it has not ended by itself; whatever it has kept
-        after twice the time."""
+        """Kills it when it has kept its last number, if it has not ended by itself; whatever it has kept after this time."""
         end = time.time() + seconds
         while self.process.poll() is None:
             self.process.send_signal(signal.SIGSTOP)
             os.waitid(os.P_PID, self.process.pid, os.WSTOPPED | os.WEXITED | os.WNOWAIT)
-            late = time.time() - end
-            if (self.number() == CRITICAL or late > 0) and (self.has_kept() or late > seconds):
+            if self.has_kept() or time.time() > end:
                 break
             self.process.send_signal(signal.SIGCONT)
             time.sleep(0.002)
+        self.process.kill()
+        self.process.wait()
+
+    def wait(self):
+        """Waits until it has ended by itself."""
+        with contextlib.suppress(subprocess.TimeoutExpired):
+            self.process.wait(board.ANSWER_S)
         self.process.kill()
         self.process.wait()
 
@@ -128,18 +144,31 @@ def settle(controller, lines):
     print('firmware:', ' '.join('%s %d' % pair for pair in lines.counts().items()), flush=True)
 
 
-def moved(option, lines, controller):
-    """Moves inputs, and restarts an end half way through if that is asked for. Returns the moves."""
+def run_over(mover, lines, relay):
+    """Cuts the line, and moves inputs until the module's buffer is full and one more transition is logged."""
+    relay.send_signal(signal.SIGUSR2)
+    wait_for(lambda: mover.step() or lines.counts()['waiting'] == MOST_WAITING)
+    made = len(mover.made)
+    wait_for(lambda: mover.step() or len(mover.made) > made)
+    scans = lines.counts()['scans'] + moves.LEAST_SCANS
+    wait_for(lambda: lines.counts()['scans'] > scans)
+    relay.send_signal(signal.SIGUSR2)
+
+
+def moved(option, lines, controller, relay):
+    """Moves inputs, and restarts an end or cuts the line half way through if that is asked for. Returns the moves."""
     mover = moves.Mover(lines, option.seed)
     mover.move(option.seconds / 2)
+    if option.overflow:
+        run_over(mover, lines, relay)
     if option.restart == 'module':
         lines.done('reset')
         wait_for(lambda: any(row['input'] == 'restart' for row in controller.rows()))
-    elif option.restart == 'controller':
-        killer = threading.Thread(target=controller.kill)
-        killer.start()
-        while killer.is_alive():
-            mover.move(0.1)  # so that each block has entries
+    elif option.restart:
+        ending = threading.Thread(target=controller.kill if option.restart == 'controller' else controller.wait)
+        ending.start()
+        while ending.is_alive():
+            mover.move(0.1)  # so that blocks have entries
         controller.begin()
     mover.move(option.seconds / 2)
     return mover.made
@@ -161,7 +190,7 @@ def whole_run(option):
             # Inputs are reported from their configuration on.
             wait_for(controller.number)
             time.sleep(0.2)
-            made = moved(option, lines, controller)
+            made = moved(option, lines, controller, line)
             settle(controller, lines)
             is_ended = controller.end(line)
         finally:

@@ -3,17 +3,24 @@ by its own Marionette, which takes the same commands over a socket, since Debian
 
 import base64
 import contextlib
+import functools
 import glob
 import json
 import os
-import random
 import shutil
 import socket
 import subprocess
+import sys
 import tempfile
 import time
 import urllib.error
 import urllib.request
+
+from support.tables import TOP
+
+sys.path[:0] = [os.path.join(TOP, 'examples', 'line')]
+
+from board import free_port
 
 ELEMENT = 'element-6066-11e4-a52e-4f735466cecf'
 # What takes longer hangs, whatever else the machine does.
@@ -21,8 +28,19 @@ LONGEST = 300
 # The middle of the part of an element that is in the window.
 MIDDLE = """const it = document.querySelector(arguments[0]).getBoundingClientRect();
 return [Math.round(it.left + it.width / 2), Math.round((Math.max(it.top, 0) + Math.min(it.bottom, innerHeight)) / 2)]"""
+# Ends after two frames: in the first what an action changed gets its size, at which it may be drawn anew.
+FRAMES = 'const done = arguments[arguments.length - 1]; requestAnimationFrame(() => requestAnimationFrame(() => done(true)))'
 KEYS = {'down': '\ue015', 'up': '\ue013', 'left': '\ue012', 'right': '\ue014', 'home': '\ue011', 'end': '\ue010',
         'enter': '\ue007', 'tab': '\ue004', 'escape': '\ue00c'}
+
+
+def seen(act):
+    """An action after which the page is drawn before anything else is done: what is clicked or read meanwhile could become another."""
+    @functools.wraps(act)
+    def acted(browser, *given):
+        act(browser, *given)
+        browser.settle()
+    return acted
 
 
 class Browser:
@@ -50,6 +68,11 @@ class Browser:
             time.sleep(0.02)
         raise TimeoutError(script)
 
+    def settle(self):
+        """Waits until what was done is drawn."""
+        with contextlib.suppress(RuntimeError):     # another page came
+            self.ask('POST', 'execute/async', 'WebDriver:ExecuteAsyncScript', {'script': FRAMES, 'args': []})
+
     def find(self, selector):
         found = self.ask('POST', 'element', 'WebDriver:FindElement', {'using': 'css selector', 'value': selector})
         return found[ELEMENT]
@@ -66,31 +89,37 @@ class Browser:
         """The name of an element in the accessibility tree."""
         return self.ask('GET', 'element/%s/computedlabel' % found, 'WebDriver:GetComputedLabel', {'id': found})
 
+    @seen
     def press(self, key):
         """Presses a key with the focus where it is."""
         actions = [{'type': kind, 'value': KEYS[key]} for kind in ('keyDown', 'keyUp')]
         self.ask('POST', 'actions', 'WebDriver:PerformActions', {'actions': [{'type': 'key', 'id': 'keys', 'actions': actions}]})
 
+    @seen
     def click(self, selector):
         found = self.find(selector)
         self.ask('POST', 'element/%s/click' % found, 'WebDriver:ElementClick', {'id': found})
 
+    @seen
     def type(self, selector, text):
         found = self.find(selector)
         self.ask('POST', 'element/%s/value' % found, 'WebDriver:ElementSendKeys', {'id': found, 'text': text})
 
+    @seen
     def point(self, selector):
         """Moves the pointer to the middle of an element."""
         move = {'type': 'pointerMove', 'duration': 0, 'x': 0, 'y': 0, 'origin': {ELEMENT: self.find(selector)}}
         pointer = {'type': 'pointer', 'id': 'mouse', 'parameters': {'pointerType': 'mouse'}, 'actions': [move]}
         self.ask('POST', 'actions', 'WebDriver:PerformActions', {'actions': [pointer]})
 
+    @seen
     def turn_wheel(self, selector, by):
         """Turns the wheel over an element by this many pixels."""
         turn = {'type': 'scroll', 'duration': 0, 'x': 0, 'y': 0, 'deltaX': 0, 'deltaY': by,
                 'origin': {ELEMENT: self.find(selector)}}
         self.ask('POST', 'actions', 'WebDriver:PerformActions', {'actions': [{'type': 'wheel', 'id': 'wheel', 'actions': [turn]}]})
 
+    @seen
     def touch(self, selector, *fingers):
         """Moves fingers over an element at the same time: for each, the points that it goes through, counted from the middle
         of what is seen of the element."""
@@ -119,6 +148,7 @@ class Browser:
             below |= more
         return sum(used[one] for one in below & used.keys()) / os.sysconf('SC_CLK_TCK')
 
+    @seen
     def size(self, width, height):
         self.ask('POST', 'window/rect', 'WebDriver:SetWindowRect', {'width': width, 'height': height})
 
@@ -126,15 +156,6 @@ class Browser:
         """Writes what is seen to a file, as PNG."""
         with open(path, 'wb') as file:
             file.write(base64.b64decode(self.ask('GET', 'screenshot', 'WebDriver:TakeScreenshot', None, full=False)))
-
-
-def free_port():
-    """A port of the loopback that no one has now, nor gets before it is used: it is below those that the system gives."""
-    while True:
-        port = random.randrange(10_000, 32_768)
-        with contextlib.closing(socket.socket()) as free, contextlib.suppress(OSError):
-            free.bind(('127.0.0.1', port))
-            return port
 
 
 def as_soon_as_it_listens(call, *given, **more):

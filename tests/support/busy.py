@@ -1,6 +1,7 @@
-"""Runs parts of `./test` again and again on two processors, beside loops that keep these busy:
-`python3 -B tests/support/busy.py [--runs 5] [--loops 8] [--all] [PART..]`. A row that fails there is decided by a clock. It prints each row
-that failed with its part, the time and the processor time of each part, and last `N runs, M rows failed`."""
+"""Runs every check of `./test`, or those that are named, again and again on two processors, beside loops that keep these busy:
+`python3 -B tests/support/busy.py [--runs 5] [--loops 8] [--all] [--timed | PART..]`. A row that fails there is decided by a clock. It prints
+each row that failed with its part, the time and the processor time of each part, and last `N runs, M rows failed`; and writes all this
+into out/busy as it goes."""
 
 import argparse
 import contextlib
@@ -12,24 +13,31 @@ import time
 
 sys.path.insert(0, os.path.dirname(os.path.dirname(os.path.realpath(__file__))))
 
-from support.gate.parts import checks
+from support.gate.parts import TOP, checks
 from support.gate.runs import Part, Runs
 
+RECORD = os.path.join(TOP, 'out', 'busy')
 # The parts that work with time: with pauses, lines, browsers, processes that are ended.
 TIMED = ('firmware', 'fiolog-live', 'outputs', 'wire', 'page', 'endurance', 'fiolog-many', 'conformance')
 
 
-class Quiet:
+class Record:
     """The report of such a run: each part has one line, and those of its rows that failed."""
 
     def __init__(self):
         self.failed = 0
+        os.makedirs(os.path.dirname(RECORD), exist_ok=True)
+        self.file = open(RECORD, 'w', encoding='utf-8')
+
+    def say(self, text):
+        for out in sys.stdout, self.file:
+            print(text, file=out, flush=True)
 
     def end_of(self, part, _):
         self.failed += part.failed
-        print('%s: %d passed, %d failed, %d s, %d s of a processor' % (part.name, part.passed, part.failed, part.seconds, part.used), flush=True)
+        self.say('%s: %d passed, %d failed, %d s, %d s of a processor' % (part.name, part.passed, part.failed, part.seconds, part.used))
         for name, said, _ in part.faults:
-            print('FAILED %s\n%s' % (name, said), flush=True)
+            self.say('FAILED %s\n%s' % (name, said))
 
 
 @contextlib.contextmanager
@@ -46,13 +54,15 @@ def loops(number):
 
 def main():
     parser = argparse.ArgumentParser(description=__doc__)
-    parser.add_argument('part', nargs='*', default=TIMED)
+    parser.add_argument('part', nargs='*')
+    parser.add_argument('--timed', action='store_true', help='those that work with time')
     parser.add_argument('--runs', type=int, default=5)
     parser.add_argument('--loops', type=int, default=8)
     parser.add_argument('--all', action='store_true', help='the whole form of each part')
     given = parser.parse_args()
     os.sched_setaffinity(0, sorted(os.sched_getaffinity(0))[:2])
-    report, paths = Quiet(), checks()
+    report, paths = Record(), checks()
+    parts = given.part or (TIMED if given.timed else list(paths))
     runs = Runs(report)
 
     def end(number, _):
@@ -64,10 +74,10 @@ def main():
     with loops(given.loops):
         for number in range(given.runs):
             begun = time.monotonic()
-            for name in given.part:
+            for name in parts:
                 runs.run(Part(name, [paths[name], *['--all'] * given.all]))
-            print('run %d of %d: %d s' % (number + 1, given.runs, time.monotonic() - begun), flush=True)
-    print('%d runs, %d rows failed' % (given.runs, report.failed))
+            report.say('run %d of %d: %d s' % (number + 1, given.runs, time.monotonic() - begun))
+    report.say('%d runs, %d rows failed' % (given.runs, report.failed))
     return 1 if report.failed else 0
 
 

@@ -131,6 +131,7 @@ class Run:
 
     def __init__(self, library, called):
         self.library, self.called, self.kept, self.slots = library, called, {}, None
+        self.written = {}   # the latest array of each kind that a call wrote
 
     def call(self, name, *words):
         """What a call says of these words, as one text."""
@@ -175,6 +176,8 @@ class Run:
             elif one.is_const and has_count:
                 values = list_of(one, words)
                 given += [values, ctypes.c_size_t(len(values or ()))]
+            elif one.is_const and one.is_array:
+                given.append(self.written[one.kind.__name__].values)
             elif one.is_const:
                 given.append((one.kind * 1)(struct_of(one.kind, words)))
             else:
@@ -228,6 +231,8 @@ class Run:
         if out is None:
             return words_of(self.invoke(name, given))
         memory = Memory(out.kind, MOST if out.is_array else 1)
+        if out.is_array:
+            self.written[out.kind.__name__] = memory
         result = self.invoke(name, [*given, memory.values])
         require(memory.is_unwritten(result if out.is_array else 1), 'written beyond the count')
         if out.is_array:

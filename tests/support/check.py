@@ -1,7 +1,8 @@
 """The counting of rows, for the checks in tests/. Each row has a name; one that fails prints it, with what was expected and
 what came instead. The last line of a check is `N passed, M failed`, and its status is 0 if no row failed. With `-k WORD` it
-only has the rows whose name has the word in it. A check has a quick form, which `./test` runs, and with `--all` its whole
-form, which `./test --all` runs: it calls `Check.whole` for the rows that only the whole form has."""
+only has the rows whose name has the word in it. A check has a quick form, which `./test` runs, with `--all` its whole form, which
+`./test --all` runs, and with `--release` that of a release, which repeats more: it calls `Check.whole` and `Check.release` for the
+rows that only these forms have."""
 
 import argparse
 import os
@@ -25,20 +26,26 @@ class Check:
 
     def __init__(self, **settings):
         """Reads the command line: `-k WORD`, `--all`, and the check's own settings. A setting with a number is a word that
-        may be given, in order; one with two numbers has the first in the quick form and the second with `--all`; one that is
+        may be given, in order; one with several numbers has one for each form, the last for those below it too; one that is
         `False` is an option, like `--counts`."""
         # The description is the check's own.
         parser = argparse.ArgumentParser(description=sys.modules['__main__'].__doc__)
         parser.add_argument('-k', metavar='WORD', default='', help='only the rows whose name has WORD in it')
         parser.add_argument('--all', action='store_true', help='the whole form, in place of the quick one')
+        parser.add_argument('--release', action='store_true', help='the form of a release: the whole one, with more seeds')
         for name, value in settings.items():
             if value is False:
                 parser.add_argument('--' + name, action='store_true')
             else:
                 parser.add_argument(name, nargs='?', type=int, default=value)
         self.given = parser.parse_args()
+        self.given.all |= self.given.release
         for name, value in vars(self.given).items():
-            setattr(self.given, name, value[self.given.all] if isinstance(value, tuple) else value)
+            if isinstance(value, tuple):
+                now = value[:1 + self.given.all + self.given.release][-1]
+                setattr(self.given, name, now)
+                if self.given.all and now != value[-1]:
+                    print('left to --release: %s %d in place of %d' % (name, value[-1], now))
         self.passed = self.failed = self.skipped = 0
 
     def wants(self, name):
@@ -47,10 +54,18 @@ class Check:
 
     def whole(self, name):
         """Returns whether this is the whole form. If not, says that these rows are left to it; `./test` lists them."""
-        if not self.given.all and self.wants(name):
+        return self.is_form('all', name)
+
+    def release(self, name):
+        """The same of the form of a release."""
+        return self.is_form('release', name)
+
+    def is_form(self, form, name):
+        is_given = getattr(self.given, form)
+        if not is_given and self.wants(name):
             self.skipped += 1
-            print('left to --all: %s' % name)
-        return self.given.all
+            print('left to --%s: %s' % (form, name))
+        return is_given
 
     def equal(self, name, expected, got):
         """A row: what came is what was expected."""

@@ -1,7 +1,8 @@
 # The counting of rows, for the checks in tests/ that are shell scripts; check.py is the same for Python. A check reads this
 # file with its own words, begins in the folder $room, which is removed at the end, and closes with `end`. With `-k WORD` it
 # only has the rows whose name has the word in it. A check has a quick form, which `./test` runs, and with `--all` its whole
-# form, which `./test --all` runs: it calls `whole` for the rows that only the whole form has.
+# form, which `./test --all` runs: it calls `whole` for the rows that only the whole form has. With `--release` it has the form of a
+# release, which repeats more: it calls `release` for these rows.
 
 top=$(dirname -- "$(dirname -- "$(readlink -f -- "$0")")")
 room=$(mktemp -d) || exit 1
@@ -12,13 +13,15 @@ failed=0
 skipped=0
 word=
 all=
+release=
 while [ $# -gt 0 ]; do
     case $1 in
     --all) all=yes ;;
+    --release) all=yes release=yes ;;
     -k) [ $# -gt 1 ] && word=$2 && shift ;;
     *) false ;;
     esac || {
-        echo "Usage: $(basename -- "$0") [--all] [-k WORD]" >&2
+        echo "Usage: $(basename -- "$0") [--all | --release] [-k WORD]" >&2
         exit 2
     }
     shift
@@ -33,11 +36,16 @@ wants() {
 }
 
 # whole NAME: this is the whole form. If not, it says that these rows are left to it; `./test` lists them.
-whole() {
-    [ -z "$all" ] || return 0
-    if wants "$1"; then
+whole() { [ -n "$all" ] || leave all "$1"; }
+
+# release NAME: the same of the form of a release.
+release() { [ -n "$release" ] || leave release "$1"; }
+
+# leave FORM NAME: says that these rows are left to a form. It fails.
+leave() {
+    if wants "$2"; then
         skipped=$((skipped + 1))
-        echo "left to --all: $1"
+        echo "left to --$1: $2"
     fi
     return 1
 }

@@ -76,10 +76,12 @@ def may_use_library(check, name):
     return True
 
 
-def fiolog(*words, text='', is_text=True):
-    """A run of the tool with this input."""
+def fiolog(*words, text='', parts=(), is_text=True):
+    """A run of the tool with this input; or with one that it reads in these parts, each of 1 to 4,096 octets."""
     octets = text.encode('utf-8')
-    if may_copy and len(octets) < PIPE:
+    if parts:
+        status, *written = (copied if may_copy else fed)(words, parts=parts)
+    elif may_copy and len(octets) < PIPE:
         status, *written = copied(words, octets)
     else:
         done = subprocess.run([*TOOL, *words], input=octets, stdout=subprocess.PIPE, stderr=subprocess.PIPE, env=ENVIRONMENT, timeout=LONGEST)
@@ -145,16 +147,37 @@ def reading(lines):
         fio2070.LogReader = real
 
 
-def copied(words, octets):
-    """The status of a run in a copy of this process, and what it writes."""
-    end, begin = os.pipe()
-    os.write(begin, octets)
-    os.close(begin)
+def feed(parts, pipe):
+    """Writes these parts into a pipe."""
+    os.close(pipe[0])
+    for part in parts:
+        os.write(pipe[1], part)
+    os.close(pipe[1])
+
+
+def pipe_of_parts():
+    """A pipe of which each read returns what was written at once."""
+    return os.pipe2(os.O_DIRECT)
+
+
+def fed(words, parts):
+    """The status of a run whose input it reads in these parts, and what it writes."""
+    pipe = pipe_of_parts()
+    run = started(*words, stdin=pipe[0])
+    feed(parts, pipe)
+    out, err = run.communicate(timeout=LONGEST)
+    return run.returncode, out, err
+
+
+def copied(words, octets=b'', parts=()):
+    """The status of a run in a copy of this process, with this input or these parts of one, and what it writes."""
+    pipe = pipe_of_parts() if parts else os.pipe()
     with tempfile.TemporaryFile() as out, tempfile.TemporaryFile() as err:
         child = os.fork()
         if child == 0:
-            become(words, end, out.fileno(), err.fileno())
-        os.close(end)
+            os.close(pipe[1])
+            become(words, pipe[0], out.fileno(), err.fileno())
+        feed(parts or [octets], pipe)
         status = os.waitstatus_to_exitcode(os.waitpid(child, 0)[1])
         out.seek(0)
         err.seek(0)

@@ -7,7 +7,6 @@ import re
 from support.functions import TOP, changed_places, functions_in, functions_of, homes_of, laws_in, read, sources_of, without_bodies
 from support.lanes import BUILT, PROOF_FILES, Done, crates_below
 from support.stanzas import stanzas_of, texts_of
-from support.texts.clauses import public_clauses
 from support.uses import Uses
 from support.verdicts import short_name
 
@@ -18,12 +17,9 @@ USES = re.compile(r'^(?:ghost )?use [^;]*;\n', re.M)
 class Crate:
     """A crate with its stanzas and its functions, which have short names in the lines `refused-by:`."""
 
-    def __init__(self, name, word, is_public=False):
+    def __init__(self, name, word):
         self.name = name
         self.stanzas = [one for one in stanzas_of(name) if word in one.name]
-        if is_public:
-            exported = public_clauses(name).keys()
-            self.stanzas = [one for one in self.stanzas if not one.refused_by or one.named() & exported]
         self.sources = sources_of(name)
         self.files = {os.path.relpath(path, os.path.join(TOP, 'crates', name)): text for path, text in self.sources.items()}
         self.homes = homes_of(self.sources)

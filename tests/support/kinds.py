@@ -5,8 +5,8 @@ import runpy
 
 from support.tables import TOP
 
-# The status of a log of which little could be judged.
-LITTLE = 4
+# The status of a log of which little could be judged, and of one in which transitions are lost.
+LITTLE, LOST = 4, 5
 SIGNS = runpy.run_path(os.path.join(TOP, 'bindings', 'python', 'fiolog', 'log_words.py'))['SIGNS']
 
 

@@ -106,9 +106,13 @@ class Lane:
             copy(os.path.join(TOP, 'crates', name, BUILT), os.path.join(self.room, 'crates', name, BUILT), link_or_copy)
         if crate.name not in self.begun:
             self.begun.add(crate.name)
-            for short in crate.places:
-                self.leave_out(crate, short)
-            self.write(crate, {}, set())
+            self.bare(crate)
+
+    def bare(self, crate):
+        """Leaves out the bodies and the proofs of a crate."""
+        for short in crate.places:
+            self.leave_out(crate, short)
+        self.write(crate, {}, set())
 
     def write(self, crate, texts, named):
         """Writes the files of code, and the texts given, with the bodies of these functions alone."""

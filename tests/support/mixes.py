@@ -15,6 +15,8 @@ FORMS = {
 }
 ADDRESSES = 0x00, 0x01, 0x02, 0x10, 0x14, 0x15, 0x20, 0x30, 0x60, 0xfe
 SIDES = {'>': 'TX', '<': 'RX'}
+# So many lines show all stations.
+SHOWN = 40
 
 
 def frames_of(draw, count):
@@ -78,6 +80,11 @@ class Mix(NamedTuple):
     lines: List[str]
     owners: List[int]
     cut: List[int]
+
+    def parts(self):
+        """The log in parts: the first lines, which have frames of each station, and then an exchange each."""
+        begins = [0, *(place for place, line in enumerate(self.lines) if place >= SHOWN and SIDES['>'] in line), len(self.lines)]
+        return [''.join(line + '\n' for line in self.lines[begin:end]) for begin, end in zip(begins, begins[1:])]
 
 
 def mix_of(seed):

@@ -109,11 +109,9 @@ def text_of(name):
 
 
 def has_opened(browser, name):
-    """Waits until a log is open, and for two frames more: in the first it gets its size, at which all rows are drawn anew, and what is
-    clicked meanwhile may become another row."""
+    """Waits until a log is open, and drawn."""
     browser.wait(OPENED, name)
-    browser.run('window.isDrawn = false; requestAnimationFrame(() => requestAnimationFrame(() => { window.isDrawn = true; }))')
-    browser.wait('return window.isDrawn')
+    browser.settle()
 
 
 def example(browser, name):

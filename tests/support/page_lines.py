@@ -78,10 +78,10 @@ def check_damage(check, browser, folder):
         check.equal('the messages of the address %s' % address, count, len(got))
     with open(path, 'wb') as out:
         out.write(b''.join(map(model.line_of, (MESSAGES[0], b'\xb6\x05' + ANSWER, b'\x36\x06'))) + model.line_of(b'\xb6\x06' + ANSWER)[:-2] + b'\0\x7e' + model.line_of(b'\x36\x07'))
-    for end, kind in (('auto', 'partly'), ('cpu', 'broken')):
+    for end in ('auto', 'cpu'):
         choose(browser, form='line', address='14', end=end)
         opened(browser, path)
-        check.equal('the CPU goes on below a wrong check, taken at %s' % end, kind, browser.run('return document.getElementById("verdict").dataset.kind'))
+        check.equal('the CPU goes on below a wrong check, taken at %s' % end, 'few', browser.run('return document.getElementById("verdict").dataset.kind'))
     choose(browser, form='auto', end='auto')
 
 

@@ -107,11 +107,11 @@ def check_unsure(check, browser, _):
     for size in range(len('< b6'), len(answer)):
         # The module answers; the log has a part of it. The CPU goes on.
         kind, says = verdict_on(browser, ''.join(ROUNDS[:3]) + poll + '\n' + answer[:size] + '\n' + ''.join(ROUNDS[4:]))
-        check.equal('an answer that is cut to %d characters accuses nobody' % size, 'partly', kind)
+        check.equal('an answer that is cut to %d characters accuses nobody' % size, 'missing', kind)
     seen = [row[3:5] for row in browser.run(CELLS) if row[5] == '']
     check.equal('a damaged line is shown as it is written', [[answer[:-1], 'damaged: octets that are no message']], seen)
     kind, says = verdict_on(browser, ''.join(ROUNDS[:3]) + poll + '\n' + answer[:9] + '\n' + ROUNDS[4].replace('< b605', '< b607') + ''.join(ROUNDS[5:]))
-    check.holds('a breach below is found', kind == 'broken' and 'Line 10' in says, (kind, says))
+    check.holds('a breach below is found', kind == 'broken' and 'line 10 breaks' in says, (kind, says))
 
 
 def check_dump(check, browser, _):

@@ -98,13 +98,13 @@ def check_stream(check, browser, folder):
                 out.write(file)
             choose(browser, form=form)
             opened(browser, path)
-            check.holds('%s: the verdict names %s' % (form, words), words_in(browser, '#verdict-text').startswith(words[0].upper() + words[1:] + ' breaks the rule number'),
+            check.holds('%s: the verdict names %s' % (form, words), words_in(browser, '#verdict-text').startswith('Module: %s breaks the rule number' % words),
                         words_in(browser, '#verdict-text'))
             browser.click('#first-breach')
             check.equal('%s: and so does the message %s' % (form, words), words[0].upper() + words[1:], words_in(browser, '.detail h2'))
     choose(browser, form='auto')
     pasted(browser, ''.join('%s %s\n' % ('RX' if one[0] >= 128 else 'TX', one.hex()) for one in STREAM))
-    check.holds('a line with one message is a line', words_in(browser, '#verdict-text').startswith('Line 4 breaks'), words_in(browser, '#verdict-text'))
+    check.holds('a line with one message is a line', words_in(browser, '#verdict-text').startswith('Module: line 4 breaks'), words_in(browser, '#verdict-text'))
 
 
 def check_words(check, browser, _):
@@ -113,7 +113,7 @@ def check_words(check, browser, _):
     check.equal('the meanings are folded', '', words_in(browser, '#words dl'))
     browser.click('#words summary')
     seen = browser.run('return [...document.querySelectorAll("#words dt")].map((it) => [it.textContent, it.nextSibling.textContent.length > 20, it.checkVisibility()])')
-    check.equal('and a click shows them', [[word, True, True] for word in ('entry', 'gap mark', 'clear block', 'sync', 'own profile')], seen)
+    check.equal('and a click shows them', [[word, True, True] for word in ('entry', 'gap mark', 'seam', 'clear block', 'sync', 'own profile')], seen)
     browser.type('#words summary', KEYS['enter'])
 
 

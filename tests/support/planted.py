@@ -14,6 +14,11 @@ REPLAYED = [
     ('cpu', 'there are no gap marks'), ('cpu', 'states are turned'), ('cpu', 'entries are in the other order'),
     ('cpu', 'blocks with G are refused')]
 
+# Faults of one octet, and the field that the report names.
+OF_PARTS = [('the first entry of a full block is turned', 'entry 1, octet 3: '), ('the 100th entry of a full block is turned', 'entry 100, octet 300: '),
+            ('the last entry of a full block is turned', 'entry 255, octet 765: '), ('control octets are not kept', 'the outputs, '),
+            ('the last control octet is not kept', 'the outputs, ')]
+
 # What a planted fault breaks: rules that the report names for it.
 NAMED = {
     'E is not set': 'sent-again', 'F is not set': 'lost', '1 comes after 255': 'zero-after-255',

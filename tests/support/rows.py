@@ -89,7 +89,7 @@ def verdicts(batch):
     """What a batch says of lines, and its counts of frames, octets and places."""
     frame = octet = place = 0
     for it in batch.verdicts[:batch.verdict_count]:
-        words = ['%d %d %d' % (it.line, it.kind, it.reason)] + ['time %d' % it.time] * bool(it.has_time or it.time) + ['said %d' % it.said] * bool(it.said)
+        words = ['%d %d %d' % (it.line, it.kind, it.reason)] + ['time %d %d' % (it.time_kind, it.time)] * bool(it.time_kind or it.time) + ['said %d' % it.said] * bool(it.said)
         for length in batch.lengths[frame:frame + it.frames]:
             words.append('frame ' + bytes(batch.octets[octet:octet + length]).hex())
             octet += length
@@ -174,7 +174,21 @@ def log_samples(run, form, samples, text):
     return ' '.join(said[0]) if said.count(said[0]) == len(said) else 'not the same in pieces: %s' % said
 
 
-LOGS = {'log': log, 'log_batches': log_batches, 'log_parts': log_parts, 'log_samples': log_samples}
+def log_stretches(run, form, text):
+    """The places of a log where a stretch ends or transitions are lost, and what is counted of its stretches."""
+    text, found = text.replace('~', '\n').encode(), []
+    run.call('log_start', str(form))
+    for start in ('log_judge_start 1024 255 0 0', 'log_stretches_start'):
+        run.call(*start.split())
+    for _ in batches(run, text, len(text)):
+        run.call('log_judge_batch', '0')
+        found += filter(None, [run.call('log_stretches_batch')])
+    kept = run.kept['log_stretches'].values[0]
+    names = [name for name, _ in kept._fields_]
+    return '%s / %s' % (', '.join(found), ' '.join(words_of(kept, names[names.index('pause'):])))
+
+
+LOGS = {'log': log, 'log_batches': log_batches, 'log_parts': log_parts, 'log_samples': log_samples, 'log_stretches': log_stretches}
 
 
 def faults(library, row, called):

@@ -14,6 +14,8 @@ CHANCES = (0.01, 0.02, 0.05, 0.1)   # of a line to be damaged
 HEAD = '| Fault | %s |\n|---|%s\n' % (' | '.join('%d %%' % round(100 * chance) for chance in CHANCES), '---|' * len(CHANCES))
 TABLE = PageTable('CAPTURES.md', HEAD)
 KIND = Kind(commands=300, inputs=8, change=0.02, longest=5, lost=0.01, unheard=0.02, configures=0.005, asks=0.1)
+# On a street an input changes each two seconds.
+STREET = KIND._replace(commands=3000, change=0.0005)
 POLL, BLOCK, STAMPED = 54, 182, (177, 180, 181, 182)
 AGAIN, LOST = 2, 4
 
@@ -91,27 +93,37 @@ FLOORS = {
 ON_TIME = ('two entries are exchanged', 'a stamp is too early')
 
 
+# Those that show how long it takes until an input changes again are also looked for on a street.
+ON_STREET = 'an entry has the other state', 'an entry is dropped'
+BUSY, ALL = ((KIND, '', FAULTS),), ((KIND, '', FAULTS), (STREET, ', on a street', ON_STREET))
+
+
 def unloaded(name):
     """The name of a fault that is looked for so."""
     return name + ', `--no-loads`'
 
 
-def count(seeds=SEEDS, links=LINKS, chances=CHANCES):
+def count_fault(found, name, lines, seed, chances):
+    """Counts a fault of this name in a log, if it is found there."""
+    if not found_in(lines)[0]:
+        return
+    found[name, 0] += 1
+    found[unloaded(name), 0] += 1
+    for chance in chances:
+        spoiled = damaged(lines, random.Random('%s%s %s' % (name, seed, chance)), chance)
+        found[name, chance] += bool(found_in(spoiled)[0])
+        found[unloaded(name), chance] += name in ON_TIME and bool(found_in(spoiled, no_loads=True)[0])
+
+
+def count(seeds=SEEDS, links=LINKS, chances=CHANCES, logs=ALL):
     """For each fault how often it is found in logs without damage, and, by the chance of damage, in how many of these it still is."""
     found = Counter()
     for number in range(len(seeds) * links):
         seed = '%d of seed %d' % (number // len(seeds), seeds[number % len(seeds)])
-        link = Link(random.Random(seed), KIND)
-        for name, fault in FAULTS.items():
-            lines = lines_of(fault(link.frames, random.Random(name + seed)))
-            if not found_in(lines)[0]:
-                continue
-            found[name, 0] += 1
-            found[unloaded(name), 0] += 1
-            for chance in chances:
-                spoiled = damaged(lines, random.Random('%s%s %s' % (name, seed, chance)), chance)
-                found[name, chance] += bool(found_in(spoiled)[0])
-                found[unloaded(name), chance] += name in ON_TIME and bool(found_in(spoiled, no_loads=True)[0])
+        for kind, where, names in logs:
+            link = Link(random.Random(seed), kind)
+            for name in names:
+                count_fault(found, name + where, lines_of(FAULTS[name](link.frames, random.Random(name + seed))), seed, chances)
     return found
 
 
@@ -122,11 +134,12 @@ def percent(found, names, chance):
 
 def fault_of_floors():
     """With 2 % of the lines damaged, most faults are still found."""
-    found = count(SEEDS[:1], 20, (0.02,))
+    found = count(SEEDS[:1], 20, (0.02,), BUSY)
     shares = {kind: percent(found, names, 0.02) for kind, (_, names) in FLOORS.items()}
     return {kind: share for kind, share in shares.items() if share < FLOORS[kind][0]}
 
 
 def table_of(found):
     """The rows of the table."""
-    return ''.join('| %s | %s |\n' % (name, ' | '.join('%.0f' % percent(found, (name,), chance) for chance in CHANCES)) for name in (*FAULTS, *map(unloaded, ON_TIME)))
+    names = *FAULTS, *map(unloaded, ON_TIME), *(name + where for _, where, names in ALL[1:] for name in names)
+    return ''.join('| %s | %s |\n' % (name, ' | '.join('%.0f' % percent(found, (name,), chance) for chance in CHANCES)) for name in names)

@@ -24,9 +24,15 @@ CAN_PROVE = shutil.which('rt') is not None
 
 
 @functools.cache
+def _chosen(*words):
+    """The path that packaging/program prints, and its status."""
+    done = subprocess.run([os.path.join(TOP, 'packaging', 'program'), *words], stdout=subprocess.PIPE, check=False)
+    return done.stdout.decode().rstrip('\n'), done.returncode
+
+
 def program():
-    """The path of the program, which packaging/program makes first if need be."""
-    return subprocess.run([os.path.join(TOP, 'packaging', 'program')], stdout=subprocess.PIPE, check=True).stdout.decode().rstrip('\n')
+    """The path of the program of these sources, which is proved first if need be; where none runs, that of one that a compiler makes."""
+    return (_chosen('--proved') if can_simulate() else _chosen())[0]
 
 
 def program_of(tool):
@@ -35,11 +41,9 @@ def program_of(tool):
     return named if named and tool != 'simulate' else program()
 
 
-@functools.cache
 def can_simulate():
     """Whether the program is a proved one: what a compiler makes of dist/ has no `simulate`."""
-    words = [os.path.join(TOP, 'packaging', 'program'), '--proved']
-    return subprocess.run(words, stdout=subprocess.DEVNULL, stderr=subprocess.DEVNULL, check=False).returncode == 0
+    return _chosen('--proved')[1] == 0
 
 
 def output_of(tool, text):

@@ -1,62 +1,92 @@
-"""What a checkout knows about trials of wrong bodies: for each crate of which all were refused as they say, a checksum of
-what that rests on. `wrong-bodies/try` writes it."""
+"""The list tests/tried.sums: of each crate with wrong bodies the sum of what a trial of them rests on, as it was when all were refused as
+they say. `wrong-bodies/try --write` writes it, crate by crate.
 
-import glob
+A function is proved from the contracts of those that it calls, so of the crates below only what a proof above them can see counts: their
+code without the bodies of functions, their definitions and lemmas. Of the crate itself all counts, with its stanzas; so does the kit.
+Remarks count nowhere."""
+
 import hashlib
 import os
-import subprocess
+import re
 
-from support.functions import TOP
-from support.lanes import crates_below
+from support.functions import TOP, functions_of, homes_of, read, sources_of, without_bodies
+from support.gate import proved
 from support.stanzas import edits_of
 
-# The file of the checksums: lines `CRATE CHECKSUM`. git ignores it.
-KNOWN = os.path.join(TOP, 'wrong-bodies', 'out', 'known')
+LIST = os.path.join(TOP, 'tests', 'tried.sums')
+HEAD = '''# The crates whose wrong bodies were refused as they say: of each the SHA-256 of what that rests on. `wrong-bodies/try --write` writes this.
+'''
+# The files of the proof of a function or a law, which no other can cite.
+OWN_PROOFS = ('Answers.antt', 'Invariants.antt', 'Proof.antt')
+# A remark, with its line if it is alone there, or a text, in which there is none.
+REMARKS = {'.rt': re.compile(r'^[ \t]*//[^\n]*\n|//[^\n]*|b?"(?:\\.|[^"\\])*"|b?\'(?:\\.|[^\'\\])\'', re.M | re.S),
+           '.antt': re.compile(r'^[ \t]*--[^\n]*\n|"(?:\\.|[^"\\\n])*"', re.M)}
 
 
-def files_of(crate):
-    """Returns the files on which a trial of a crate rests: sources of the crate and of those below it, and its edits."""
-    folders = [os.path.join(TOP, 'crates', name, part) for name in [*crates_below(crate), crate]
-               for part in ('src', 'specs', 'proofs')]
-    paths = [path for folder in folders for path in glob.glob(os.path.join(folder, '**', '*.*'), recursive=True)]
-    paths += glob.glob(os.path.join(TOP, 'crates', crate, 'must-fail', '*.edit')) + [edits_of(crate)]
-    return sorted(path for path in paths if os.path.isfile(path))
+def without_remarks(path, text):
+    """A text of a file without its remarks."""
+    form = REMARKS.get(os.path.splitext(path)[1])
+    return form.sub(lambda found: '' if re.match(r'\s*(?://|--)', found[0]) else found[0], text) if form else text
 
 
-def checksum(crate):
-    """Returns the checksum of what a trial of a crate rests on, including the kit."""
-    kit = subprocess.run(['rt', '--version'], stdout=subprocess.PIPE, check=True).stdout
-    found = hashlib.sha256(kit)
-    for path in files_of(crate):
-        with open(path, 'rb') as file:
-            found.update(b'%s\n%s\n' % (os.path.relpath(path, TOP).encode(), hashlib.sha256(file.read()).digest()))
+def sum_of_texts(texts):
+    """The sum of texts, by their names."""
+    found = hashlib.sha256()
+    for name, text in sorted(texts.items()):
+        found.update(b'%s %s\n' % (hashlib.sha256(text.encode()).hexdigest().encode(), name.encode()))
     return found.hexdigest()
 
 
-def known(path):
-    """Returns the checksums of the file, by crates."""
-    if not os.path.exists(path):
+def texts_of(crate):
+    """The files of a crate that are proved, without their remarks."""
+    return {path: without_remarks(path, read(os.path.join(TOP, 'crates', crate, path))) for path in proved.files_of(crate)
+            if path.endswith(('.rt', '.antt', '.edit'))}
+
+
+def contracts_of(crate):
+    """The sum of what a proof above a crate can see of it."""
+    folder, sources = os.path.join(TOP, 'crates', crate), sources_of(crate)
+    homes = homes_of(sources)
+    bare = {os.path.relpath(path, folder): without_bodies(text, functions_of(path, text, homes)) for path, text in sources.items()}
+    texts = {path: text for path, text in texts_of(crate).items()
+             if path.startswith('specs/') or path.startswith('proofs/') and os.path.basename(path) not in OWN_PROOFS}
+    return sum_of_texts({**texts, **{path: without_remarks(path, text) for path, text in bare.items()}})
+
+
+def below(crate):
+    """The crates that a crate uses, directly or not."""
+    uses, found = proved.crates(), set()
+
+    def add(name):
+        for one in set(uses[name][1]) - found:
+            found.add(one)
+            add(one)
+    add(crate)
+    return found
+
+
+def sum_of(crate):
+    """The sum of what a trial of a crate rests on."""
+    return sum_of_texts({'kit': proved.kit() or '', 'line': proved.crates()[crate][0], 'stanzas': read(edits_of(crate)), 'crate': sum_of_texts(texts_of(crate)),
+                         **{'below ' + name: contracts_of(name) for name in below(crate)}})
+
+
+def listed():
+    """The sums of the list, by crates."""
+    if not os.path.exists(LIST):
         return {}
-    with open(path, encoding='utf-8') as file:
-        return dict(line.split() for line in file)
+    with open(LIST, encoding='utf-8') as file:
+        return dict(line.split() for line in file if not line.startswith('#'))
 
 
-def remember(path, checksums):
-    """Writes checksums into the file, together with those of other crates."""
-    os.makedirs(os.path.dirname(path), exist_ok=True)
-    lines = ['%s %s\n' % row for row in sorted({**known(path), **checksums}.items())]
-    with open(path, 'w', encoding='utf-8') as file:
-        file.writelines(lines)
+def differing(crates):
+    """Those of these crates whose sums are not in the list."""
+    known = listed()
+    return [name for name in crates if known.get(name) != sum_of(name)]
 
 
-def changed(crates, path):
-    """Returns those of these crates that changed since their last trial. Says which are left to `--all`, since no trial of
-    them is known."""
-    seen = known(path)
-    if not seen:
-        print('left to --all: wrong bodies: this checkout knows of no full trial')
-        return []
-    for crate in crates:
-        if crate not in seen:
-            print('left to --all: wrong bodies of %s: this checkout knows of no trial of them' % crate)
-    return [crate for crate in crates if crate in seen and seen[crate] != checksum(crate)]
+def write(sums):
+    """Writes these sums into the list, beside those of other crates, in the order of crates.txt."""
+    known = {**listed(), **sums}
+    with open(LIST, 'w', encoding='utf-8') as file:
+        file.write(HEAD + ''.join('%s %s\n' % (name, known[name]) for name in proved.crates() if name in known))

@@ -9,6 +9,9 @@ enum { EARLY = 32, SHORT = 1200 };
 
 enum { NO_EDGE = 10000 };
 
+/* After so many scans a module with a clock of its own has sampled a level. */
+enum { ORDER_SCANS = 30 };
+
 /* In turn two scripts of edges and a random one, until there was each edge and, if there is room for them, each long
  * script; later every 16th is an edge. A mix of the maker's own has random scripts alone. Returns the number of the edge or
  * of the long script, which has one above those; NO_EDGE for none. */
@@ -110,6 +113,23 @@ static void begin(struct run *run, const struct ends *ends, const struct options
     }
 }
 
+/* Sets input 0 alone, and asks for the raw inputs: says if the octets of a wire's inputs seem to come in reverse order. */
+static void try_order(struct run *run) {
+    static const uint8_t command[] = {FIO2070_TYPE_RAW_INPUTS}, reversed[] = {0, 0, 0, 0, 0, 0, 0, 1};
+    struct event scan = conformance_event(EVENT_SCAN, NULL, 0), frame = conformance_event(EVENT_FRAME, command, sizeof command);
+    const struct difference *difference = &run->difference;
+    unsigned scans;
+    run->script.id = run->ends.module->id;
+    run->script.per_block = run->ends.module->per_block;
+    scan.inputs = 1;
+    for (scans = 0; scans < ORDER_SCANS; scans++) conformance_add(&run->script, &scan);
+    conformance_add(&run->script, &frame);
+    if (conformance_compare(&run->ends, &run->script, &run->difference) == run->script.length && difference->got_length > 8 &&
+        memcmp(difference->got + 1, reversed, sizeof reversed) == 0) {
+        fputs("# the inputs seem to be in reverse order of octets: the first one has inputs 0 to 7\n", run->out);
+    }
+}
+
 void conformance_test(const struct ends *ends, const struct options *given, struct result *result, FILE *out) {
     static struct run run;
     struct options options;
@@ -122,6 +142,7 @@ void conformance_test(const struct ends *ends, const struct options *given, stru
     run.result = result;
     run.out = out;
     if (!options.is_outside) conformance_fresh_begin(&run.fresh, ends);
+    if (ends->outside != NULL && ends->module != NULL) try_order(&run);
     do {
         next_script(&run);
     } while (try_script(&run) && result->events < options.events);

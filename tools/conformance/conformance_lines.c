@@ -5,6 +5,7 @@
 #include "conformance_clock.h"
 #include "conformance_wire.h"
 
+#include <errno.h>
 #include <fcntl.h>
 #include <netdb.h>
 #include <poll.h>
@@ -25,6 +26,12 @@ static const char ENDED[] = "it ended", TAKES_NONE[] = "it takes no line any mor
 
 /* ---- Opening ---- */
 
+/* Notes why the wire is not open. Returns 0. */
+static int is_not_open(struct wire *wire, const char *why) {
+    snprintf(wire->why, sizeof wire->why, "%s", why);
+    return 0;
+}
+
 /* What the process that is the module's side has for standard input, output and error. */
 static void become(const char *command, int both, int errors) {
     setpgid(0, 0);
@@ -42,11 +49,12 @@ static void keep_here(int file) { fcntl(file, F_SETFD, FD_CLOEXEC); }
 
 static int open_command(struct wire *wire) {
     int both[2], errors[2];
-    if (socketpair(AF_UNIX, SOCK_STREAM, 0, both) != 0) return 0;
-    if (pipe(errors) != 0) return 0;
+    if (socketpair(AF_UNIX, SOCK_STREAM, 0, both) != 0) return is_not_open(wire, strerror(errno));
+    if (pipe(errors) != 0) return is_not_open(wire, strerror(errno));
     keep_here(both[0]);
     keep_here(errors[0]);
     wire->process = fork();
+    if (wire->process < 0) is_not_open(wire, strerror(errno));
     if (wire->process == 0) become(wire->target, both[1], errors[1]);
     /* The process does this too: it may be ended as a group before it runs. */
     if (wire->process > 0) setpgid((pid_t)wire->process, (pid_t)wire->process);
@@ -60,7 +68,7 @@ static int open_command(struct wire *wire) {
 static int open_serial(struct wire *wire) {
     struct termios settings;
     if (wire->file < 0) wire->file = open(wire->target, O_RDWR | O_NOCTTY);
-    if (wire->file < 0) return 0;
+    if (wire->file < 0) return is_not_open(wire, strerror(errno));
     if (tcgetattr(wire->file, &settings) == 0) {
         cfmakeraw(&settings);
         tcsetattr(wire->file, TCSANOW, &settings);
@@ -73,18 +81,20 @@ static int open_socket(struct wire *wire) {
     char host[256];
     const char *address = wire->target, *colon = strrchr(address, ':');
     struct addrinfo hints, *found = NULL, *one;
-    if (colon == NULL || (size_t)(colon - address) >= sizeof host) return 0;
+    int fault;
+    if (colon == NULL || (size_t)(colon - address) >= sizeof host) return is_not_open(wire, "it is no HOST:PORT");
     memcpy(host, address, (size_t)(colon - address));
     host[colon - address] = '\0';
     memset(&hints, 0, sizeof hints);
     hints.ai_socktype = SOCK_STREAM;
-    if (getaddrinfo(host, colon + 1, &hints, &found) != 0) return 0;
+    fault = getaddrinfo(host, colon + 1, &hints, &found);
+    if (fault != 0) return is_not_open(wire, fault == EAI_SYSTEM ? strerror(errno) : gai_strerror(fault));
     for (one = found; one != NULL && wire->file < 0; one = one->ai_next) {
         wire->file = socket(one->ai_family, one->ai_socktype, one->ai_protocol);
-        if (wire->file >= 0 && connect(wire->file, one->ai_addr, one->ai_addrlen) != 0) {
-            close(wire->file);
-            wire->file = -1;
-        }
+        if (wire->file >= 0 && connect(wire->file, one->ai_addr, one->ai_addrlen) == 0) break;
+        is_not_open(wire, strerror(errno));
+        if (wire->file >= 0) close(wire->file);
+        wire->file = -1;
     }
     freeaddrinfo(found);
     return wire->file >= 0;
@@ -303,7 +313,7 @@ static int begin_anew(void *context) {
     wire->failure[0] = wire->fault[0] = '\0';
     wire->has_failed = wire->has_levels = 0;
     wire->is_new = 1;
-    return wire->open(wire) || conformance_wire_fail(wire, "it can't be opened any more", "");
+    return wire->open(wire) || conformance_wire_fail(wire, "it can't be opened any more: ", wire->why);
 }
 
 static void hurry(void *context, enum hurry hurry) { ((struct wire *)context)->hurry = hurry; }

@@ -26,6 +26,7 @@ struct wire {
     uint64_t levels;
     uint8_t number; /* of the block that a CPU's end asks for next */
     size_t kept, tail_length;      /* octets that came after the last line, and of standard error */
+    char why[80];                  /* it could not be opened */
     char fault[80];                /* why it failed */
     char asked[WIRE_LONGEST_LINE]; /* the last line that it was asked */
     char failure[1200];            /* both, and the last lines of standard error */

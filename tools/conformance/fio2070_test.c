@@ -16,7 +16,8 @@ static const char HELP[] =
     "\n"
     "Compares a module with the proved one, by random scripts. The tester writes lines, and the module answers each with one:\n"
     "  reset          done          as after power on\n"
-    "  inputs H16     done          the levels of the 64 inputs, and one step of a millisecond\n"
+    "  inputs H16     done          the levels of the 64 inputs, and one step of a millisecond; the first octet has\n"
+    "                               inputs 0 to 7, input 0 in its lowest bit\n"
     "  sync           done          LINESYNC goes from 0 to 1\n"
     "  frame HEX      answer HEX    or none; HEX may have no digits\n"
     "With --cpu it is a CPU's end, with these lines:\n"
@@ -61,6 +62,7 @@ static int read_option(struct setup *setup, const char *name, const char *word) 
     if (strcmp(name, "--self") == 0) {
         setup->self = setup->opened = word;
         setup->is_open = strcmp(word, "module") == 0 || strcmp(word, "cpu") == 0;
+        strcpy(setup->wire.why, "--self has module or cpu after it");
     } else if (strcmp(name, "--id") == 0) {
         setup->id = number_of(word);
     } else if (strcmp(name, "--per-block") == 0) {
@@ -154,7 +156,8 @@ int main(int count, char **words) {
     }
     if (setup.opened == NULL) return written(refuse(count, words, place, taken));
     if (!setup.is_open || setup.id < 0 || setup.id > 255 || setup.per_block < 1 || setup.per_block > 255 || setup.wire.deadline_ms < 1) {
-        printf(setup.is_open ? "a number is out of its range\n" : "can't open %s\n", setup.opened);
+        if (setup.is_open) puts("a number is out of its range");
+        if (!setup.is_open) printf("can't open %s: %s\n", setup.opened, setup.wire.why);
         return 2;
     }
     words[place - 1] = words[0];

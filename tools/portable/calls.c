@@ -173,8 +173,6 @@ static void settle_header(struct fio2070_block_header *header, const uint8_t *in
 }
 
 DECODES(read_block, 8, struct fio2070_block_header, settle_header(it, into))
-DECODES(read_outputs_answer, 4, uint32_t, *it = get32(into))
-DECODES(read_identification, 1, uint8_t, *it = into[0])
 
 /* Entries that the module wrote, in the processor's own order of octets. */
 static void settle_entries(struct fio2070_entry *entries, size_t count) {
@@ -212,6 +210,8 @@ uint8_t fio2070_plan(const struct fio2070_line *line, struct fio2070_pace *pace)
     from[17] = line->inputs;
     from[18] = line->filter;
     from[19] = line->stop_bits;
+    put16(from + 20, line->drift);
+    put16(from + 22, line->jitter);
     {
         uint64_t a = READS(from, 24), b = WRITES(into, 32);
         planned = (uint8_t)call_fio2070_plan(&machine, a, b);
@@ -654,6 +654,46 @@ uint32_t fio2070_log_counts_batch(struct fio2070_log_counts *counts, const struc
     settle_given(batch, verdicts, frames, places);
     if (!IS_LITTLE) settle_counts(counts);
     for (place = 0; place < count; place++) taken[place] = get64((const uint8_t *)&taken[place]);
+    return count;
+}
+
+/* Stretches with their numbers of several octets, which are at the front, in the module's order of octets instead of the
+ * processor's, or the other way. */
+static void settle_stretches(struct fio2070_log_stretches *stretches) {
+    uint8_t *octets = (uint8_t *)stretches;
+    size_t place;
+    for (place = 0; place < offsetof(struct fio2070_log_stretches, stamp); place += 8) {
+        uint64_t number = get64(octets + place);
+        memcpy(octets + place, &number, 8);
+    }
+    stretches->stamp = get32((const uint8_t *)&stretches->stamp);
+    stretches->length = get16((const uint8_t *)&stretches->length);
+}
+
+SAME(size_of_log_stretches, sizeof(struct fio2070_log_stretches), 936);
+
+OVER(log_stretches, start, 1, void, , (struct fio2070_log_stretches * log_stretches), it)
+
+uint32_t fio2070_log_stretches_batch(struct fio2070_log_stretches *stretches, const struct fio2070_log_batch *batch,
+                                     const struct fio2070_judge_outcome outcomes[20480],
+                                     struct fio2070_log_seam seams[20480]) {
+    const uint32_t verdicts = batch->verdict_count, frames = batch->frame_count, places = batch->place_count;
+    uint32_t place, count;
+    MACHINE(fio2070_log_stretches_batch);
+    settle_given(batch, verdicts, frames, places);
+    if (!IS_LITTLE) settle_stretches(stretches);
+    {
+        /* Of the outcomes only numbers of one octet are read. */
+        uint64_t a = WRITES(stretches, sizeof *stretches), b = READS(batch, sizeof *batch),
+                 c = READS(outcomes, 20480 * sizeof *outcomes), d = WRITES(seams, 20480 * sizeof *seams);
+        count = (uint32_t)call_fio2070_log_stretches_batch(&machine, a, b, c, d);
+    }
+    settle_given(batch, verdicts, frames, places);
+    if (!IS_LITTLE) settle_stretches(stretches);
+    for (place = 0; place < count; place++) {
+        seams[place].pause = get64((const uint8_t *)&seams[place].pause);
+        seams[place].frame = get32((const uint8_t *)&seams[place].frame);
+    }
     return count;
 }
 #endif

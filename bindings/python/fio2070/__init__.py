@@ -24,14 +24,14 @@ from .log_batches import LogBatch, Verdict
 from .logs import LogReader, ReadAs
 from .pace import Line, Pace, plan
 from .records import Answer, Breach, Command, ConfigurationItem, ContentBreach, Entry, Fault, Outcome, RecordItem
+from .stretches import LogStretches, Seam
 from .wire import Wire, WireBits, WireHeard, wire_check, wire_frame
 
 __all__ = ['Answer', 'AnswerRefused', 'Breach', 'Checker', 'Command', 'ConfigurationItem', 'ContentBreach',
            'ContentChecker', 'Counter', 'Entry', 'Fault', 'Filters', 'Heard', 'Line', 'LinkJudge', 'LogBatch', 'LogCounts',
-           'LogJudge', 'LogReader', 'LogSigns', 'Module', 'Octets', 'Outcome', 'Pace', 'Poller', 'ReadAs', 'RecordItem',
-           'Verdict', 'Wire', 'WireBits', 'WireHeard', 'constants', 'content_rule_text', 'decode_answer', 'decode_command', 'encode',
-           'plan', 'read_identification', 'read_outputs_answer', 'rule_text', 'show', 'tester', 'version', 'widen',
-           'wire_check', 'wire_frame']
+           'LogJudge', 'LogReader', 'LogSigns', 'LogStretches', 'Module', 'Octets', 'Outcome', 'Pace', 'Poller', 'ReadAs', 'RecordItem',
+           'Seam', 'Verdict', 'Wire', 'WireBits', 'WireHeard', 'constants', 'content_rule_text', 'decode_answer', 'decode_command', 'encode',
+           'plan', 'rule_text', 'show', 'tester', 'version', 'widen', 'wire_check', 'wire_frame']
 
 __version__ = '%d.%d.%d' % (constants.VERSION // 10000, constants.VERSION // 100 % 100, constants.VERSION % 100)
 
@@ -108,16 +108,6 @@ def decode_answer(octets: Octets) -> Answer:
     return Answer(read.code, read.flags, read.receive_errors, read.transmit_errors, read.status, read.block,
                   read.stamp, read.inputs, octets[1:1 + read.body],
                   [Entry(one.input, one.state, one.stamp) for one in _elements('block_entries', c.CEntry, octets)])
-
-
-def read_outputs_answer(octets: Octets) -> int:
-    """The module's millisecond counter in its answer to command 55 (answer 183). Raises Fault for anything else."""
-    return int(_read('read_outputs_answer', ctypes.c_uint32(), encode.octets_of(octets)).value)
-
-
-def read_identification(octets: Octets) -> int:
-    """Which module answered command 60 (answer 188). Raises Fault for anything else."""
-    return int(_read('read_identification', ctypes.c_uint8(), encode.octets_of(octets)).value)
 
 
 def _shown(one: object, **values: object) -> str:

@@ -4,7 +4,7 @@ import ctypes
 import os
 import sys
 from ctypes import POINTER, c_char_p, c_size_t, c_uint8, c_uint16, c_uint32, c_uint64
-from typing import Any
+from typing import Any, Dict, Tuple
 
 # With these the calls take their arrays.
 from .constants import LONGEST_FRAME as LONGEST_FRAME, LONGEST_TEXT as LONGEST_TEXT, MOST_ENTRIES as MOST_ENTRIES
@@ -14,7 +14,7 @@ from .constants import STANDARD_WAITING as STANDARD_WAITING
 _NAME = {'win32': 'fio2070.dll', 'darwin': 'libfio2070.1.dylib'}.get(sys.platform, 'libfio2070.so.1')
 
 
-def _load() -> ctypes.CDLL:
+def _found() -> ctypes.CDLL:
     """The library that FIO2070_LIBRARY names, or the one beside this file, or at the top of the repository that this
     file is in, or the installed one. An OSError says in one line what to do without one."""
     here = os.path.dirname(os.path.abspath(__file__))
@@ -70,7 +70,7 @@ class CHeard(ctypes.Structure):
 class CLine(ctypes.Structure):
     _fields_ = [('rate', c_uint32), ('answer', c_uint32), ('other', c_uint32), ('lost', c_uint16),
                 ('waiting', c_uint16), ('per_block', c_uint8), ('inputs', c_uint8), ('filter', c_uint8), ('stop_bits', c_uint8),
-                ('reserved', c_uint8 * 4)]
+                ('drift', c_uint16), ('jitter', c_uint16)]
 
 
 class CPace(ctypes.Structure):
@@ -106,7 +106,7 @@ class CJudgeOutcome(ctypes.Structure):
 
 class CLogVerdict(ctypes.Structure):
     _fields_ = [('line', c_uint64), ('time', c_uint64), ('frames', c_uint32), ('places', c_uint32), ('kind', c_uint8),
-                ('reason', c_uint8), ('has_time', c_uint8), ('said', c_uint8), ('address', c_uint8),
+                ('reason', c_uint8), ('time_kind', c_uint8), ('said', c_uint8), ('address', c_uint8),
                 ('control', c_uint8), ('header', c_uint8), ('foreign', c_uint8)]
 
 
@@ -127,6 +127,22 @@ class CLogReadAs(ctypes.Structure):
 
 class CLogFormList(ctypes.Structure):
     _fields_ = [('count', c_uint32), ('reserved', c_uint8 * 4), ('forms', CLogReadAs * 16)]
+
+
+class CLogSeam(ctypes.Structure):
+    _fields_ = [('pause', c_uint64), ('frame', c_uint32), ('cause', c_uint8), ('is_lost', c_uint8),
+                ('has_pause', c_uint8), ('missing', c_uint8)]
+
+
+class CLogStretches(ctypes.Structure):
+    _fields_ = [('blocks', c_uint64), ('transitions', c_uint64), ('lost', c_uint64), ('missing', c_uint64),
+                ('missing_blocks', c_uint64), ('passed_over', c_uint64), ('unknown', c_uint64), ('restarts', c_uint64),
+                ('disbelieved', c_uint64), ('timed', c_uint64), ('timed_whole', c_uint64), ('stamped', c_uint64),
+                ('stamped_whole', c_uint64), ('loads', c_uint64), ('longest_pause', c_uint64), ('pause', c_uint64),
+                ('polled_at', c_uint64), ('block_at', c_uint64), ('stamp', c_uint32), ('length', c_uint16),
+                ('entries', c_uint8), ('number', c_uint8), ('status', c_uint8), ('has_block', c_uint8), ('has_block_at', c_uint8),
+                ('has_polled_at', c_uint8), ('has_pause', c_uint8), ('is_loaded', c_uint8), ('items', c_uint8 * 773),
+                ('reserved', c_uint8 * 5)]
 
 
 class CLogCounts(ctypes.Structure):
@@ -181,16 +197,36 @@ CFilters = _words('CFilters', 27)
 CSizedModule = _words('CSizedModule', 132)
 
 
-library = _load()
+class _Library:
+    """The calls of the shared library, which the first of them loads."""
+
+    def load(self) -> None:
+        """Loads the library, if that is not done yet. Raises OSError without one."""
+        if 'loaded' in self.__dict__:
+            return
+        found = _found()
+        for name, (result, arguments) in _declared.items():
+            try:
+                function = getattr(found, name)
+            except AttributeError:
+                raise OSError('the shared library %s has no %s: it is older than this package' % (found._name, name)) from None
+            function.restype, function.argtypes = result, arguments
+            setattr(self, name, function)
+        self.loaded = found
+
+    def __getattr__(self, name: str) -> Any:
+        if not name.startswith('fio2070_'):
+            raise AttributeError(name)
+        self.load()
+        return self.__dict__[name] if name in self.__dict__ else getattr(self.loaded, name)
+
+
+_declared: Dict[str, Tuple[Any, Tuple[Any, ...]]] = {}
+library = _Library()
 
 
 def _declare(name: str, result: Any, *arguments: Any) -> None:
-    try:
-        function = getattr(library, name)
-    except AttributeError:
-        raise OSError('the shared library %s has no %s: it is older than this package' % (library._name, name)) from None
-    function.restype = result
-    function.argtypes = arguments
+    _declared[name] = result, arguments
 
 
 class Kept:
@@ -215,8 +251,6 @@ def number(name: str, words: str) -> Any:
 
 _declare('fio2070_encode_answer', c_size_t, POINTER(CAnswer), POINTER(CEntry), c_size_t, c_char_p, c_size_t,
          POINTER(c_uint8), c_size_t)
-_declare('fio2070_read_outputs_answer', CFault, c_char_p, c_size_t, POINTER(c_uint32))
-_declare('fio2070_read_identification', CFault, c_char_p, c_size_t, POINTER(c_uint8))
 _declare('fio2070_decode_answer', CFault, c_char_p, c_size_t, POINTER(CAnswer))
 _declare('fio2070_block_entries', c_size_t, c_char_p, c_size_t, POINTER(CEntry), c_size_t)
 _declare('fio2070_checker_start', None, POINTER(CChecker))
@@ -270,6 +304,9 @@ _declare('fio2070_log_signs_start', None, POINTER(CLogSigns))
 _declare('fio2070_log_signs_frame', None, POINTER(CLogSigns), c_uint8, c_uint8, c_char_p, c_size_t)
 _declare('fio2070_log_signs_batch', None, POINTER(CLogSigns), c_uint8, POINTER(CLogBatch))
 _declare('fio2070_log_signs_sign', c_uint8, POINTER(CLogSigns))
+_declare('fio2070_log_stretches_start', None, POINTER(CLogStretches))
+_declare('fio2070_log_stretches_batch', c_uint32, POINTER(CLogStretches), POINTER(CLogBatch), POINTER(CJudgeOutcome),
+         POINTER(CLogSeam))
 _declare('fio2070_sized_module_makers_command', c_uint8, POINTER(CSizedModule), c_char_p, c_size_t)
 _declare('fio2070_sized_module_answer_other', c_size_t, POINTER(CSizedModule), c_uint8, c_char_p, c_size_t,
          POINTER(c_uint8), c_size_t)

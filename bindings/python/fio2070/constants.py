@@ -130,6 +130,7 @@ LOG_NO_OCTETS = 1
 LOG_NO_MESSAGE = 2
 LOG_NO_FORM = 3
 LOG_MORE = 4
+LOG_UNREAD_FRAME = 5
 LOG_TOO_LONG = 6
 LOG_BAD_LINE = 7
 LOG_LOSS = 10
@@ -141,6 +142,12 @@ LOG_BROKEN = 14
 LOG_NO_SIDE = 0
 LOG_FROM_CPU = 1
 LOG_FROM_MODULE = 2
+
+# What the time of a line of a log counts from.
+LOG_NO_TIME = 0
+LOG_DATE = 1
+LOG_TIME_OF_DAY = 2
+LOG_SINCE_START = 3
 
 # Where a log was taken.
 LOG_TAKEN_AUTO = 0
@@ -160,6 +167,14 @@ LOG_SIGN_TWICE = 1
 LOG_SIGN_BOTH_ENDS = 2
 LOG_SIGN_REVERSED = 3
 LOG_SIGN_TWO_LINKS = 4
+
+# Why a stretch of a log ends above a block.
+SEAM_NONE = 0
+SEAM_MISSING = 1
+SEAM_PASSED_OVER = 2
+SEAM_UNKNOWN = 3
+SEAM_RESTART = 4
+SEAM_DISBELIEVED = 5
 
 # One's own frames on a line, and the most octets of one.
 WIRE_ADDRESS = 0x14

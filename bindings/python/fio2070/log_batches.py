@@ -12,18 +12,19 @@ from . import constants
 
 _KINDS = ('blank', 'frames', 'part', 'possible', 'damaged', 'passed over')
 # By their numbers, of which some are free ('-').
-_REASONS = ('', 'no octets', 'no message', 'no form', 'more', '-', 'too long', 'bad line', '-', '-', 'loss', 'heading', '-', 'copy',
-            'broken')
+_REASONS = ('', 'no octets', 'no message', 'no form', 'more', 'unread frame', 'too long', 'bad line', '-', '-', 'loss', 'heading', '-',
+            'copy', 'broken')
 _SIDES = ('', '>', '<')
+_TIME_KINDS = ('', 'date', 'day', 'start')
 # The most frames of a batch.
 MOST_FRAMES = c.CLogBatch.lengths.size // 2
 # The numbers of struct fio2070_log_verdict and struct fio2070_log_place, in the processor's order of octets: these, and the names
 # that take them below, are written by tools/generate-layouts.
 _VERDICT, _PLACE = struct.Struct('=QQIIBBBBBBBB'), struct.Struct('=QII')
-# Where in a verdict its kind, its reason, whether it has a time and its side are; in words of 32 bits how many frames it has; and in
+# Where in a verdict its kind, its reason, the kind of its time and its side are; in words of 32 bits how many frames it has; and in
 # words of 64 its line and its time.
 _KIND, _REASON = c.CLogVerdict.kind.offset, c.CLogVerdict.reason.offset
-_HAS_TIME, _SAID = c.CLogVerdict.has_time.offset, c.CLogVerdict.said.offset
+_TIME_KIND, _SAID = c.CLogVerdict.time_kind.offset, c.CLogVerdict.said.offset
 _FRAMES, _LINE, _TIME = c.CLogVerdict.frames.offset // 4, c.CLogVerdict.line.offset // 8, c.CLogVerdict.time.offset // 8
 _HEADER = c.CLogVerdict.address.offset // 4
 
@@ -40,12 +41,13 @@ class Verdict(NamedTuple):
     `line` is its number, from 1. `kind` is 'blank'; 'frames', which end in it, or of which it shows that they ended above; 'part', of
     a frame that ends below; 'possible', which no form has, and which may be a message; 'damaged', which a form has, and which gives no
     frame; or 'passed over', skipped. `reason` says why the line gives no frame, in one of these words: 'no octets', 'no message',
-    'no form', 'too long', 'loss' (no octets, and words of loss), 'heading' (no message, and the heading of a log or of a part of one),
+    'no form', 'unread frame' (of no form, with a right check), 'too long', 'loss' (no octets, and words of loss), 'heading' (no message, and the heading of a log or of a part of one),
     'copy' (of the frame above), and by order 'bad line'; or what else is in one that does: 'more' (octets that may be a message),
     'broken' (the message above is not whole, and does not go on here; of a line of any kind but a damaged one); else it is empty. The
     octets of `frames` are written at `places`, in their order: each is the number of a line, and where it begins and ends there, in
-    octets of UTF-8, after colours, NUL and marks are taken out. `time` is in microseconds since 1970, or since midnight or a start; None
-    if the log has none there. `said` is '>' if the line says that the CPU sent these octets, '<' if the module, else empty. `header`
+    octets of UTF-8, after colours, NUL and marks are taken out. `time` is in microseconds, None
+    if there is none, and `time_kind` what it counts from: 'date' is 1970, 'day' midnight, 'start' a start that the log does not name; empty
+    without a time. `said` is '>' if the line says that the CPU sent these octets, '<' if the module, else empty. `header`
     is the address that stands before the message, and the control octet if there is one; empty if there is none, or the frames of the
     line have not all the same. `foreign` is the type of the message that the line has in place of frames, if this protocol has none of that
     type; or 55, 180 or 181, if that message has `size` octets of inputs or of outputs, other than 8: of a module of another size; else
@@ -60,6 +62,7 @@ class Verdict(NamedTuple):
     header: bytes = b''
     foreign: int = 0
     size: int = 0
+    time_kind: str = ''
 
 
 class LogBatch:
@@ -83,10 +86,12 @@ class LogBatch:
 
     def _write(self, verdicts: Sequence[Verdict]) -> None:
         """Writes verdicts."""
+        if any((one.time is None) != (one.time_kind == '') for one in verdicts):
+            raise ValueError('a time and its kind go together')
         batch, frames = self._batch, [octets for verdict in verdicts for octets in verdict.frames]
         places = [place for verdict in verdicts for place in verdict.places]
         told = [_VERDICT.pack(one.line, one.time or 0, len(one.frames), len(one.places), _KINDS.index(one.kind),
-                              _REASONS.index(one.reason), one.time is not None, _SIDES.index(one.said),
+                              _REASONS.index(one.reason), _TIME_KINDS.index(one.time_kind), _SIDES.index(one.said),
                               *(one.header or bytes([0, one.size])).ljust(2, b'\0'), len(one.header), one.foreign) for one in verdicts]
         parts = [(self._verdicts, b''.join(told)), (self._places, b''.join(_PLACE.pack(*place) for place in places)),
                  (self._lengths, array.array('H', map(len, frames)).tobytes()), (self._octets, b''.join(frames))]
@@ -139,9 +144,9 @@ class LogBatch:
         return self._each(_SAID)
 
     @property
-    def timed(self) -> bytes:
-        """Of each line 1 if it has a time, else 0."""
-        return self._each(_HAS_TIME)
+    def time_kinds(self) -> bytes:
+        """What the time of each line counts from, one of `constants.LOG_NO_TIME` and those after it."""
+        return self._each(_TIME_KIND)
 
     @property
     def addresses(self) -> bytes:
@@ -173,9 +178,9 @@ class LogBatch:
 
     def told(self, index: int) -> Verdict:
         """The verdict on a line that has no frames and no places, or without these."""
-        line, time, _, _, kind, reason, has_time, said, *header, count, foreign = _VERDICT.unpack_from(self._verdicts, _VERDICT.size * index)
-        return Verdict(line, _KINDS[kind], _REASONS[reason], (), (), time if has_time else None, _SIDES[said], bytes(header[:count]), foreign,
-                       0 if count else header[1])
+        line, time, _, _, kind, reason, time_kind, said, *header, count, foreign = _VERDICT.unpack_from(self._verdicts, _VERDICT.size * index)
+        return Verdict(line, _KINDS[kind], _REASONS[reason], (), (), time if time_kind else None, _SIDES[said], bytes(header[:count]), foreign,
+                       0 if count else header[1], _TIME_KINDS[time_kind])
 
     def line(self, index: int) -> int:
         """The number of a line."""
@@ -250,10 +255,10 @@ class LogBatch:
         """The verdicts."""
         verdicts, frame, place, all_frames = [], 0, 0, tuple(self.frames())
         all_places = tuple(cast(Iterator[Tuple[int, int, int]], _PLACE.iter_unpack(self._places[:_PLACE.size * self.place_count])))
-        for line, time, frames, places, kind, reason, has_time, said, address, control, header, foreign in _VERDICT.iter_unpack(
+        for line, time, frames, places, kind, reason, time_kind, said, address, control, header, foreign in _VERDICT.iter_unpack(
                 self._verdicts[:_VERDICT.size * len(self)]):
             verdicts.append(Verdict(line, _KINDS[kind], _REASONS[reason], all_frames[frame:frame + frames],
-                                    all_places[place:place + places], time if has_time else None, _SIDES[said],
-                                    bytes((address, control)[:header]), foreign, 0 if header else control))
+                                    all_places[place:place + places], time if time_kind else None, _SIDES[said],
+                                    bytes((address, control)[:header]), foreign, 0 if header else control, _TIME_KINDS[time_kind]))
             frame, place = frame + frames, place + places
         return verdicts

@@ -13,7 +13,7 @@ from .terminal import say, shown
 
 COMMANDS = {
     'decode': 'what each frame says',
-    'check': 'every breach of the rules, with what was due and what came',
+    'check': 'whether transitions are lost, where and why; and every breach of the rules',
     'stats': 'how much, how often, how fast',
     'plan': 'how often to poll, how long an outage may last, how late a transition can be',
     'convert': 'the frames as a transcript, frames, pcapng or VCD',
@@ -25,9 +25,9 @@ COMMANDS = {
 OWN_OPTIONS = '-h', '--help', '-V', '--version'
 # Lines have no cycles: to look for some among those of each piece takes a tenth of the time.
 COLLECT_AFTER = 1 << 16
-BEGINNING = ('Begin with `fiolog LOG`, which is `fiolog check LOG`: what is wrong, since when and how often. `fiolog decode LOG` writes '
+BEGINNING = ('Begin with `fiolog LOG`, which is `fiolog check LOG`: what is lost or wrong, since when and how often. `fiolog decode LOG` writes '
              'what each frame says, `fiolog record LOG` what became of the entries; `fiolog COMMAND --help` lists the options. '
-             'Status 1 is a breach, 4 that little could be judged.')
+             'Status 1 is a breach, 5 that transitions are lost, 4 that little could be judged.')
 
 
 def module_of(name):
@@ -79,11 +79,11 @@ def arguments(words):
 def check_forms(parser, option):
     """Ends with a word if the caller's expression is none, if what a line carried is to be read as lines of a log, or if folders have no
     file."""
-    if getattr(option, 'line', '') and (option.pattern or option.sdlc or option.format != 'auto'):
-        parser.error('--line is of a file without lines: leave out --format, --pattern and --sdlc')
-    if getattr(option, 'like', ()) and (getattr(option, 'line', '') or getattr(option, 'pattern', None) or getattr(option, 'sdlc', False)
-                                        or getattr(option, 'format', 'auto') != 'auto'):
-        parser.error('--like is of the lines of a log by their forms: leave out --format, --line, --pattern and --sdlc')
+    is_said, line = bool(getattr(option, 'pattern', None)) or getattr(option, 'format', 'auto') != 'auto', getattr(option, 'line', '')
+    if line and is_said:
+        parser.error('--line is of a file without lines: leave out --format and --pattern')
+    if getattr(option, 'like', ()) and (line or is_said):
+        parser.error('--like is of the lines of a log by their forms: leave out --format, --line and --pattern')
     if getattr(option, 'pattern', None):
         try:
             if 'octets' not in re.compile(option.pattern).groupindex:
@@ -107,7 +107,7 @@ def open_streams():
 def refuse_inputs(option):
     """Raises Refused if a file of the command line is read and written."""
     read = getattr(option, 'files', None) or [getattr(option, 'fifo', None), getattr(option, 'serial', None)]
-    written = [getattr(option, name, None) for name in ('output', 'hires', 'plot', 'transcript', 'pcapng')]
+    written = [getattr(option, name, None) for name in ('output', 'hires', 'transcript', 'pcapng')]
     output.refuse_inputs([*output.STREAMS, *written], [0 if name == '-' else name for name in read])
 
 
@@ -117,11 +117,8 @@ def main(words=None):
     open_streams()
 
     def run():
-        try:
-            importlib.import_module('fio2070')
-        except OSError as fault:
-            library.make(fault)
         option = arguments(sys.argv[1:] if words is None else words)
+        library.load()
         refuse_inputs(option)
         return module_of(option.command).run(option)
     return output.guarded('fiolog', run)

@@ -58,6 +58,11 @@ class Batch:
         """The index of the line that gives a frame."""
         return frame if self.is_plain else bisect_right(self._ends, frame)
 
+    @property
+    def first_with_frames(self):
+        """The index of the first line that gives a frame; how many lines there are if none does."""
+        return 0 if self.is_plain else bisect_right(self._ends, 0)
+
     def frames_above(self, line):
         """How many frames there are above a line."""
         return line if self.is_plain else self._ends[line - 1] if line else 0
@@ -136,7 +141,7 @@ class Batch:
             return self._made[line]
         verdict = self.said.told(line)
         event = Line(verdict.line, verdict.kind, self._raw_of(verdict.line), time=seconds_of(verdict.time), said=verdict.said,
-                     header=verdict.header)
+                     header=verdict.header, time_kind=verdict.time_kind)
         is_dropped, note = verdict.reason in _DROPPED_WORDS, REASONS.get(verdict.reason, verdict.reason)
         if verdict.foreign and verdict.kind == PASSED:
             note = note_of(verdict.foreign)
@@ -173,7 +178,7 @@ def _verdict_of(event):
     kind = _KINDS.get(event.kind, PASSED)
     return fio2070.Verdict(event.number, kind, REMARKS.get(event.note, '') if event.kind == PASSED else '',
                            (event.octets,) if kind == FRAME else (), (), None if event.time is None else round(1e6 * event.time),
-                           event.said, event.header)
+                           event.said, event.header, time_kind='' if event.time is None else event.time_kind)
 
 
 def made_of(events, as_said=False):

@@ -1,14 +1,16 @@
-"""`fiolog check`: every breach of the rules on the order of messages and on what entries and answers say; with what should have
-come and what came, or with what the breach means."""
+"""`fiolog check`: whether transitions are lost, where and why; and every breach of the rules on the order of messages and on what entries
+and answers say, with what should have come and what came, or with what the breach means."""
 
 from collections import Counter
 
 from fio2070.constants import TYPE_LOAD_COUNTER
 
 from . import judgement, log, options, statuses, terminal
-from .event import OTHER, PART, PASSED
+from .answer import answer_of
+from .event import OTHER, PASSED
 from .counts import Counts, in_words, unjudged_numbers, unjudged_words
 from .late import is_late
+from .log_words import CURES
 from .output import Refused
 from .rules import RESTARTED, Rules
 from .stations import Stations
@@ -33,21 +35,21 @@ def add_arguments(parser):
 
 
 def _place(event):
-    """The line of a frame, and its time where it has one; a time of the day as the log writes it."""
+    """The line of a frame, and its time if it has one."""
     place = 'in %s%s' % (event.head, event.where)
     return place if event.time is None else '%s at %s' % (place, event.clock)
 
 
-def judged(read, option, counts=None):
+def judged(read, option, counts=None, **settings):
     """The lines of a log, with the breaches and restarts that are certain now and what judges them, which is new for each file; at
-    the end of a file None with the others. With --start-at-poll from the first poll on."""
+    the end of a file None with the others. With --start-at-poll from the first poll on. `settings` are those of Stations."""
     for of_log, batches in read.logs():
         judge = None
         for batch in batches:
             if not (batch.count or any(event.is_loss for _, event in batch.others)):
                 continue
             judge = judge or Stations(lambda: judgement.Judgement(rules_for(option), read.name if read.has_several else '', not option.start_at_poll),
-                                      counts)
+                                      counts, **settings)
             if option.at in ('cpu', 'bus'):
                 read.balance += batch.balance
             batch = judge.opened(batch)
@@ -71,11 +73,12 @@ class Findings:
     def __init__(self, option, read):
         self.option, self.read, self.paint = option, read, terminal.painter('auto')
         self.held, self.count, self.restarts, self.has_late_answers = judgement.Held(), 0, 0, False
-        self.spans = {}     # of each rule that is broken, and of restarts: the places of the first and of the last one, and how often
+        self.spans = {}     # of who breaks a rule, or restarts: the places of the first and of the last one, and how often
 
     def add(self, event, found):
         """A breach, or a restart."""
-        self.held.add((event.station, found.rule, _place(event), self._object(event, found) if self.option.json else
+        whose = 'CPU' if event.direction == '>' else 'module'
+        self.held.add((event.station, (whose, found.rule), _place(event), self._object(event, found) if self.option.json else
                        '%s%s: %s: %s' % (event.head, event.where, self.paint('fault', found.rule), found.meaning)))
 
     def _object(self, event, found):
@@ -88,19 +91,20 @@ class Findings:
     def write(self):
         """Writes and counts those of links, or of stations, of which the rules are judged."""
         fit = {station for one in self.read.judgements if one.is_fit for station in one.stations}
-        for station, rule, place, written in self.held.take():
+        for station, whose, place, written in self.held.take():
             if station not in fit:
                 continue
-            self.count += rule != RESTARTED
-            self.restarts += rule == RESTARTED
-            first, _, count = self.spans.get(rule, (place, place, 0))
-            self.spans[rule] = first, place, count + 1
+            self.count += whose[1] != RESTARTED
+            self.restarts += whose[1] == RESTARTED
+            first, _, count = self.spans.get(whose, (place, place, 0))
+            self.spans[whose] = first, place, count + 1
             (terminal.print_object if self.option.json else print)(written)
 
     def words(self):
-        """A line for each rule that is broken, and for restarts: how often, from when to when."""
-        for rule, (first, last, count) in self.spans.items():
-            yield '%s: %s' % (rule, 'once, ' + first if count == 1 else '%d times, first %s, last %s' % (count, first, last))
+        """A line for each rule that is broken, and for restarts: who, how often, from when to when, and what to do."""
+        for (whose, rule), (first, last, count) in self.spans.items():
+            often = 'once, ' + first if count == 1 else '%d times, first %s, last %s' % (count, first, last)
+            yield '%s: %s: %s. %s' % (whose, rule, often, CURES.get(rule, 'See --explain %s.' % rule))
 
     def look_for_late(self, batch, broken, counts):
         """Notes whether an answer that was not due came late or twice; `counts` are those above the lines."""
@@ -128,26 +132,28 @@ def run(option):
             counts.take(batch)
         for _, where, found in broken:
             findings.add(where, found)
+    said, counts = (judge.answers(counts), judge.total(counts)) if judge else ([], counts)
+    for one in said if counts.frames and not option.json else ():
+        print(one.line)
     findings.write()
     if not read.summary(says_forms=True):
         return statuses.LITTLE
     for words in () if option.quiet else findings.words():
         terminal.say(words)
-    return end(option, read, judge.total(counts) if judge else counts, judge, findings)
+    return end(option, read, counts, judge, findings, said)
 
 
-def end(option, read, counts, judge, findings):
-    """The summary, and the hints."""
+def end(option, read, counts, judge, findings, said):
+    """The summary, and the hints; `said` is the answer."""
     kinds = read.kinds
     left_out = counts.unjudged() + read.unjudged + Counter(skipped_lines=kinds[PASSED], frames_of_others=kinds[OTHER])
     late = {'late_answers': left_out['late_answers']} if option.late_answers else {}
     restarted = {'restarted': findings.restarts} if findings.restarts or option.json else {}
-    parts = {'parts_of_frames': kinds[PART]} if option.sdlc and (kinds[PART] or option.json) else {}
-    numbers = {**counts.in_short(), **late, 'breaches': findings.count, **restarted, **parts}
+    numbers = {**counts.in_short(), **late, 'breaches': findings.count, **restarted}
     stations = judge.rows() if judge else {}
     if option.json:
         remarks = [judgement.IN_SHORT[one.verdict] for one in read.judgements if one.verdict]
-        terminal.print_object({'summary': {**numbers, **({'remarks': remarks} if remarks else {}), **({'stations': stations} if stations else {}),
+        terminal.print_object({'summary': {**numbers, 'answer': answer_of(said), **({'remarks': remarks} if remarks else {}), **({'stations': stations} if stations else {}),
                                            **log.forms_numbers(*read.read_as()),
                                            'not_judged': unjudged_numbers(left_out)}})
     else:
@@ -160,7 +166,8 @@ def end(option, read, counts, judge, findings):
     is_little = judgement.say(read.judgements)
     for words in hints(option, read, counts, judge, findings) if judge and not judge.sign else ():
         terminal.say(words)
-    return statuses.of_log(findings.count, is_little)
+    is_lost = findings.restarts > 0 or any(one.answer.is_lost for one in said)
+    return statuses.of_log(findings.count, is_little or any(one.answer.is_little for one in said), is_lost)
 
 
 def hints(option, read, counts, judge, findings):

@@ -66,8 +66,8 @@ def in_words(name):
 
 def _timed(said):
     """The first line of a batch and the last that give frames and have a time; None if there is none."""
-    timed, kinds = said.timed, said.kinds
-    lines = range(len(kinds)) if 1 in timed else ()
+    timed, kinds = said.time_kinds, said.kinds
+    lines = range(len(kinds)) if any(timed) else ()
     return [next((line for line in part if timed[line] and kinds[line] == LOG_SAYS), None) for part in (lines, reversed(lines))]
 
 

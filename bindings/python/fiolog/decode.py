@@ -7,10 +7,10 @@ import sys
 from fio2070.constants import LOG_FROM_CPU
 
 from . import log, statuses, terminal
-from .event import BAD, BELOW, DAMAGED, DATED, DROPPED, END_OF_TIME, FRAME, LOSSES, MICRO, OTHER, WAITING, dated
+from .event import BAD, DAMAGED, DROPPED, END_OF_TIME, FRAME, LOSSES, OTHER, TIME_KINDS, WAITING, clock_of
 from .log_words import WAITING as UNSURE
-from .message import BLOCK, LETTERS, POLL, SENT_AGAIN, SHORT, TYPE_ANSWER, message_of, spells
-from .options import add_reading, line_range, message_type, number_in, status_letters
+from .message import BLOCK, SENT_AGAIN, SHORT, message_of, spells
+from .options import add_reading, number_in
 from .terminal import shown
 
 SPOKEN = FRAME, WAITING
@@ -33,12 +33,6 @@ def add_arguments(parser):
                            'is one, and entries or items')
     form.add_argument('--csv', action='store_true', help='a table; an entry a row')
     parser.add_argument('--input', type=number_in(0, 63), metavar='N', help='only messages with this input, and of them its lines')
-    parser.add_argument('--type', type=message_type, action='append', metavar='N', help='only this type: 49 to 60, 177 to 188, poll, block')
-    parser.add_argument('--block', type=number_in(0, 255), metavar='N', help='only polls and blocks with this number')
-    parser.add_argument('--status', type=status_letters, metavar='LETTERS', help='only blocks with one of these bits: C, F, E, G')
-    parser.add_argument('--unanswered', action='store_true', help='only polls without a block answer: `check` counts them as answers lost')
-    parser.add_argument('--direction', choices=('sent', 'heard'), help='only what the CPU sent or heard')
-    parser.add_argument('--lines', type=line_range, metavar='A-B', help='only these lines')
     parser.add_argument('--color', choices=('auto', 'always', 'never'), default='auto', help='colours (on a terminal)')
 
 
@@ -55,19 +49,6 @@ def fault_in(event):
 def spoken(event):
     """The message that a line says; None if it spells none."""
     return message_of(event.octets) if event.kind in SPOKEN or event.kind == OTHER and spells(event.octets) else None
-
-
-def conditions_of(option):
-    """What is asked for: conditions on a line and its message, which is None of a damaged one."""
-    bits, way = sum(LETTERS[letter] for letter in set(option.status or '')), {'sent': '>', 'heard': '<'}.get(option.direction)
-    conditions = [
-        (option.lines is not None, lambda event, message: event.number in option.lines),
-        (way, lambda event, message: event.direction == way),
-        (option.type, lambda event, message: message and message.code in option.type),
-        (bits, lambda event, message: message and message.code == BLOCK and message.fields['status'] & bits),
-        (option.block is not None, lambda event, message: message and message.fields.get('block') == option.block),
-        (option.input is not None, lambda event, message: message and parts_of(message, option.input))]
-    return [condition for is_given, condition in conditions if is_given]
 
 
 def parts_of(message, number):
@@ -107,14 +88,13 @@ class Text:
         return _NO_STAMP.split(self._says(octets + bytes(4), direction))
 
     def takes(self, batch):
-        """Whether the lines have a frame each, and a date or no time."""
-        times = set(batch.said.timed)
-        return batch.is_plain and not batch.others and (times == {0} or times == {1} and all(DATED * MICRO <= time < END_OF_TIME for time in batch.said.times()))
+        """Whether the lines have a frame each."""
+        return batch.is_plain and not batch.others and max(batch.said.times(), default=0) < END_OF_TIME
 
     def write_all(self, batch):
         """Writes lines that it takes."""
         rows = []
-        for number, time, octets, side in zip(batch.said.numbers(), batch.said.times(), batch.octets, batch.senders):
+        for number, time, kind, octets, side in zip(batch.said.numbers(), batch.said.times(), batch.said.time_kinds, batch.octets, batch.senders):
             direction = '>' if side == LOG_FROM_CPU else '<'
             if len(octets) < SHORT:
                 says = self.short(octets, direction)
@@ -122,7 +102,7 @@ class Text:
                 says = str(int.from_bytes(octets[4:], 'big')).join(self.empty(octets[:4], direction))
             else:
                 says = self._says(octets, direction)
-            rows.append('%-6s %s%s %s' % ('%d:' % number, dated(time) + ' ' if time else '', direction, says))
+            rows.append('%-6s %s%s %s' % ('%d:' % number, clock_of(time, TIME_KINDS[kind]) + ' ' if kind else '', direction, says))
         self.write(''.join(rows))
 
 
@@ -162,20 +142,6 @@ def as_csv(wanted):
     return line
 
 
-def unanswered(events):
-    """Yields each poll that has no block answer above the next command. Of one above a damaged line that is not known."""
-    poll = None
-    for event in events:
-        if event.kind == FRAME and event.octets[0] < TYPE_ANSWER:
-            if poll:
-                yield poll
-            poll = event if event.octets[0] == POLL else None
-        elif event.kind in (BELOW, *LOSSES) or event.kind == FRAME and event.octets[0] == BLOCK:
-            poll = None
-    if poll:
-        yield poll
-
-
 def others(read, text):
     """Writes the batches that a text takes at once, and yields the events of the others."""
     for batch in read.batches():
@@ -187,14 +153,13 @@ def others(read, text):
 
 def run(option):
     """Decodes the logs; a damaged line is as a breach."""
-    conditions = conditions_of(option)
-    is_text = not (option.json or option.csv)
-    line = Text(sys.stdout.write, terminal.painter(option.color), option.input) if is_text else (as_json if option.json else as_csv)(option.input)
+    is_text, wanted = not (option.json or option.csv), option.input
+    line = Text(sys.stdout.write, terminal.painter(option.color), wanted) if is_text else (as_json if option.json else as_csv)(wanted)
     read = log.Log(option, sys.stdout.flush)
-    for event in unanswered(read.events()) if option.unanswered else read.events() if conditions or not is_text else others(read, line):
+    for event in others(read, line) if is_text and wanted is None else read.events():
         if event.kind in SHOWN:
             message = spoken(event)
-            if all(condition(event, message) for condition in conditions):
+            if wanted is None or message and parts_of(message, wanted):
                 line(event.file or read.name, event, message)
     is_read = read.summary(says_forms=True)
     return statuses.of_log(is_read and any(read.kinds[kind] for kind in (BAD, DAMAGED, DROPPED)), not is_read)

@@ -20,12 +20,15 @@ JUDGED = FRAME, BAD, *LOSSES
 MISSING, HEADING = REASONS['loss'], REASONS['heading']
 # The octets that are kept of a line, at most.
 LONGEST_TEXT = 1 << 16
-# Times from here on have a date; an earlier one is a time of day if the line has one, else seconds since some start.
-DATED = 1e8
+# What a time counts from, as the library says it: 1970, midnight, or a start that the log does not name.
+DATE, OF_DAY, SINCE_START = 'date', 'day', 'start'
+# In the order of the library's numbers.
+TIME_KINDS = '', DATE, OF_DAY, SINCE_START
 # The year 10000, which no time of a log has, in microseconds.
 END_OF_TIME = 253_402_300_800_000_000
 MICRO = 1_000_000
-OF_DAY = re.compile(r'\d{1,2}:\d\d:\d\d(?:[.,]\d{1,18}|:\d{3}(?!\d))?')
+# A date of 1970 is one without a year.
+WITHOUT_YEAR = 365 * 86_400
 _COLOURS = re.compile('\x1b\\[[^A-Za-z]*[A-Za-z]')
 _MARKS = dict.fromkeys((0, 0xfeff))
 _LETTERS = 'ABCDEFGHIJKLMNOPQRSTUVWXYZabcdefghijklmnopqrstuvwxyz'
@@ -49,7 +52,7 @@ class Line(NamedTuple):
     has and that may be a message; DAMAGED for a line that a form has and that gives no frame, or frames that were lost on their way
     here; DROPPED for octets that are in no frame, beside what their line gives, and BELOW for the place below its frames; WAITING for
     a message that may go on in a line that has not come yet; PART for a line of a frame that ends below; BLANK; PASSED for any other.
-    `time` is in seconds, `direction` is `>` or `<`, `note` is the reason; `said` is what the log says of the direction, if it does;
+    `time` is in seconds, which count from what `time_kind` says; `direction` is `>` or `<`, `note` is the reason; `said` is what the log says of the direction, if it does;
     `file` is the name of its file, if it is one of several that are read as one log. Of a line with several messages `message` is
     which one it is, and `octet` which of all their octets is its first, both from 1. `header` is the address that stands before the
     message, with the control octet if there is one; `station` that address as it is shown, if the line has several stations."""
@@ -66,6 +69,7 @@ class Line(NamedTuple):
     octet: int = 0
     header: bytes = b''
     station: str = ''
+    time_kind: str = ''
 
     @property
     def where(self):
@@ -80,11 +84,8 @@ class Line(NamedTuple):
 
     @property
     def clock(self):
-        """The time as it is shown: a time of the day as the log writes it, one with a date in UTC."""
-        if self.time is None:
-            return ''
-        of_day = OF_DAY.search(self.text) if self.time < DATED else None
-        return of_day[0] if of_day else '%.6f' % self.time if self.time < DATED else dated(round(self.time * 1e6))
+        """The time as it is shown; empty if there is none."""
+        return '' if self.time is None else clock_of(round(self.time * MICRO), self.time_kind)
 
     @property
     def place(self):
@@ -113,14 +114,19 @@ def seconds_of(micro):
 
 
 @functools.lru_cache(maxsize=64)
-def _date(whole):
-    return time.strftime('%Y-%m-%d %H:%M:%S.', time.gmtime(whole))
+def _whole(seconds, kind):
+    """Whole seconds as they are shown."""
+    if kind == SINCE_START:
+        return '%d.' % seconds
+    date = '' if kind == OF_DAY else '%m-%d ' if seconds < WITHOUT_YEAR else '%Y-%m-%d '
+    return time.strftime(date + '%H:%M:%S.', time.gmtime(seconds))
 
 
-def dated(micro):
-    """A time with a date, in microseconds, as it is shown."""
-    whole, part = divmod(micro, MICRO)
-    return _date(whole) + ('%06d' % part if part % 1000 else '%03d' % (part // 1000))
+def clock_of(micro, kind):
+    """A time in microseconds as it is shown, by what it counts from: with its date in UTC, as a time of the day, or as seconds; with
+    microseconds if they are not 0, else with milliseconds."""
+    seconds, part = divmod(micro, MICRO)
+    return _whole(seconds, kind) + ('%06d' % part if part % 1000 else '%03d' % (part // 1000))
 
 
 def frame_of(number, octets, **line):

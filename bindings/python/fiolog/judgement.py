@@ -6,24 +6,27 @@ from collections import Counter
 
 import fio2070
 
+from .answer import Answer
 from .batch import batch_of
 from .event import BAD, FRAME, JUDGED, LOSSES
 from .late import ABOVE, is_owed
-from .log_words import SIDES, SIGNS
+from .log_words import REASONS, SIDES, SIGNS
 from .message import POLL
 from .rules import LOST_LINES
-from .terminal import say as _say
+from .terminal import say as _say, shown
 
 # Fewer frames do not show that a direction is missing.
 LEAST = 4
 # The octets of what is held in memory; more are in a temporary file.
 MOST_HELD = 1 << 20
-COMMANDS, ANSWERS, NOT_WHOLE, SILENT, FEW, NONE = 'commands', 'answers', 'not whole', 'silent', 'few', 'none'
-ONE_SIDED = COMMANDS, ANSWERS, NOT_WHOLE
+COMMANDS, ANSWERS, NOT_WHOLE, UNREAD, SILENT, FEW, NONE = 'commands', 'answers', 'not whole', 'unread', 'silent', 'few', 'none'
+ONE_SIDED = COMMANDS, ANSWERS, NOT_WHOLE, UNREAD
 # The sign that answers came late, and the rules that such an answer breaks.
 LATE, LATE_RULES = 'late answers', ('pair', 'number')
 # The verdicts on a log of which no rule is judged.
 UNFIT = (*SIGNS, *ONE_SIDED)
+# The note of a line of no form that has a frame.
+UNREAD_FRAME = REASONS['unread frame']
 _MERGE = ' (two files of one line: see --merge)'
 WORDS = {
     **SIGNS,
@@ -33,13 +36,14 @@ WORDS = {
     FEW: 'fewer than half of the messages that this log may have were judged: {judged} of {said}',
 }
 # As a row of a table says it.
-IN_SHORT = {**{sign: sign for sign in SIGNS}, COMMANDS: 'the commands alone', ANSWERS: 'the answers alone', NOT_WHOLE: 'no whole answer', SILENT: 'no answer came',
+IN_SHORT = {**{sign: sign for sign in SIGNS}, COMMANDS: 'the commands alone', ANSWERS: 'the answers alone', NOT_WHOLE: 'no whole answer',
+            UNREAD: 'frames of no form', SILENT: 'no answer came',
             FEW: 'fewer than half judged', NONE: 'no frame'}
 
 
 def say(judgements):
     """Says of logs why little of them can be judged; returns whether that is so."""
-    for words in dict.fromkeys(one.words for one in judgements if one.words):
+    for words in dict.fromkeys(shown(one.name) + ': ' * bool(one.name) + one.words for one in judgements if one.words):
         _say(words)
     return any(is_little(one.verdict) for one in judgements)
 
@@ -53,13 +57,14 @@ class Sides:
     """Which directions the frames of a log have."""
 
     def __init__(self):
-        self.commands = self.answers = self.lost = 0
+        self.commands = self.answers = self.lost = self.unread = 0
         self.polled, self.rises = None, False
 
     def add(self, event):
         """Takes a frame, or a line that may have held one."""
         if event.kind in LOSSES:
             self.lost += 1
+            self.unread += event.note == UNREAD_FRAME
         elif event.direction == '<':
             self.answers += 1
         else:
@@ -73,6 +78,8 @@ class Sides:
         frames."""
         if self.commands and self.answers or self.commands + self.answers < LEAST:
             return ''
+        if self.unread:
+            return UNREAD
         if self.answers:
             return ANSWERS
         return NOT_WHOLE if 2 * self.lost >= self.commands else COMMANDS if self.rises else SILENT
@@ -111,6 +118,7 @@ class Judgement:
         self.rules, self.name = rules, name     # the name of the log's file, if there are several logs
         self.is_open = is_open      # whether frames are judged from here on
         self.sides, self.held, self._signs = Sides(), Held(), fio2070.LogSigns()
+        self.answer, self._stretches = Answer(rules.limits), fio2070.LogStretches()
         self.frames = self.left_out = self.losses = 0
         self.verdict, self.words = '', ''
         self.stations = {''}    # the addresses by which the events of its findings have their station (stations.py)
@@ -127,6 +135,7 @@ class Judgement:
         self._signs.batch(batch.said, batch.as_said)
         told = []
         self.found = dict(self.rules.take(batch))
+        self.answer.take(batch, self._stretches, self._stretches.batch(batch.said, self.rules.judge))
         for frame, found in self.found.items():
             event = batch.event(frame)
             if self._is_late is not False:
@@ -176,6 +185,8 @@ class Judgement:
         judged, said = self.frames - self.rules.unjudged_frames - self.rules.begun_again, self.frames + self.losses
         self.verdict = (NONE if not self.frames else '') or self.sign or self.sides.verdict() or (FEW if 2 * judged < said else '')
         self.words = WORDS.get(self.verdict, '').format(judged=judged, said=said)
+        # A block that came late is not below the one that was made before it.
+        self.answer.end(not (self.sign or self.rules.unjudged['late_answers']), self.is_fit and self.rules.tells_all)
         held = self.held.take()
         return held if self.is_fit else ()
 

@@ -12,11 +12,9 @@ from .event import BAD, DAMAGED, FRAME, OTHER, Line, frame_of
 from .files import is_binary
 from .log_words import LINE
 from .options import BITS, HIGH_FIRST, OCTETS
-from .rules import WRONG_CHECK
 
-# The address and control octet of frames that are judged, if the caller names none; and those of any.
+# The address and control octet of frames that are judged, if the caller names none.
 OWN = (WIRE_ADDRESS, WIRE_CONTROL),
-ANY = (None, None),
 FLAG = b'\x7e'
 # A file that is neither a text nor what a line of SDLC carried.
 ROWS = 'rows'
@@ -64,7 +62,7 @@ def addressed(event, addresses):
 def event_of(heard, number, addresses, **line):
     """The event of what a line says at a flag; frames of these addresses are judged."""
     if heard.kind == 'damaged':
-        return Line(number, DAMAGED, note=WRONG_CHECK, **line)
+        return Line(number, DAMAGED, note=LINE['damaged'], **line)
     event = frame_of(number, heard.message, header=bytes((heard.address, heard.control)), **line)
     if heard.kind == 'other':
         return event._replace(kind=OTHER, note=words_of(event.header))

@@ -11,7 +11,7 @@ import subprocess
 import time
 
 from . import terminal
-from .event import BAD, DAMAGED, FRAME, Line, frame_of
+from .event import BAD, DAMAGED, DATE, FRAME, Line, frame_of
 from .options import OCTETS
 from .reader import Reader
 
@@ -58,7 +58,7 @@ class Lines:
     def _decided(self, read):
         now = time.time()
         for reader, events in zip(self.readers, self.events):
-            events += (event if event.time is not None else event._replace(time=now) for batch in read(reader) for event in batch.events())
+            events += (event if event.time is not None else event._replace(time=now, time_kind=DATE) for batch in read(reader) for event in batch.events())
         found = next((index for index, events in enumerate(self.events) if any(event.kind in (FRAME, BAD) for event in events)), None)
         if found is None and len(self.readers) > 1 and len(self.events[-1]) < MOST_UNDECIDED:
             return []
@@ -123,7 +123,7 @@ class Datagrams:
             yield Line(self.number, DAMAGED, note='dropped by the system: %d datagrams' % self.unsaid)
             self.unsaid = 0
         if octets:
-            yield frame_of(self.number, octets, time=time.time())
+            yield frame_of(self.number, octets, time=time.time(), time_kind=DATE)
 
     def end(self):
         """Nothing is held."""

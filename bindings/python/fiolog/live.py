@@ -111,7 +111,8 @@ class Station:
         self._flush()
         silence = time.monotonic() - self.last
         numbers = self.numbers(silence > QUIET).items()
-        terminal.status.show(', '.join('%s %d' % pair for pair in numbers if pair[1] or pair[0] in ALWAYS)
+        state = [one.answer.state for one in self.said() if one.answer.state]
+        terminal.status.show(', '.join([*dict.fromkeys(state), *('%s %d' % pair for pair in numbers if pair[1] or pair[0] in ALWAYS)])
                              + (', silent for %d s' % silence if silence > QUIET else ''))
 
     def _flush(self):
@@ -130,10 +131,16 @@ class Station:
         broken = {name: count for name, count in self.broken.items() if count or name != 'restarted'}
         return {**numbers, **broken, **{words: count for words, count in others.items() if count}}
 
+    def said(self):
+        """What is said of the transitions by now."""
+        return self.stations.answers(self.counts)
+
     def end(self):
-        """The summary; returns the status. What was said of a log that does not look like that of one link is taken back."""
+        """The answer and the summary; returns the status. What was said of a log that does not look like that of one link is taken back."""
         self.add(self.source.end())
         self._name(self.stations.end())
+        said = self.said()
+        self._write(''.join(one.line + '\n' for one in said if self.counts.frames))
         self._write(', '.join('%s %d' % pair for pair in self.numbers().items()) + '\n')
         for address, row in self.stations.rows().items():
             self._write('address %s: %s\n' % (address, check.numbers_words(row)))
@@ -146,7 +153,10 @@ class Station:
         if not self.counts.frames:
             log.say_others(self.source.reader.others)
             terminal.say('no frame came')
-        return statuses.of_log(any(one.is_fit for one in judgements) and self.broken['breaches'] + self.broken['breaches in content'], is_little)
+        is_fit = any(one.is_fit for one in judgements)
+        return statuses.of_log(is_fit and self.broken['breaches'] + self.broken['breaches in content'],
+                               is_little or any(one.answer.is_little for one in said),
+                               is_fit and self.broken['restarted'] or any(one.answer.is_lost for one in said))
 
 
 def run(option):

@@ -12,7 +12,7 @@ from . import captures
 from .batch import made_of
 from .event import BAD, BLANK, DAMAGED, DROPPED, FRAME, LOSSES, PASSED, POSSIBLE, text_of
 from .counts import reasons_in_words
-from .reader import CHECKED, UNCHECKED, Reader
+from .reader import Reader
 from .terminal import say, shown, status
 
 CHUNK = 1 << 16
@@ -80,9 +80,7 @@ def _opened(name):
 
 def settings_of(option):
     """The reader's settings, by the options of the command line."""
-    framing = '' if not option.sdlc else UNCHECKED if option.no_check else CHECKED
-    return {'form': option.format, 'pattern': option.pattern, 'framing': framing, 'line': option.line, 'address': option.address,
-            'like': option.like}
+    return {'form': option.format, 'pattern': option.pattern, 'line': option.line, 'address': option.address, 'like': option.like}
 
 
 def has_several(option):
@@ -92,15 +90,17 @@ def has_several(option):
 
 class Log:
     """Goes through the lines of the files. `idle` is called before each read that may wait. If the command writes
-    as it reads, `writes` is true: then a terminal has no progress bar beside what is written."""
+    as it reads, `writes` is true: then a terminal has no progress bar beside what is written. If it `goes_on`, a file that cannot be read
+    does not end it."""
 
-    def __init__(self, option, idle=lambda: None, writes=True):
+    def __init__(self, option, idle=lambda: None, writes=True, goes_on=False):
         self.option, self.idle, self.writes = option, idle, writes
         self.readers, self.name = [Reader(**settings_of(option)) for _ in option.files], '-'
         self.has_several = has_several(option)
         self.balance = 0    # of how many more frames the log says another sender than that of their type: above 0 it is of the module's end
         self.judgements, self.unjudged = [], Counter()  # of each file that is judged, and what of them is not, by its reason
         self.others = Counter()     # of frames that are judged for no station, by what is said of them
+        self.goes_on, self.faults = goes_on, {}     # why files cannot be read, by their names
         self._first = None      # the octets with which the first file begins
         self._unnamed = []      # lines of the present batch that are to be named, each with its index
 
@@ -139,10 +139,25 @@ class Log:
             yield from batches
 
     def _named(self, batches):
-        for batch in batches:
+        for batch in self._readable(batches) if self.goes_on else batches:
             self._unnamed = [one for one in batch.others if one[1].kind in (PASSED, *LOSSES)] if self.option.verbose else []
             yield batch
             self.name_passed(len(batch.kinds))
+
+    def _readable(self, batches):
+        """These lines, to the end of what can be read."""
+        try:
+            yield from batches
+        except OSError as fault:
+            if fault.filename not in (self.name, 'standard input'):
+                raise
+            self.faults[self.name] = fault.strerror or str(fault)
+            say('%s: %s' % (shown(self.name), self.faults[self.name]))
+
+    def empty(self):
+        """The names of several files, of those without a frame that could be read."""
+        return [name for name, reader in zip(self.option.files, self.readers)
+                if self.has_several and name not in self.faults and not reader.kinds[FRAME] + reader.kinds[BAD]]
 
     def name_passed(self, line):
         """Names the lines that are passed over above this one of the batch."""
@@ -167,7 +182,7 @@ class Log:
         from . import merge
         streams = [self._octets_of(name) for name in self.option.files]
         firsts = [next(stream, b'') for stream in streams]
-        if self.option.format == 'auto' and not (self.option.like or self.option.pattern or self.option.sdlc or self.option.line):
+        if self.option.format == 'auto' and not (self.option.like or self.option.pattern or self.option.line):
             for reader, samples in zip(self.readers, merge.samples_of(firsts)):
                 reader.learn(samples)
         both = merge.Merge([merge.File(name, (event for batch in reader.read(itertools.chain([first], stream)) for event in batch.events()))
@@ -239,14 +254,11 @@ class Log:
     def _remarks(self, kinds):
         """What is said of the lines that give no frame."""
         passed, possible, damaged, dropped, lines = kinds[PASSED], kinds[POSSIBLE], self.damaged, kinds[DROPPED], self._lines()
-        reasons, names, flagged = self.reasons, '' if self.option.verbose else ' (-v names each)', sum(reader.flagged for reader in self.readers)
+        reasons, names = self.reasons, '' if self.option.verbose else ' (-v names each)'
         if passed:
             yield '%d of %d line%s skipped: %s%s' % (passed, lines, 's' * (lines != 1), reasons_in_words(reasons), names)
         for reader in self.readers:
             yield from reader.sizes()
-        if flagged and not self.option.sdlc:
-            yield '%d line%s a flag, address and control octet of SDLC, and no frame that is read: try --sdlc' % (
-                flagged, ' has' if flagged == 1 else 's have')
         if damaged:
             yield '%d damaged line%s may have held a frame: nobody is accused up to the next poll%s' % (damaged, 's' * (damaged > 1), names)
         if dropped:

@@ -7,13 +7,14 @@ from functools import partial, reduce
 from operator import add
 
 from . import judgement, log, options, statuses, terminal
+from .answer import COLUMNS as OF_ANSWER, answer_of
 from .counts import OF_LINES, UNJUDGED, in_words, unjudged_numbers, unjudged_words
 from .output import Refused
 from .summary import Summary, summary_of
 from .terminal import shown
 
 # What a row has; the first columns say which log is the worst.
-COLUMNS = ('breaches', 'restarted', 'damaged', 'gap_marks', 'answers_lost', 'repeats', 'polls', 'frames')
+COLUMNS = ('breaches', 'restarted', 'gap_marks', 'damaged', 'answers_lost', 'repeats', 'polls', 'frames')
 
 
 def files_of(names):
@@ -51,9 +52,12 @@ def numbers(summary):
 
 
 def first_words(summary):
-    """The first breach, else the first restart, else the remarks."""
+    """The first breach, else the first place where transitions are lost, else the first restart, else the remarks."""
     if summary.first_breach:
         return 'line %d: %s' % summary.first_breach[:2]
+    lost = [place['line'] for one in summary.said for place in one.answer.places if place['lost']]
+    if lost:
+        return 'line %d: transitions are lost' % min(lost)
     if summary.first_restart:
         return 'line %d: restarted' % summary.first_restart
     return remarks(summary)
@@ -75,7 +79,8 @@ def write_json(rows, faults, total, counts_alone):
     def object_of(one):
         key, _, missing = left_out(one, counts_alone)
         verdicts = {'remarks': {judgement.IN_SHORT[name]: count for name, count in one.verdicts.items()}} if one.verdicts else {}
-        return {**numbers(one), **verdicts, key.replace(' ', '_'): missing, 'rules': dict(one.broken),
+        answer = {} if counts_alone else {'answer': answer_of(one.said) if one.said else one.answer.object()}
+        return {**numbers(one), **answer, **verdicts, key.replace(' ', '_'): missing, 'rules': dict(one.broken),
                 **({'stations': one.stations} if one.stations else {})}
     for name, one in rows:
         terminal.print_object({'file': shown(name), **object_of(one), 'first': one.first_breach})
@@ -87,12 +92,12 @@ def write_json(rows, faults, total, counts_alone):
 def write_csv(rows, faults):
     """A row for each file: its numbers, what is not judged, how often each rule is broken, and where the first breach is."""
     import csv
-    table, names = csv.writer(sys.stdout, lineterminator='\n'), [*COLUMNS, 'lines']
-    missing = [name for name in UNJUDGED if name not in (*names, 'restarts')]
+    table, names = csv.writer(sys.stdout, lineterminator='\n'), [*COLUMNS, *OF_ANSWER, 'lines']
+    missing = [name for name in UNJUDGED if name not in names]
     table.writerow(['file', *names, *missing, *options.NAMES, 'first_line', 'first_rule', 'remark', 'fault'])
     for name, one in rows:
-        found, (line, rule, _) = {**numbers(one), 'lines': one.lines}, one.first_breach or ('', '', '')
-        table.writerow([shown(name), *(found[column] for column in names), *(one.left_out[column] for column in missing),
+        found, (line, rule, _) = {**numbers(one), **answer_of(one.said), 'lines': one.lines}, one.first_breach or ('', '', '')
+        table.writerow([shown(name), *(found.get(column) for column in names), *(one.left_out[column] for column in missing),
                         *(one.broken[column] for column in options.NAMES), line, rule, remarks(one), ''])
     for name, words in faults:
         table.writerow([shown(name), *[''] * (len(names) + len(missing) + len(options.NAMES) + 3), shown(words)])
@@ -139,8 +144,8 @@ def run(option, counts_alone=False):
         write_csv(rows, faults)
     else:
         (write_json if option.json else write_table)(rows, faults, total, counts_alone)
-    is_little = any(judgement.is_little(one, counts_alone) for one in total.verdicts)
+    is_little = any(judgement.is_little(one, counts_alone) for one in total.verdicts) or total.partial and not counts_alone
     if len(done) < count:
         terminal.say('ended: %d of %d logs were read' % (len(done), count))
         return statuses.ENDED
-    return statuses.FAILED if faults else statuses.of_log(total.breaches and not counts_alone, is_little)
+    return statuses.FAILED if faults else statuses.of_log(total.breaches and not counts_alone, is_little, total.is_lost and not counts_alone)

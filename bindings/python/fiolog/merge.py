@@ -5,7 +5,7 @@ import itertools
 
 import fio2070
 
-from .event import DATED, FRAME, LOSSES, OF_DAY, PART
+from .event import DATE, FRAME, LOSSES, OF_DAY, PART, SINCE_START
 from .message import AGAIN, BLOCK, POLL, TYPE_ANSWER
 from .output import Refused
 from .terminal import shown
@@ -13,7 +13,7 @@ from .terminal import shown
 DAY = 86_400
 # How many lines of a file show how the others of it are written.
 SAMPLES = 8
-DATE, CLOCK, SECONDS = 'a date', 'a time of day', 'seconds'
+WORDS = {DATE: 'a date', OF_DAY: 'a time of day', SINCE_START: 'seconds'}
 
 
 def _lines_of(octets, numbers_of):
@@ -43,21 +43,20 @@ class File:
 
     def __init__(self, name, events):
         self.name, self.events, self.held = name, events, []
-        self.form = self.head = self.first = self.last = None
+        self.kind = self.head = self.first = self.last = None
         self.days, self.direction, self.is_of_day = 0, '', False
         for event in events:
             self.held.append(event)
             if event.kind == FRAME:
                 if event.time is None:
                     raise Refused('%s line %d: --merge needs a time at the first frame of a file' % (shown(name), event.number))
-                self.form = DATE if event.time >= DATED else CLOCK if OF_DAY.search(event.text) else SECONDS
-                self.last = event.time
+                self.kind, self.last = event.time_kind, event.time
                 break
 
     def begin(self, is_of_day):
         """Goes to the first event; `is_of_day` says that dates do not count."""
         self.is_of_day = is_of_day
-        self.first = self.last = self._time(self.last) if self.form else 0
+        self.first = self.last = self._time(self.last) if self.kind else 0
         self.next()
 
     def _time(self, time):
@@ -71,7 +70,7 @@ class File:
         self.direction = self.head.direction or self.direction
         if self.head.time is not None:
             time = self._time(self.head.time) + DAY * self.days
-            if self.form != SECONDS and time < self.last - DAY / 2 and time < DATED:
+            if self.is_of_day and time < self.last - DAY / 2:
                 self.days, time = self.days + 1, time + DAY
             self.last = max(self.last, time)
 
@@ -81,11 +80,11 @@ class Merge:
 
     def __init__(self, files):
         self.files, self.command = files, None     # the latest command, until it is answered
-        forms = {one.form for one in files if one.form}
-        if SECONDS in forms and len(forms) > 1:
-            raise Refused('the files have different times: ' + ', '.join('%s %s' % (shown(one.name), one.form) for one in files if one.form))
+        kinds = {one.kind for one in files if one.kind}
+        if SINCE_START in kinds and len(kinds) > 1:
+            raise Refused('the files have different times: ' + ', '.join('%s %s' % (shown(one.name), WORDS[one.kind]) for one in files if one.kind))
         for one in files:
-            one.begin(CLOCK in forms)
+            one.begin(OF_DAY in kinds)
 
     def __iter__(self):
         left = [one for one in self.files if one.head]
@@ -113,7 +112,7 @@ class Merge:
     @property
     def is_apart(self):
         """Whether a file ends before another begins."""
-        timed = [one for one in self.files if one.form]
+        timed = [one for one in self.files if one.kind]
         return len(timed) > 1 and max(one.first for one in timed) > min(one.last for one in timed)
 
 

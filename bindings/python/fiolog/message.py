@@ -11,7 +11,6 @@ from .fields import BITS, FIELDS
 
 BLOCK = POLL + TYPE_ANSWER
 # The bits of a block's status.
-LETTERS = {letter: bit for letter, bit, _ in BITS[BLOCK, 'status']}
 # What the row of a repeated block says.
 SENT_AGAIN = 'E: sent again'
 # Messages of fewer octets are kept.

@@ -3,19 +3,15 @@ its range."""
 
 import argparse
 import os
-import sys
 
 from fio2070.constants import WIRE_CONTROL
 
-from .fields import FIELDS
-from .message import BLOCK, LETTERS, POLL
 from .output import Refused
 from .protocol import BLOCK_ENTRIES, CONTENT_RULES, MOST_WAITING, RULES, SOURCES, STANDARD_WAITING
 
 FORMS = 'auto', 'frames', 'transcript'
 # What a line carried.
 OCTETS, BITS, HIGH_FIRST = LINES = 'octets', 'bits', 'bits-high-first'
-TYPES = {'poll': POLL, 'block': BLOCK}
 # More jobs than that are a mistake.
 MOST_ASKED = 1_000_000
 NAMES = [name for rules in (RULES, CONTENT_RULES) for name, _ in rules.values()]
@@ -32,27 +28,6 @@ def number_in(low, high):
         return number
     read.__name__ = 'number from %d to %d' % (low, high)
     return read
-
-
-def counted(low, high, first, last):
-    """A count and a number, as `60:20`."""
-    read_count, read_number = number_in(low, high), number_in(first, last)
-
-    def read(text):
-        count, colon, number = text.partition(':')
-        if not colon:
-            raise ValueError(text)
-        return read_count(count), read_number(number)
-    read.__name__ = 'number from %d to %d, a colon, and a number from %d to %d' % (low, high, first, last)
-    return read
-
-
-def message_type(text):
-    """A type of message, by its number or name."""
-    number = TYPES.get(text) or (int(text) if text.isascii() and text.isdigit() else 0)
-    if number not in FIELDS:
-        raise argparse.ArgumentTypeError('%r is no type: 49 to 60, 177 to 188, poll or block' % text)
-    return number
 
 
 def line_addresses(text):
@@ -81,30 +56,12 @@ def samples(text):
         raise argparse.ArgumentTypeError('%s: %s' % (text[1:], fault.strerror)) from None
 
 
-def status_letters(text):
-    """Letters of bits of a block's status."""
-    if not text or set(text.upper()) - set(LETTERS):
-        raise argparse.ArgumentTypeError('%r has other letters than C, F, E and G' % text)
-    return text.upper()
-
-
-def line_range(text):
-    """Line numbers: `A`, `A-B`, or `A-` for all from A on."""
-    first, dash, last = text.partition('-')
-    if not first.isdigit() or last and not last.isdigit() or last and int(last) < int(first):
-        raise argparse.ArgumentTypeError('%r is no range of lines, such as 10-20 or 10-' % text)
-    return range(int(first), int(last or first) + 1 if last or not dash else sys.maxsize)
-
-
 # The options of several commands.
 _SHARED = {
     'files': {'nargs': '*', 'default': ['-'], 'metavar': 'FILE', 'help': 'logs; - is standard input, the default'},
     '--format': {'choices': FORMS, 'default': 'auto', 'metavar': 'NAME',
                  'help': 'auto (the default); frames or transcript: as `fio2070 show` and `check` read lines'},
     '--pattern': {'metavar': 'REGEX', 'help': 'a regular expression with the group octets (hexadecimal digits), and if you like time and dir'},
-    '--sdlc': {'action': 'store_true', 'help': 'each line ends with frames that have address, control and frame check; with flags, a frame '
-                                               'may go on in the next line, or row of a dump'},
-    '--no-check': {'action': 'store_true', 'help': 'with --sdlc: each line ends with one frame, without the frame check'},
     '--line': {'choices': LINES, 'default': '', 'metavar': 'FORM',
                'help': 'the file is what a line carried: octets, or bits (bits-high-first), one a clock, as a text of 0 and 1 or eight to an octet'},
     '--address': {'type': line_addresses, 'action': 'extend', 'metavar': 'HEX',
@@ -138,7 +95,7 @@ def add(parser, *names):
 
 def add_reading(parser):
     """Adds the options of all that read logs."""
-    add(parser, 'files', '--format', '--pattern', '--sdlc', '--no-check', '--line', '--address', '--like', '--merge', '-v --verbose', '-q --quiet')
+    add(parser, 'files', '--format', '--pattern', '--line', '--address', '--like', '--merge', '-v --verbose', '-q --quiet')
 
 
 def add_place(parser):

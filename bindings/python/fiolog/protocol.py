@@ -34,7 +34,7 @@ CONTENT_RULES = {
 
 # What a right link does by a rule on content, and when that is judged.
 RIGHT = {
-    'order': 'An entry is later than the entry above it, or has its time and a higher input. Judged if a clear block is above the upper entry, the blocks of both are not late, and no load of the counter excuses it.',
+    'order': 'An entry is later than the entry above it, or has its time and a higher input, if no block without C ends between them. Judged if a clear block is above the upper entry, the blocks of both are not late, and no load of the counter excuses it.',
     'fresh': 'An entry is later than the stamp of the latest block without C, which had all entries up to that stamp. Judged if that block or one above it is clear, the block of the entry is not late, and no load of the counter excuses it.',
     'alternate': 'The entries of an input have the states 0 and 1 in turn. Judged if the input is watched from the earlier entry on.',
     'apart': 'An entry of an input follows the one before no sooner than the filter for its change lets it. Judged if a clear block is above the earlier entry, the blocks of both are not late, and no load of the counter excuses it. The filter is the least that can be in force: at first 1; an item that is sent can lower it; a block that settles the input sets it to its last item, if the answer to that says done.',
@@ -73,6 +73,6 @@ SOURCES = {
 
 # What a breach of `advance` means, if the number is ahead of the block that was due, or behind.
 ADVANCE = {
-    'ahead': 'the CPU went on without an answer, and what block {due} had is lost, which TEES allows; or the log lost a line',
+    'ahead': 'the CPU went on without an answer, and what block {due} had may be lost, which TEES allows; or the log lost a line',
     'behind': 'the CPU asks again for a block that was answered; or it did not hear that answer, and the log is not its own',
 }

@@ -1,7 +1,6 @@
 """The lines of a log: its texts, the frames that libfio2070 finds in them (docs/CAPTURES.md), or those of what a line carried, and
 what is counted of its lines."""
 
-import re
 from collections import Counter
 
 import fio2070
@@ -13,11 +12,6 @@ from .line import OWN, ROWS, Beginning, Raw, addressed
 from .log_words import REASONS
 from .options import FORMS
 from .output import Refused
-
-# Frames of SDLC with their checks, or without.
-CHECKED, UNCHECKED = 'checked', 'unchecked'
-# How a frame of SDLC begins, with its flag.
-_FLAGGED = re.compile(rb'7[eE](?:[ ,:;|-]|0[xX]|\\x)*14(?:[ ,:;|-]|0[xX]|\\x)*83')
 
 
 class Texts:
@@ -115,7 +109,7 @@ class Found(Texts):
     def _bad(self, event):
         """The event of a line with octets that spell no message."""
         is_transcript = self.form == 'transcript'
-        frame = frame_of(event.number, bytes.fromhex(event.text[2 * is_transcript:]), raw=event.raw, time=event.time, said=event.said)
+        frame = frame_of(event.number, bytes.fromhex(event.text[2 * is_transcript:]), raw=event.raw, time=event.time, time_kind=event.time_kind, said=event.said)
         return frame._replace(direction=event.said) if is_transcript else frame
 
 
@@ -146,24 +140,23 @@ class Octets(Found):
 
 
 class Reader:
-    """Makes batches of the octets of a log, in pieces of any length. `form` is one of FORMS; `pattern` and `framing` are those of
-    ByOrder; `line` is one of line.LINES for what a line carried, which is also seen by its beginning; `address` are the addresses of the
-    frames that are judged, each with its control octet, both None for any; `like` are sample lines of a text."""
+    """Makes batches of the octets of a log, in pieces of any length. `form` is one of FORMS; `pattern` is the
+    caller's expression; `line` is one of line.LINES for what a line carried, which is also seen by its beginning; `address` are the
+    addresses of the frames that are judged, each with its control octet, both None for any; `like` are sample lines of a text."""
 
-    def __init__(self, form='auto', pattern=None, framing='', line='', address=None, like=()):
+    def __init__(self, form='auto', pattern=None, line='', address=None, like=()):
         self.kinds, self.reasons, self.damages = Counter(), Counter(), Counter()    # the reasons of lines passed over, and of damaged ones
         self.others = Counter()     # of frames that are not judged, by what is said of their address
-        self.flagged = 0            # lines with the beginning of a frame of SDLC that give no frame
         self.addresses = tuple(address or ())
-        if address and not framing and (pattern or form != 'auto'):
+        if address and (pattern or form != 'auto'):
             raise Refused('--address: the frames of %s have no address' % ('a --pattern' if pattern else 'a text of this --format'))
         self.as_said = form == FORMS[-1]    # whether the lines say themselves who sent a frame
-        if pattern or framing:
-            from .by_order import ByOrder
-            self.text = ByOrder(pattern, framing, self.addresses)
+        if pattern:
+            from .pattern import ByPattern
+            self.text = ByPattern(pattern)
         else:
             self.text = Found(form, like, self.addresses)
-        may_be_line = form == 'auto' and not pattern and not like and framing in ('', CHECKED)
+        may_be_line = form == 'auto' and not pattern and not like
         self.way = Raw(line, self.addresses or OWN) if line else None if may_be_line else self.text
         self.beginning = Beginning(self.addresses or OWN)
 
@@ -230,7 +223,6 @@ class Reader:
         for _, event in batch.others:
             if event.kind in (PASSED, DAMAGED):
                 (self.reasons if event.kind == PASSED else self.damages)[event.note] += 1
-                self.flagged += self.way is self.text and event.note in REASONS.values() and bool(_FLAGGED.search(event.raw))
             elif event.kind == OTHER:
                 self.others[event.note] += 1
         return batch

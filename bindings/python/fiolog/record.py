@@ -1,7 +1,8 @@
 """`fiolog record`: what the CPU learned: the record of the proved CPU's end, which heard the answers of the log, each breach of a
-rule, and where the module restarted."""
+rule, and where the module restarted; of each file and each station by itself."""
 
 import sys
+from collections import defaultdict
 from itertools import chain, groupby
 from operator import itemgetter
 
@@ -24,17 +25,19 @@ ENOUGH = 64
 # The count and the status of a block that says nothing, and its length.
 _EMPTY, EMPTY = bytes(2), 8
 COLUMNS = ['line', 'time', 'input', 'state', 'stamp', 'wide']
+# The sign of a log whose frames are of several modules: together they are no record.
+MIXED = 'two links'
 
 
 def add_arguments(parser):
     options.add_reading(parser)
     options.add_place(parser)
+    options.add(parser, '-r --recursive')
     form = parser.add_mutually_exclusive_group()
     form.add_argument('--text', action='store_true', help='as `fio2070 record` writes it, to the first breach or restart')
     form.add_argument('--json', action='store_true', help='one object a line: an item, with `breaks` a breach, or with `outcome` a restart')
-    form.add_argument('--csv', action='store_true', help='a table; an item, a breach or a restart a row')
+    form.add_argument('--csv', action='store_true', help='a table; an item, a breach or a restart a row, with its file and address')
     form.add_argument('--vcd', action='store_true', help='a VCD file; breaches and restarts on standard error')
-    form.add_argument('--plot', metavar='FILE', help='a picture of the inputs over time, as .png, .svg or .pdf (by matplotlib)')
     hires.add_arguments(parser)
 
 
@@ -68,51 +71,68 @@ class Hearing:
 
 
 class Record:
-    """The record of a log as it is read: breaches are counted. It begins anew with each log, as text at its first command."""
+    """The record of each log, or of each station of one, as it is read: breaches are counted. It begins anew with each, as text at its
+    first command. If it `is_drawn`, it is of one station, and blocks that add nothing are there too."""
 
-    def __init__(self, read, option):
+    def __init__(self, read, option, is_drawn=False, is_of_one=False):
         self.faults, self.read, self.option = 0, read, option
+        self.is_drawn, self.is_of_one = is_drawn, is_of_one
 
-    def _taken(self, is_drawn=False):
-        """What each frame adds to the record or breaks, where it does either, and each block that is taken if it `is_drawn`: what judges
-        its log, its event, the items or None, and the breach or restart or None."""
-        hearing, heard_by = Hearing(), None
-        for batch, broken, judgement in judged(self.read, self.option):
-            if judgement.parts:
-                raise Refused('this log has the frames of several stations: record each by itself, with --address (%s)'
-                              % ', '.join(judgement.rows()))
+    def _taken(self):
+        """What each frame adds to the record or breaks, if it does either: what judges it, its event, the items or None, and the breach or
+        restart or None; of all but what judges None at the end of a log."""
+        heard, steps = defaultdict(Hearing), []
+
+        def hear(batch, part, judgement, broken):
+            station = max(judgement.stations)
+            for frame, event, *step in self._of_batch(part, broken, judgement, heard[judgement]):
+                event = judgement.named((event or part.event(frame))._replace(station=station))
+                steps.append((batch.frame_in(part, frame), judgement, event, *step))
+        for batch, broken, judge in judged(self.read, self.option, seen=hear):
+            if judge.parts and self.is_of_one:
+                raise Refused('%s has the frames of several stations: record each by itself, with --address (%s)'
+                              % (shown(self.read.name), ', '.join(judge.rows())))
+            for frame, judgement, event, items, found, due in sorted(steps, key=itemgetter(0)):
+                self.read.name_passed(batch.line_of(frame))
+                if due is None:
+                    yield judgement, event, items, found
+                else:
+                    _say_jump(event, due)
+            steps.clear()
             if not batch:
-                yield from ((judgement, judgement.named(where), None, found) for _, where, found in broken)
-                continue
-            if judgement is not heard_by:
-                hearing, heard_by = Hearing(), judgement
-            for frame, where, items, found in self._of_batch(batch, broken, judgement, hearing):
-                if items or found or is_drawn:
-                    self.read.name_passed(batch.line_of(frame))
-                    yield judgement, judgement.named(where or batch.event(frame)), items, found
+                of_station = {station: one for one in judge.judgements for station in one.stations}
+                yield from ((of_station[where.station], judge.named(where), None, found) for _, where, found in broken)
+                yield from ((one, None, None, None) for one in judge.judgements)
+                heard.clear()
 
-    def _settled(self, is_drawn=False):
-        """The same, but no breach and no restart of a log that does not look like that of one link: what the first frames add is kept
-        until they show it."""
-        for judgement, part in groupby(self._taken(is_drawn), itemgetter(0)):
-            kept, held = [], Held()
-            for one in chain(part, [None]):
-                kept.append(one)
-                if one is None or judgement.frames >= ENOUGH:
-                    yield from (self._told(*some, held) for some in kept if some)
-                    kept.clear()
-            yield from (self._told(judgement, event, None, found, held) for event, found in held.take() if not judgement.sign)
+    def _settled(self):
+        """The same, but no breach and no restart of a log that does not look like that of one link, and nothing of one that looks like
+        several: this is held as long as it does, and what the first frames add until they show it."""
+        rows, broken = defaultdict(Held), defaultdict(Held)
+        for judgement, event, *row in self._taken():
+            kept = rows[judgement]
+            if event and (judgement.frames < ENOUGH or judgement.sign == MIXED):
+                kept.add((event, *row))
+                continue
+            if judgement.sign != MIXED:
+                yield from (self._told(judgement, *one, broken[judgement]) for one in kept.take())
+            if event:
+                yield self._told(judgement, event, *row, broken[judgement])
+            else:
+                yield from (self._told(judgement, *one, broken[judgement]) for one in broken.pop(judgement, Held()).take() if not judgement.sign)
+                del rows[judgement]
 
     def _told(self, judgement, event, items, found, held):
         """What a frame adds or breaks; what it breaks is held as long as the log does not look like that of one link."""
         if found and judgement.sign:
-            held.add((event, found))
+            held.add((event, None, found))
             found = None
         self.faults += found is not None and not found.is_restart
         return judgement, event, items, found
 
     def _of_batch(self, batch, broken, judgement, hearing):
-        """What each frame adds or breaks: its index, the event of a breach that was held, the items of a block that is taken, and the breach."""
+        """What each frame adds or breaks: its index, the event of a breach that was held, the items of a block that is taken, the breach, and
+        of a poll for another block than the one that was due which one that was."""
         first, frames, told = judgement.commands_from if self.option.text else 0, batch.octets, {}
         for frame, where, found in broken:
             told.setdefault(frame, []).append((where, found))
@@ -125,25 +145,20 @@ class Record:
                 if one is judgement.found.get(frame):
                     found = one
                 else:
-                    yield frame, where, None, one
+                    yield frame, where, None, one, None
             if octets[:1] == _BLOCK:
                 items = hearing.hear(octets) if frame >= first and (octets[2:4] == _EMPTY and len(octets) == EMPTY or spells(octets)) else None
             elif octets[:1] == _POLL and len(octets) == 2:
                 due = hearing.note(octets[1])
                 if due is not None and frame >= judgement.answers_from and frame not in judgement.found and not judgement.sign:
-                    self._say_jump(batch.line_of(frame), judgement.named(batch.event(frame)), due, octets[1])
-            if items is not None or found:
-                yield frame, None, items, found
-
-    def _say_jump(self, line, where, due, asked):
-        """Says that a poll is for another block than the one that was due."""
-        self.read.name_passed(line)
-        terminal.say('%sline %d: block %d was due by what was heard, the CPU asked for %d' % (where.head, where.number, due, asked))
+                    yield frame, None, None, None, due
+            if items or found or items is not None and self.is_drawn:
+                yield frame, None, items, found, None
 
     def logs(self):
         """The blocks of each log that were taken, as they are drawn, with the name of its file if there are several; breaches and
         restarts are said."""
-        for judgement, part in groupby(self._settled(True), itemgetter(0)):
+        for judgement, part in groupby(self._settled(), itemgetter(0)):
             yield judgement.name, self._blocks(part)
 
     def _blocks(self, part):
@@ -165,6 +180,21 @@ class Record:
             yield from ((event, item, None) for item in items[place:])
 
 
+def _say_jump(event, due):
+    """Says that a poll is for another block than the one that was due."""
+    terminal.say('%s%s: block %d was due by what was heard, the CPU asked for %d' % (event.head, event.where, due, event.octets[1]))
+
+
+def _station(event):
+    """How a row of the table begins that is of one of several stations."""
+    return 'address %s ' % event.station if event.station else ''
+
+
+def _address(event):
+    """The address of a frame, if there is one before its message."""
+    return event.header[:1].hex().upper()
+
+
 def item_words(item):
     """An item as `fio2070 record` writes it."""
     return 'gap' if item.gap else 'input %d state %d stamp %d wide %d' % item[1:]
@@ -174,9 +204,9 @@ def write(record):
     """A table: the items with their lines, and the breaches and restarts in between."""
     for event, item, found in record.parts():
         if found:
-            print(event.head + found.words(event.number))
+            print(event.head + _station(event) + found.words(event.number))
         else:
-            print(event.place + item_words(item))
+            print(event.place + _station(event) + item_words(item))
 
 
 def write_json(record):
@@ -189,25 +219,26 @@ def write_json(record):
             fields['breaks'] = found.rule
         else:
             fields = {'gap': True} if item.gap else {name: getattr(item, name) for name in COLUMNS[2:]}
-        file = {'file': shown(event.file)} if event.file else {}
-        terminal.print_object({**file, 'line': event.number, 'time': event.time, **fields})
+        place = {name: words for name, words in (('file', shown(event.file)), ('address', _address(event))) if words}
+        terminal.print_object({**place, 'line': event.number, 'time': event.time, **fields})
 
 
 def write_csv(record):
-    """A row for each item, each breach and each restart; a gap mark has `gap` in its last column, a breach its rule, a restart
-    `restarted`. Of several files the first column has the name."""
+    """A row for each item, each breach and each restart; a gap mark has `gap` as its mark, a breach its rule, a restart `restarted`. And
+    one for each file that cannot be read, with its fault."""
     import csv
     rows = csv.writer(sys.stdout, lineterminator='\n')
-    has_files = len(record.option.files) > 1
-    rows.writerow(['file'] * has_files + [*COLUMNS, 'mark'])
+    rows.writerow(['file', 'address', *COLUMNS, 'mark', 'fault'])
     for event, item, found in record.parts():
-        head = [shown(event.file)] * has_files + [event.number, '' if event.time is None else event.time]
+        head = [shown(event.file or record.read.name), _address(event), event.number, '' if event.time is None else event.time]
         if found:
-            rows.writerow([*head, found.input if found.is_content else '', '', '', '', found.rule])
+            rows.writerow([*head, found.input if found.is_content else '', '', '', '', found.rule, ''])
         elif item.gap:
-            rows.writerow([*head, '', '', '', '', 'gap'])
+            rows.writerow([*head, '', '', '', '', 'gap', ''])
         else:
-            rows.writerow([*head, *(getattr(item, name) for name in COLUMNS[2:]), ''])
+            rows.writerow([*head, *(getattr(item, name) for name in COLUMNS[2:]), '', ''])
+    for name, words in record.read.faults.items():
+        rows.writerow([shown(name), *[''] * (len(COLUMNS) + 2), words])
 
 
 def write_text(record):
@@ -236,15 +267,13 @@ def write_text(record):
 
 def run(option):
     """Writes the record."""
-    read = log.Log(option, sys.stdout.flush, writes=not option.plot)
-    record, form = Record(read, option), '--text' if option.text else '--vcd' if option.vcd else ''
+    is_drawn = bool(option.hires or option.vcd)
+    read = log.Log(option, sys.stdout.flush, goes_on=log.has_several(option) and not is_drawn)
+    record, form = Record(read, option, is_drawn, is_drawn or option.text), '--text' if option.text else '--vcd' if option.vcd else ''
     if form and read.has_several:
         raise Refused('%s has the record of one log: name one file, or --merge the files of one line' % form)
     if option.hires:
         hires.write(record.logs(), option)
-    elif option.plot:
-        from . import plot
-        plot.write(plot.figure_of(record.logs()), option.plot)
     elif option.vcd:
         draw(chain.from_iterable(blocks for _, blocks in record.logs()), sys.stdout)
     else:
@@ -252,4 +281,7 @@ def run(option):
     is_read = read.summary()
     if read.unjudged and not option.quiet:
         terminal.say('not judged: ' + unjudged_words(read.unjudged))
-    return statuses.of_log(record.faults, say(read.judgements) or not is_read)
+    for name in read.empty():
+        terminal.say('%s: no frame' % shown(name))
+    is_little = say(read.judgements) or not is_read or any(read.empty())
+    return statuses.FAILED if read.faults else statuses.of_log(record.faults, is_little)

@@ -6,18 +6,16 @@ from operator import itemgetter
 from typing import NamedTuple
 
 import fio2070
-from fio2070.constants import BIT_LOST as LOST, BIT_MORE as MORE, CONTENT_IGNORED, LOG_DAMAGED, LOG_PASSED_OVER
+from fio2070.constants import BIT_LOST as LOST, BIT_MORE as MORE, CONTENT_IGNORED
 from fio2070.constants import OUTCOME_BROKEN, OUTCOME_BROKEN_CONTENT, OUTCOME_NOT_JUDGED, OUTCOME_RESTARTED
 from fio2070.constants import TYPE_ANSWER, TYPE_WATCHDOG, WHY_ABOVE_COMMAND, WHY_LATE, WHY_LATE_ABOVE, WHY_LOAD
 from fio2070.constants import WHY_PLACE_LOST, WHY_UNHEARD
 
 from .event import DAMAGED, DROPPED, LOSSES, MISSING, POSSIBLE
-from .log_words import BREACHES, LINE
+from .log_words import BREACHES
 from .message import AGAIN, BLOCK, message_of, words_of
-from .protocol import ADVANCE, CONTENT_RULES, INPUTS, RULES, SOURCES
+from .protocol import ADVANCE, BLOCK_ENTRIES, CONTENT_RULES, INPUTS, RULES, SOURCES, STANDARD_WAITING
 
-# The note of what is in the place of a frame, and is none.
-WRONG_CHECK = LINE['damaged']
 # What was due and what came, by rule, if the library says both.
 DUE = {'pair': 'an answer %d was due, %d came', 'number': 'block %d was asked for, %d came',
        'advance': 'block %d was due, %d came'}
@@ -79,14 +77,14 @@ class Rules:
 
     def __init__(self, at='auto', whole=False, limits=(), excepted=(), late_answers=False, no_loads=False, with_content=True):
         self.judge = fio2070.LogJudge(*limits, place=at, begun=whole and not late_answers, late_answers=late_answers, never_loads=no_loads)
-        self.at, self.excepted, self.with_content, self.late_answers = at, frozenset(excepted), with_content, late_answers
-        # The lines at which the judge loses its place above the first frame too.
-        self._lose_always = (DAMAGED, DROPPED, POSSIBLE) if whole and not late_answers else (DAMAGED, DROPPED)
+        self.excepted, self.with_content, self.late_answers = frozenset(excepted), with_content, late_answers
+        self.limits = tuple(limits) or (BLOCK_ENTRIES, STANDARD_WAITING)
+        self._begins_anywhere = late_answers or not whole
         self.unjudged = Counter()   # what is not judged, by its reason
         self.begun_again = 0    # the polls below losses of sync, from which judging begins anew
         self.is_above_polls = False     # whether a breach is above the first poll
-        # Whether a poll is above, and a frame; whether the place is lost, up to the next poll.
-        self._has_polls = self._has_frames = self._is_lost = False
+        # Whether a poll is above, and a frame; whether the place is lost, up to the next poll; whether it was lost below the last frame.
+        self._has_polls = self._has_frames = self._is_lost = self._is_lost_below = False
 
     def take(self, batch):
         """Takes lines; returns what is said of a frame, a breach or that the module restarted above it, with the index of the frame."""
@@ -94,44 +92,40 @@ class Rules:
         for frame, event, outcome in self._in_order(batch):
             self._pass(batch, above, frame + (event is None))
             above = frame + (event is None)
-            found = self._note(event) if event else self._of_outcome(batch.octets[frame], outcome)
+            found = self._note(*event) if event else self._of_outcome(batch.octets[frame], outcome)
             if found:
                 told.append((frame, found))
         self._pass(batch, above, batch.said.frame_count)
         return told
 
     def _in_order(self, batch):
-        """What the judge says of frames that are not kept, and the events at which it may lose its place, each with how many frames
-        are above."""
-        outcomes = [(frame, None, outcome) for frame, outcome in self._judged(batch) if outcome.kind != OUTCOME_NOT_JUDGED or outcome.why]
-        lines = [(batch.above(line, event), event, None) for line, event in batch.others if event.is_loss]
+        """What the judge says of frames that are not kept, and the events at which it may lose its place, with whether their lines are
+        judged; each with how many frames are above. A log may begin anywhere: then the first line that is judged has a frame."""
+        first = 0 if self._has_frames or not self._begins_anywhere else batch.first_with_frames
+        said = next(batch.said.parts([bytes(first) + b'\1' * (len(batch.kinds) - first)])) if first else batch.said
+        outcomes = [(frame, None, outcome) for frame, outcome in self.judge.batch(said, batch.as_said)
+                    if outcome.kind != OUTCOME_NOT_JUDGED or outcome.why]
+        lines = [(batch.above(line, event), (event, line >= first), None) for line, event in batch.others if event.is_loss]
         return sorted(lines + outcomes, key=itemgetter(0)) if lines else outcomes
-
-    def _judged(self, batch):
-        """What the judge says of frames that are not kept. What has a wrong check was not heard by the CPU, if the log was taken
-        there."""
-        unheard = [line for line, event in batch.others if event.kind in LOSSES and event.note == WRONG_CHECK] if self.at == 'cpu' else ()
-        for line in unheard:
-            batch.said.set_kind(line, LOG_PASSED_OVER)
-        outcomes = self.judge.batch(batch.said, batch.as_said)
-        for line in unheard:
-            batch.said.set_kind(line, LOG_DAMAGED)
-        return outcomes
 
     def _pass(self, batch, first, last):
         """Goes on below these frames: the place is known from a poll on."""
         self._has_frames |= first < last
+        if self._is_lost_below and first < last:
+            self.unjudged['losses_of_sync'] += 1
+            self._is_lost_below = False
         if (self._is_lost or not self._has_polls) and batch.has_poll(first, last):
             self.begun_again += self._is_lost
             self._is_lost, self._has_polls = False, True
 
-    def _note(self, event):
-        """Takes a line that may have held a frame, or says that frames may be missing or that another part of the log begins."""
+    def _note(self, event, is_judged):
+        """Takes a line that may have held a frame, or says that frames may be missing or that another part of the log begins: the place is
+        lost to the frames below it, if there are some."""
         if event.kind in LOSSES:
             self.unjudged[LOST_LINES.get(event.kind, 'damaged_lines')] += 1
-        is_lost = not (self.at == 'cpu' and event.note == WRONG_CHECK) if event.kind in LOSSES else event.note != MISSING
-        if is_lost and (self._has_frames or event.kind in self._lose_always):
-            self._lose_place()
+        is_of_frames = event.kind in LOSSES and (event.kind != POSSIBLE or not self._begins_anywhere)
+        if (event.kind in LOSSES or event.note != MISSING) and (self._has_frames or is_judged and is_of_frames) and not self._is_lost:
+            self._is_lost = self._is_lost_below = True
 
     def _lose_place(self):
         """Counts where the place is lost, if it was known."""
@@ -159,6 +153,11 @@ class Rules:
             return None
         self.is_above_polls |= not self._has_polls
         return found
+
+    @property
+    def tells_all(self):
+        """Whether each breach that it finds is told."""
+        return self.with_content and not self.excepted
 
     @property
     def unjudged_frames(self):

@@ -9,6 +9,7 @@ from operator import itemgetter
 import fio2070
 from fio2070.constants import LOG_SAYS
 
+from .answer import Said
 from .event import LOSSES
 from .counts import Counts
 from .line import words_of
@@ -90,13 +91,13 @@ class Unjudged:
 class Stations:
     """Judges a log as a Judgement does: each of several stations by itself, as if the log had its frames alone; or all frames as of one
     link, if they have one address or none, or addresses that are no stations'. `made` returns a new Judgement, and `counts` are of the
-    lines above those that are taken."""
+    lines above those that are taken. `seen` is called with all lines, those of a station, what judges it, and what that found in them."""
 
-    def __init__(self, made, counts):
+    def __init__(self, made, counts, seen=lambda batch, part, judgement, found: None):
         self.alone, self.without = made(), made()   # what judges one link; and what has the lines alone that may have held a frame
         self.parts, self.counts, self.broken = {}, {}, {}   # by its address of each station what judges it, and what is counted of it
         self.lines, self.others = Counter(), Counter()      # lines that may have held a frame, and frames that are judged for none
-        self.addresses, self._above = Addresses(), counts
+        self.addresses, self._above, self._seen = Addresses(), counts, seen
 
     def __getattr__(self, name):
         return getattr(self.alone, name)
@@ -118,6 +119,11 @@ class Stations:
         """What is counted of all stations; `counts` if there is one link."""
         return sum(self.counts.values(), Counts()) if self.parts else counts
 
+    def answers(self, counts):
+        """What is said of the transitions of each station, or of one link."""
+        parts = [(address.hex().upper(), self.parts[address], self.counts[address]) for address in sorted(self.parts)]
+        return [Said(address, part.answer, of_it.unanswered) for address, part, of_it in parts or [('', self.alone, counts)]]
+
     def rows(self):
         """Of each station what is said of it in short, by its address."""
         return {address.hex().upper(): self._row(address, self.parts[address]) for address in sorted(self.parts)}
@@ -135,7 +141,9 @@ class Stations:
             if not self.addresses.are_several:
                 if self.addresses.seen:
                     self._take_without(batch)
-                return self.alone.take(batch)
+                told = self.alone.take(batch)
+                self._seen(batch, batch, self.alone, told)
+                return told
             self._part(seen.pop() if len(seen) == 1 else b'')
         return self._taken(batch)
 
@@ -185,9 +193,10 @@ class Stations:
             masks = {address: _with_lost(masks.get(address, bytes(len(batch.kinds))), lost, batch.kinds) for address in self.parts}
         told = []
         for part, address in zip(batch.parts([*masks.values()]), masks):
-            told += [(batch.frame_in(part, frame), self._named(address, event, found), found)
-                     for frame, event, found in self.parts[address].take(part)]
+            found_here = [(frame, self._named(address, event, found), found) for frame, event, found in self.parts[address].take(part)]
+            told += [(batch.frame_in(part, frame), *one) for frame, *one in found_here]
             self.counts[address].take(part)
+            self._seen(batch, part, self.parts[address], found_here)
         return sorted(told, key=itemgetter(0))
 
 

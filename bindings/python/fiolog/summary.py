@@ -8,6 +8,7 @@ on this machine by `fiolog check FILE..`, or on any engine that maps and reduces
 import os
 from collections import Counter, defaultdict
 
+from .answer import Answer
 from .counts import Counts
 from .log import CHUNK, decoded
 from .event import OTHER
@@ -27,12 +28,19 @@ class Summary:
         self.restarted, self.first_restart = 0, None    # how often, and the first line that shows it
         self.lines, self.unjudged, self.reasons = 0, Counter(), Counter()
         self.verdicts = Counter()   # of how many logs, or stations of a log, little can be judged, by its reason (judgement.py)
+        self.answer, self.said = Answer(), []   # what is said of the transitions: the numbers; and of one log all, of each station
+        self.partial = 0            # of how many logs, or stations, less than half of the time is in stretches
         self.stations = {}          # of a log of several stations what is said of each, by its address (stations.py)
 
     @property
     def breaches(self):
         """How often rules are broken."""
         return sum(self.broken.values())
+
+    @property
+    def is_lost(self):
+        """Whether transitions are lost, or a module was restarted."""
+        return self.restarted > 0 or self.answer.is_lost
 
     @property
     def left_out(self):
@@ -43,7 +51,7 @@ class Summary:
         both = Summary()
         for name, ours in vars(self).items():
             theirs = getattr(other, name)
-            if name == 'stations':      # an address is that of another station in another log
+            if name in ('stations', 'said'):    # an address is that of another station in another log
                 continue
             setattr(both, name, ours or theirs if name.startswith('first_') else ours + theirs)
         return both
@@ -78,10 +86,10 @@ def chunks_of(source):
         yield from source
 
 
-def summary_of(source, start_at_poll=False, form='auto', pattern=None, framing='', line='', address=None, like=(), **rules):
+def summary_of(source, start_at_poll=False, form='auto', pattern=None, line='', address=None, like=(), **rules):
     """The summary of a log: a path, a file open for reading octets, or an iterator of octets. With `start_at_poll` it begins with the first
     poll; `rules` are what rules.Rules takes, and all else what the reader does."""
-    summary, reader, told = Summary(), Reader(form, pattern, framing, line, address, like), defaultdict(Summary)
+    summary, reader, told = Summary(), Reader(form, pattern, line, address, like), defaultdict(Summary)
     stations = Stations(lambda: Judgement(Rules(**rules), is_open=not start_at_poll), summary.counts)
     for batch in reader.read(decoded(iter(chunks_of(source)), not line)):
         batch = stations.opened(batch)
@@ -90,6 +98,9 @@ def summary_of(source, start_at_poll=False, form='auto', pattern=None, framing='
         summary.counts.take(batch)
     for event, found in stations.end():
         told[event.station].add_breach(event, found)
+    summary.said = stations.answers(summary.counts)
+    summary.answer = sum((one.answer for one in summary.said), Answer())
+    summary.partial = sum(one.answer.is_little for one in summary.said)
     for one in stations.judgements:
         summary.verdicts.update([one.verdict] * bool(one.verdict))
         for station in one.stations if one.is_fit else ():

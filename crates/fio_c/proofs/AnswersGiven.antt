@@ -1,6 +1,6 @@
 -- Which answer a struct of C is, with its entries and its body.
 use Rattle.std.proofs.Common.{◌≡◌, ℕ, ◌≤◌, true, List, [], length, Option, Some, None, refl, sym, ap, subst, ◌∙◌, arith}
-use Rattle.std.proofs.lemmas.List.{length-map}
+use Rattle.std.proofs.lemmas.List.{length-map, nil_from_length}
 use Rattle.std.proofs.lemmas.Option.{same_Some}
 use Rattle.fio_message.specs.declared.limits.TheConstants.{BODY_OCTETS}
 use Rattle.fio_message.proofs.Cases.{◌⊳◌, IsNoneFrom, at_codes}
@@ -13,22 +13,22 @@ use Rattle.fio_c.specs.declared.blocks.FlatEntry.{FlatEntry}
 use Rattle.fio_c.specs.declared.answers.FlatAnswer.{FlatAnswer}
 use Rattle.fio_c.specs.Flat.{flat_answer, answer_of_type, read_entry, read_entries, are_entries}
 use Rattle.fio_c.specs.Given.{IsAnswerGiven, answer_by_type, fixed_answer, answer_entries, answer_body}
-use Rattle.fio_c.proofs.CommandsGiven.{empty}
 
--- no entries are read of no entries
-no_entries : (list : List FlatEntry) → read_entries list ≡ [] → length list ≡ 0
-no_entries list none = omega (arith, ap length none, length-map list read_entry)
+-- the flat form counts the entries and the octets of the body
+counted : (answer : Answer) → (flat_answer answer).count ≡ length (answer_entries answer)
+counted (answers.Block block entries status stamp) = refl
+counted other = refl
+
+long : (answer : Answer) → (flat_answer answer).body ≡ length (answer_body answer)
+long (answers.Other kind body) = refl
+long other = refl
 
 -- the count of a struct is that of the entries, and its body has as many octets as the body
 pub answer_counts : (flat : FlatAnswer) (list : List FlatEntry) (octets : List ℕ) (answer : Answer)
     → IsAnswerGiven flat list octets answer → (flat.count ≡ length list) × (flat.body ≡ length octets)
-answer_counts flat list octets (answers.Block block entries status stamp) given = (
-  omega (arith, ap (λ (f : FlatAnswer). f.count) given.flat, ap length given.entries, length-map list read_entry),
-  omega (arith, ap (λ (f : FlatAnswer). f.body) given.flat, ap length given.body),
-)
-answer_counts flat list octets other given = (
-  omega (arith, ap (λ (f : FlatAnswer). f.count) given.flat, no_entries list given.entries),
-  omega (arith, ap (λ (f : FlatAnswer). f.body) given.flat, ap length given.body),
+answer_counts flat list octets answer given = (
+  ap (λ (f : FlatAnswer). f.count) given.flat ∙ counted answer ∙ ap length (sym given.entries) ∙ length-map list read_entry,
+  ap (λ (f : FlatAnswer). f.body) given.flat ∙ long answer ∙ ap length (sym given.body),
 )
 
 -- the flat form of an answer has the fields of its type alone
@@ -62,7 +62,7 @@ pub block_given : (flat : FlatAnswer) (list : List FlatEntry) (octets : List ℕ
 block_given flat list octets code whole count body named =
     let is = block_flat flat list code whole count in
     let none : length octets ≡ 0 = omega (arith, body, ap (λ (f : FlatAnswer). f.body) is) in
-    record { flat = is; entries = refl; named = named; body = empty octets none; short = omega (arith, none) }
+    record { flat = is; entries = refl; named = named; body = nil_from_length octets none; short = omega (arith, none) }
 
 -- a type is that of the answer that has it
 code_of_other : (code : ℕ) (kind : OtherAnswer) → other_answer_of code ≡ Some kind → code ≡ other_answer_code kind
@@ -96,14 +96,13 @@ pub other_given : (flat : FlatAnswer) (list : List FlatEntry) (octets : List ℕ
 other_given flat list octets kind is whole count body short =
     let same = other_flat flat octets kind (code_of_other flat.code kind is) whole body in
     let none : length list ≡ 0 = omega (arith, count, ap (λ (f : FlatAnswer). f.count) same) in
-    let no_list = empty list none in
+    let no_list = nil_from_length list none in
     record { flat = same; entries = ap read_entries no_list; named = ap are_entries no_list; body = refl; short = short }
 
 -- The struct of an answer without entries and body is its flat form.
 abbrev IsFixed : FlatAnswer → Answer → Type 0
 IsFixed flat answer =
     (flat ≡ flat_answer answer) × (answer_entries answer ≡ []) × (answer_body answer ≡ [])
-    × (flat.count ≡ 0) × (flat.body ≡ 0)
 
 -- the struct of the answer that is found by its fields
 taken : (flat : FlatAnswer) (found answer : Answer) → Some found ≡ Some answer → IsFixed flat found → IsFixed flat answer
@@ -116,13 +115,6 @@ FixedAt flat answer code =
     → record flat { code = code } ≡ answer_by_type (record flat { code = code })
     → IsFixed (record flat { code = code }) answer
 
--- the number of entries, and of octets of a body, of a struct that is another
-no_count : (flat other : FlatAnswer) → flat ≡ other → flat.count ≡ other.count
-no_count flat other is = ap (λ (f : FlatAnswer). f.count) is
-
-no_body : (flat other : FlatAnswer) → flat ≡ other → flat.body ≡ other.body
-no_body flat other is = ap (λ (f : FlatAnswer). f.body) is
-
 -- no other type has an answer without entries and body
 unknown : (flat : FlatAnswer) (code : ℕ) → IsNoneFrom code 177 10 → fixed_answer (record flat { code = code }) ≡ None
 unknown flat code none =
@@ -132,16 +124,16 @@ fixed_flat : (flat : FlatAnswer) (answer : Answer) → fixed_answer flat ≡ Som
     → flat ≡ answer_by_type flat → IsFixed flat answer
 fixed_flat flat answer =
     at_codes (FixedAt flat answer) 177 10 flat.code
-    ((λ is whole. taken (record flat { code = 177 }) (answers.Status flat.flags flat.receive_errors flat.transmit_errors flat.stamp) answer is (whole, refl, refl, no_count _ _ whole, no_body _ _ whole))
-    ⊳ (λ is whole. taken (record flat { code = 178 }) (answers.LoadCounter flat.status) answer is (whole, refl, refl, no_count _ _ whole, no_body _ _ whole))
-    ⊳ (λ is whole. taken (record flat { code = 179 }) (answers.ConfigureInputs flat.status) answer is (whole, refl, refl, no_count _ _ whole, no_body _ _ whole))
-    ⊳ (λ is whole. taken (record flat { code = 180 }) (answers.RawInputs flat.inputs flat.stamp) answer is (whole, refl, refl, no_count _ _ whole, no_body _ _ whole))
-    ⊳ (λ is whole. taken (record flat { code = 181 }) (answers.FilteredInputs flat.inputs flat.stamp) answer is (whole, refl, refl, no_count _ _ whole, no_body _ _ whole))
+    ((λ is whole. taken (record flat { code = 177 }) (answers.Status flat.flags flat.receive_errors flat.transmit_errors flat.stamp) answer is (whole, refl, refl))
+    ⊳ (λ is whole. taken (record flat { code = 178 }) (answers.LoadCounter flat.status) answer is (whole, refl, refl))
+    ⊳ (λ is whole. taken (record flat { code = 179 }) (answers.ConfigureInputs flat.status) answer is (whole, refl, refl))
+    ⊳ (λ is whole. taken (record flat { code = 180 }) (answers.RawInputs flat.inputs flat.stamp) answer is (whole, refl, refl))
+    ⊳ (λ is whole. taken (record flat { code = 181 }) (answers.FilteredInputs flat.inputs flat.stamp) answer is (whole, refl, refl))
     ⊳ (λ is whole. absurd (cc is))
     ⊳ (λ is whole. absurd (cc is))
     ⊳ (λ is whole. absurd (cc is))
     ⊳ (λ is whole. absurd (cc is))
-    ⊳ (λ is whole. taken (record flat { code = 186 }) (answers.Watchdog flat.status) answer is (whole, refl, refl, no_count _ _ whole, no_body _ _ whole))
+    ⊳ (λ is whole. taken (record flat { code = 186 }) (answers.Watchdog flat.status) answer is (whole, refl, refl))
     ⊳ tt)
     (λ none is whole. absurd (cc (sym (unknown flat flat.code none) ∙ is)))
 
@@ -153,12 +145,13 @@ pub no_fixed : (flat : FlatAnswer) (list : List FlatEntry) (octets : List ℕ) (
 no_fixed flat list octets None is whole count body refused = refl
 no_fixed flat list octets (Some answer) is whole count body refused =
     let fixed = fixed_flat flat answer is whole in
-    let list_none = empty list (omega (arith, count, fixed.3)) in
-    let octets_none = empty octets (omega (arith, body, fixed.4)) in
+    let list_none = nil_from_length list (omega (arith, count, ap (λ (f : FlatAnswer). f.count) fixed.0, counted answer, ap length fixed.1)) in
+    let none : length octets ≡ 0 = omega (arith, body, ap (λ (f : FlatAnswer). f.body) fixed.0, long answer, ap length fixed.2) in
+    let octets_none = nil_from_length octets none in
     absurd (refused answer (record {
       flat = fixed.0;
       entries = ap read_entries list_none ∙ sym fixed.1;
       named = ap are_entries list_none;
       body = octets_none ∙ sym fixed.2;
-      short = omega (arith, body, fixed.4);
+      short = omega (arith, none);
     }))

@@ -1,6 +1,6 @@
 -- Which command a struct of C is, with its items and its body.
-use Rattle.std.proofs.Common.{◌≡◌, ℕ, ◌<◌, ◌≤◌, true, List, [], ◌∷◌, length, Option, Some, None, refl, sym, ap, subst, ◌∙◌, arith}
-use Rattle.std.proofs.lemmas.List.{length-map}
+use Rattle.std.proofs.Common.{◌≡◌, ℕ, ◌<◌, ◌≤◌, true, List, [], length, Option, Some, None, refl, sym, ap, subst, ◌∙◌, arith}
+use Rattle.std.proofs.lemmas.List.{length-map, nil_from_length}
 use Rattle.std.proofs.lemmas.Option.{same_Some}
 use Rattle.fio_message.specs.declared.limits.TheConstants.{BODY_OCTETS}
 use Rattle.fio_message.proofs.Cases.{◌⊳◌, IsNoneFrom, at_codes}
@@ -14,33 +14,25 @@ use Rattle.fio_c.specs.declared.commands.FlatCommand.{FlatCommand}
 use Rattle.fio_c.specs.Flat.{flat_command, command_of_type, read_item, read_items, are_items}
 use Rattle.fio_c.specs.Given.{IsCommandGiven, command_by_type, fixed_command, command_items, command_body}
 
--- a list of no length is empty
-pub empty : {X : Type 0} (list : List X) → length list ≡ 0 → list ≡ []
-empty [] none = refl
-empty (one ∷ list) none = absurd (omega (arith, none))
-
 -- what does not fit is more
 pub above : (count most : ℕ) → (count ≤ most → ⊥) → most < count
 above count most none = grind arith
 
--- no items are read of no items
-no_items : (list : List ConfigurationItem) → read_items list ≡ [] → length list ≡ 0
-no_items list none = omega (arith, ap length none, length-map list read_item)
+-- the flat form counts the items and the octets of the body
+counted : (command : Command) → (flat_command command).count ≡ length (command_items command)
+counted (commands.ConfigureInputs items) = refl
+counted other = refl
+
+long : (command : Command) → (flat_command command).body ≡ length (command_body command)
+long (commands.Other kind body) = refl
+long other = refl
 
 -- the count of a struct is that of the items, and its body has as many octets as the body
 pub command_counts : (flat : FlatCommand) (list : List ConfigurationItem) (octets : List ℕ) (command : Command)
     → IsCommandGiven flat list octets command → (flat.count ≡ length list) × (flat.body ≡ length octets)
-command_counts flat list octets (commands.ConfigureInputs items) given = (
-  omega (arith, ap (λ (f : FlatCommand). f.count) given.flat, ap length given.items, length-map list read_item),
-  omega (arith, ap (λ (f : FlatCommand). f.body) given.flat, ap length given.body),
-)
-command_counts flat list octets (commands.Other kind body) given = (
-  omega (arith, ap (λ (f : FlatCommand). f.count) given.flat, no_items list given.items),
-  omega (arith, ap (λ (f : FlatCommand). f.body) given.flat, ap length given.body),
-)
-command_counts flat list octets other given = (
-  omega (arith, ap (λ (f : FlatCommand). f.count) given.flat, no_items list given.items),
-  omega (arith, ap (λ (f : FlatCommand). f.body) given.flat, ap length given.body),
+command_counts flat list octets command given = (
+  ap (λ (f : FlatCommand). f.count) given.flat ∙ counted command ∙ ap length (sym given.items) ∙ length-map list read_item,
+  ap (λ (f : FlatCommand). f.body) given.flat ∙ long command ∙ ap length (sym given.body),
 )
 
 -- the flat form of a command has the fields of its type alone
@@ -71,7 +63,7 @@ pub configuration_given : (flat : FlatCommand) (list : List ConfigurationItem) (
 configuration_given flat list octets code whole count body named =
     let is = configuration_flat flat list code whole count in
     let none : length octets ≡ 0 = omega (arith, body, ap (λ (f : FlatCommand). f.body) is) in
-    record { flat = is; items = refl; named = named; body = empty octets none; short = omega (arith, none) }
+    record { flat = is; items = refl; named = named; body = nil_from_length octets none; short = omega (arith, none) }
 
 -- a type is that of the command that has it
 code_of_other : (code : ℕ) (kind : OtherCommand) → other_command_of code ≡ Some kind → code ≡ other_command_code kind
@@ -102,14 +94,13 @@ pub other_given : (flat : FlatCommand) (list : List ConfigurationItem) (octets :
 other_given flat list octets kind is whole count body short =
     let same = other_flat flat octets kind (code_of_other flat.code kind is) whole body in
     let none : length list ≡ 0 = omega (arith, count, ap (λ (f : FlatCommand). f.count) same) in
-    let no = empty list none in
+    let no = nil_from_length list none in
     record { flat = same; items = ap read_items no; named = ap are_items no; body = refl; short = short }
 
 -- The struct of a command without items and body is its flat form.
 abbrev IsFixed : FlatCommand → Command → Type 0
 IsFixed flat command =
     (flat ≡ flat_command command) × (command_items command ≡ []) × (command_body command ≡ [])
-    × (flat.count ≡ 0) × (flat.body ≡ 0)
 
 -- the struct of the command that is found by its fields
 taken : (flat : FlatCommand) (found command : Command) → Some found ≡ Some command → IsFixed flat found → IsFixed flat command
@@ -122,13 +113,6 @@ FixedAt flat command code =
     → record flat { code = code } ≡ command_by_type (record flat { code = code })
     → IsFixed (record flat { code = code }) command
 
--- the number of items, and of octets of a body, of a struct that is another
-no_count : (flat other : FlatCommand) → flat ≡ other → flat.count ≡ other.count
-no_count flat other is = ap (λ (f : FlatCommand). f.count) is
-
-no_body : (flat other : FlatCommand) → flat ≡ other → flat.body ≡ other.body
-no_body flat other is = ap (λ (f : FlatCommand). f.body) is
-
 -- no other type has a command without items and body
 unknown : (flat : FlatCommand) (code : ℕ) → IsNoneFrom code 49 12 → fixed_command (record flat { code = code }) ≡ None
 unknown flat code none =
@@ -138,18 +122,18 @@ fixed_flat : (flat : FlatCommand) (command : Command) → fixed_command flat ≡
     → flat ≡ command_by_type flat → IsFixed flat command
 fixed_flat flat command =
     at_codes (FixedAt flat command) 49 12 flat.code
-    ((λ is whole. taken (record flat { code = 49 }) (commands.Status flat.clear) command is (whole, refl, refl, no_count _ _ whole, no_body _ _ whole))
-    ⊳ (λ is whole. taken (record flat { code = 50 }) (commands.LoadCounter flat.load) command is (whole, refl, refl, no_count _ _ whole, no_body _ _ whole))
+    ((λ is whole. taken (record flat { code = 49 }) (commands.Status flat.clear) command is (whole, refl, refl))
+    ⊳ (λ is whole. taken (record flat { code = 50 }) (commands.LoadCounter flat.load) command is (whole, refl, refl))
     ⊳ (λ is whole. absurd (cc is))
-    ⊳ (λ is whole. taken (record flat { code = 52 }) commands.RawInputs command is (whole, refl, refl, no_count _ _ whole, no_body _ _ whole))
-    ⊳ (λ is whole. taken (record flat { code = 53 }) commands.FilteredInputs command is (whole, refl, refl, no_count _ _ whole, no_body _ _ whole))
-    ⊳ (λ is whole. taken (record flat { code = 54 }) (commands.Poll flat.block) command is (whole, refl, refl, no_count _ _ whole, no_body _ _ whole))
-    ⊳ (λ is whole. taken (record flat { code = 55 }) (commands.SetOutputs flat.levels flat.controls) command is (whole, refl, refl, no_count _ _ whole, no_body _ _ whole))
+    ⊳ (λ is whole. taken (record flat { code = 52 }) commands.RawInputs command is (whole, refl, refl))
+    ⊳ (λ is whole. taken (record flat { code = 53 }) commands.FilteredInputs command is (whole, refl, refl))
+    ⊳ (λ is whole. taken (record flat { code = 54 }) (commands.Poll flat.block) command is (whole, refl, refl))
+    ⊳ (λ is whole. taken (record flat { code = 55 }) (commands.SetOutputs flat.levels flat.controls) command is (whole, refl, refl))
     ⊳ (λ is whole. absurd (cc is))
     ⊳ (λ is whole. absurd (cc is))
-    ⊳ (λ is whole. taken (record flat { code = 58 }) (commands.Watchdog flat.timeout) command is (whole, refl, refl, no_count _ _ whole, no_body _ _ whole))
+    ⊳ (λ is whole. taken (record flat { code = 58 }) (commands.Watchdog flat.timeout) command is (whole, refl, refl))
     ⊳ (λ is whole. absurd (cc is))
-    ⊳ (λ is whole. taken (record flat { code = 60 }) commands.Identify command is (whole, refl, refl, no_count _ _ whole, no_body _ _ whole))
+    ⊳ (λ is whole. taken (record flat { code = 60 }) commands.Identify command is (whole, refl, refl))
     ⊳ tt)
     (λ none is whole. absurd (cc (sym (unknown flat flat.code none) ∙ is)))
 
@@ -161,12 +145,13 @@ pub no_fixed : (flat : FlatCommand) (list : List ConfigurationItem) (octets : Li
 no_fixed flat list octets None is whole count body refused = refl
 no_fixed flat list octets (Some command) is whole count body refused =
     let fixed = fixed_flat flat command is whole in
-    let list_none = empty list (omega (arith, count, fixed.3)) in
-    let octets_none = empty octets (omega (arith, body, fixed.4)) in
+    let list_none = nil_from_length list (omega (arith, count, ap (λ (f : FlatCommand). f.count) fixed.0, counted command, ap length fixed.1)) in
+    let none : length octets ≡ 0 = omega (arith, body, ap (λ (f : FlatCommand). f.body) fixed.0, long command, ap length fixed.2) in
+    let octets_none = nil_from_length octets none in
     absurd (refused command (record {
       flat = fixed.0;
       items = ap read_items list_none ∙ sym fixed.1;
       named = ap are_items list_none;
       body = octets_none ∙ sym fixed.2;
-      short = omega (arith, body, fixed.4);
+      short = omega (arith, none);
     }))

@@ -1,4 +1,3 @@
-pub mod AnswerNumbers
 pub mod Checkers
 pub mod Judges
 pub mod Flat
@@ -7,6 +6,7 @@ pub mod Logs
 pub mod Told
 pub mod BatchItems
 pub mod LogCounts
+pub mod LogStretches
 pub mod LogJudges
 pub mod LogParts
 pub mod TakenLines

@@ -17,7 +17,7 @@ time_in has time = if has == 0 then None else Some time
 
 -- the time of a verdict
 abbrev pub time_of : LogVerdict → Option ℕ
-time_of verdict = time_in verdict.has_time verdict.time
+time_of verdict = time_in verdict.time_kind verdict.time
 
 -- a line that gives no frame: a frame may be lost where it says something to the judge of a log
 abbrev pub counted_line : LogCounts → List LogEvent → LogCounts

@@ -1,14 +1,16 @@
 -- What the reader of logs says of lines, as C sees it.
-use Rattle.std.specs.Prelude.{◌≡◌, ℕ, ◌+◌, ◌≤◌, ◌<◌, ◌-◌, ◌^◌, ◌==◌, ◌&&◌, Bool, true, false, nat_le, nat_lt, if◌then◌else◌, List, [], ◌∷◌, length, map, take, Option, Some, None, unwrap_or, is_some, min}
+use Rattle.std.specs.Prelude.{◌≡◌, ℕ, ◌+◌, ◌≤◌, ◌<◌, ◌-◌, ◌^◌, ◌==◌, ◌&&◌, Bool, true, false, nat_le, nat_lt, if◌then◌else◌, List, [], ◌∷◌, length, map, take, Option, Some, None, min}
 use Rattle.std.specs.List.{All, concat, flat_map}
-use Rattle.fio_message.specs.Bits.{bit_of}
 use Rattle.fio_log.specs.Blanks.{Texts}
 use Rattle.fio_log.specs.Lines.{Text, finished, lines_after, no_line, only}
 use Rattle.fio_log.specs.OwnVerdicts.{own_form_of}
 use Rattle.fio_log.specs.declared.own_texts.OwnForm.{OwnForm}
 use Rattle.fio_log.specs.Telling.{HasReadAsBefore, IsTextOf, KeepsVerdict, Telling, has_told_all, read_at_end}
+use Rattle.fio_log.specs.declared.clock.Moment.{Moment}
 use Rattle.fio_log.specs.declared.directions.Direction.{Direction}
 use Rattle.fio_log.specs.declared.directions.Direction.TheVariants as directions
+use Rattle.fio_log.specs.declared.parts.TimeKind.{TimeKind}
+use Rattle.fio_log.specs.declared.parts.TimeKind.TheVariants as times
 use Rattle.fio_log.specs.declared.places.Place.{Place}
 use Rattle.fio_log.specs.declared.verdict.Form.{Form}
 use Rattle.fio_log.specs.declared.verdict.Form.TheVariants as forms
@@ -39,6 +41,7 @@ reason_number reasons.NoOctets = 1
 reason_number reasons.NoMessage = 2
 reason_number reasons.NoForm = 3
 reason_number reasons.More = 4
+reason_number reasons.UnreadFrame = 5
 reason_number reasons.TooLong = 6
 reason_number reasons.BadLine = 7
 reason_number reasons.Loss = 10
@@ -52,16 +55,32 @@ side_number None = 0
 side_number (Some directions.Command) = 1
 side_number (Some directions.Answer) = 2
 
+-- the microseconds of a moment; 0 if there is none
+abbrev pub microseconds_at : Option Moment → ℕ
+microseconds_at None = 0
+microseconds_at (Some moment) = moment.microseconds
+
+-- the number of what a time counts from
+abbrev pub time_kind_number : TimeKind → ℕ
+time_kind_number times.Date = 1
+time_kind_number times.Day = 2
+time_kind_number times.Start = 3
+
+-- the number of what a moment counts from; 0 if there is none
+abbrev pub moment_kind_number : Option Moment → ℕ
+moment_kind_number None = 0
+moment_kind_number (Some moment) = time_kind_number moment.kind
+
 -- a verdict as C sees it, with its numbers of frames and places
 abbrev pub flat_verdict : LineVerdict → ℕ → ℕ → LogVerdict
 flat_verdict verdict frames places = record {
   line = verdict.line;
-  time = unwrap_or verdict.time 0;
+  time = microseconds_at verdict.time;
   frames = frames;
   places = places;
   kind = kind_number verdict.kind;
   reason = reason_number verdict.reason;
-  has_time = bit_of (is_some verdict.time);
+  time_kind = moment_kind_number verdict.time;
   said = side_number verdict.said;
   address = verdict.header.address;
   control = verdict.header.control;

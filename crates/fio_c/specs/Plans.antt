@@ -17,6 +17,8 @@ line_of given =
       answer = given.answer;
       other = given.other;
       lost = given.lost;
+      drift = given.drift;
+      jitter = given.jitter;
     }
 
 -- the traffic that C gives
@@ -31,7 +33,7 @@ traffic_in given =
 
 -- whether numbers are in their ranges
 abbrev pub can_plan : FlatLine → Bool
-can_plan given = nat_le 1 given.rate && (nat_le 1 given.inputs && nat_le given.inputs INPUTS)
+can_plan given = nat_le 1 given.rate && (nat_le 1 given.inputs && (nat_le given.inputs INPUTS && nat_le given.drift 10000))
 
 -- the least pace, and what holds at it
 pub record IsPlanned (line : TimedLine) (traffic : Traffic) (pace : FlatPace) : Type 0 where

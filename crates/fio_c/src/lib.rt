@@ -9,7 +9,7 @@
 //! | To | Call |
 //! |---|---|
 //! | read a block answer in place | `fio2070_read_block`, `fio2070_block_entries` |
-//! | read any message | `fio2070_decode_command`, `fio2070_command_items`, `fio2070_decode_answer`; an answer's one number, `fio2070_read_outputs_answer`, `fio2070_read_identification` |
+//! | read any message | `fio2070_decode_command`, `fio2070_command_items`, `fio2070_decode_answer` |
 //! | write a message | `fio2070_encode_command`, `fio2070_encode_answer` |
 //! | write what `show` writes of a message | `fio2070_show` |
 //! | write a code in words | `fio2070_fault_text`, `fio2070_rule_text`, `fio2070_content_rule_text`, `fio2070_heard_text` |
@@ -57,7 +57,6 @@
 #![tactic(auto)]
 
 mod answer_frames;
-mod answer_numbers;
 mod answering;
 mod answers;
 mod batch_items;
@@ -79,6 +78,7 @@ mod log_judge;
 mod log_judge_batch;
 mod log_parts;
 mod log_signs;
+mod log_stretches;
 mod log_verdicts;
 mod makers;
 mod parts;

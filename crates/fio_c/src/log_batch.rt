@@ -27,7 +27,7 @@ pub(crate) const FRAMES: u8 = 1;
 pub struct LogVerdict {
     /// The number of the line, from 1.
     pub line: u64,
-    /// The time in microseconds since 1970, or since midnight or a start if the log has no date; 0 if there is none.
+    /// The time in microseconds, from what `time_kind` says; 0 if there is none.
     pub time: u64,
     /// How many frames the line gives, with those of the lines below that continue it.
     pub frames: u32,
@@ -37,8 +37,8 @@ pub struct LogVerdict {
     pub kind: u8,
     /// Why it gives no frame: one of `FIO2070_LOG_NO_OCTETS` and those after it, else 0.
     pub reason: u8,
-    /// 1 if there is a time, else 0.
-    pub has_time: u8,
+    /// What the time counts from: one of `FIO2070_LOG_NO_TIME` and those after it.
+    pub time_kind: u8,
     /// Who sent the octets of the frames, as the line says: one of `FIO2070_LOG_NO_SIDE` and those after it.
     pub said: u8,
     /// The address of its frames, which stands before their messages, if all have one and the same; else 0.

@@ -100,7 +100,7 @@ fn count_frame(counts: &mut LogCounts, verdict: &LogVerdict, octets: &[u8]) -> O
     if verdict.kind != FRAMES {
         return None;
     }
-    let time = counts.frame(time_from(verdict.has_time, verdict.time), octets);
+    let time = counts.frame(time_from(verdict.time_kind, verdict.time), octets);
     if line_kind_of(verdict) == LogLineKind::FramesAndMore {
         counts.lose();
     }
@@ -117,7 +117,7 @@ fn count_line(counts: &mut LogCounts, verdict: &LogVerdict)
 }
 
 /// Returns the time of a frame, if it has one.
-fn time_from(has: u8, time: u64) -> Option<u64>
+pub(crate) fn time_from(has: u8, time: u64) -> Option<u64>
     ensures { result ≡ time_in has time }
 {
     if has == 0 { None } else { Some(time) }

@@ -6,11 +6,11 @@ ghost use Rattle.fio_log.specs.OwnTexts.{spells};
 ghost use Rattle.fio_log.specs.Frames.{AreFew};
 ghost use Rattle.fio_log.specs.Telling.{Telling, frames_of, places_of};
 ghost use Rattle.fio_c.specs.declared.log_batch.TheConstants.{LOG_OCTETS, LOG_VERDICTS, VERDICT_OCTETS};
-ghost use Rattle.fio_c.specs.Logs.{Content, HasNoneDue, HasRoomFirst, HasVerdicts, Holds, flat_place, flat_told, flat_verdict, has_room, kind_number, reason_number, side_number};
+ghost use Rattle.fio_c.specs.Logs.{Content, HasNoneDue, HasRoomFirst, HasVerdicts, Holds, flat_place, flat_told, flat_verdict, has_room, kind_number, microseconds_at, reason_number, side_number, time_kind_number, moment_kind_number};
 ghost use Rattle.fio_c.specs.Told.{told_by};
 
 use crate::log_batch::{FlatLogPlace, LOG_FRAMES, LOG_PLACES, LogBatch, LogVerdict};
-use fio_log::{Direction, Kind, LineVerdict, Place, Reader, Reason};
+use fio_log::{Direction, Kind, LineVerdict, Moment, Place, Reader, Reason, TimeKind};
 
 /// Puts the verdicts that are due into a batch, until it has no room for another one.
 pub(crate) fn fill(reader: &mut Reader, batch: &mut LogBatch)
@@ -92,12 +92,12 @@ fn told_from(verdict: &LineVerdict, frames: u32, places: u32) -> LogVerdict
 {
     LogVerdict {
         line: verdict.line,
-        time: verdict.time.unwrap_or(0),
+        time: microseconds_at(verdict.time),
         frames,
         places,
         kind: kind_number(verdict.kind),
         reason: reason_number(verdict.reason),
-        has_time: u8::from(verdict.time.is_some()),
+        time_kind: moment_kind_number(verdict.time),
         said: side_number(verdict.said),
         address: verdict.header.address,
         control: verdict.header.control,
@@ -130,12 +130,44 @@ fn reason_number(reason: Reason) -> u8
         Reason::NoMessage => 2,
         Reason::NoForm => 3,
         Reason::More => 4,
+        Reason::UnreadFrame => 5,
         Reason::TooLong => 6,
         Reason::BadLine => 7,
         Reason::Loss => 10,
         Reason::Heading => 11,
         Reason::Copy => 13,
         Reason::Broken => 14,
+    }
+}
+
+/// Returns the microseconds of a moment; 0 if there is none.
+fn microseconds_at(time: Option<Moment>) -> u64
+    ensures { result ≡ microseconds_at time }
+{
+    match time {
+        None => 0,
+        Some(moment) => moment.microseconds,
+    }
+}
+
+/// Returns the number of what a moment counts from; 0 if there is none.
+fn moment_kind_number(time: Option<Moment>) -> u8
+    ensures { result ≡ moment_kind_number time }
+{
+    match time {
+        None => 0,
+        Some(moment) => time_kind_number(moment.kind),
+    }
+}
+
+/// Returns the number of what a time counts from.
+fn time_kind_number(kind: TimeKind) -> u8
+    ensures { result ≡ time_kind_number kind }
+{
+    match kind {
+        TimeKind::Date => 1,
+        TimeKind::Day => 2,
+        TimeKind::Start => 3,
     }
 }
 

@@ -7,6 +7,9 @@ use fio_link::{TimedLine, Traffic, plan};
 use fio_message::INPUTS;
 use fio_wire::LineKind;
 
+// A clock that is wrong by one in a hundred.
+const MOST_DRIFT: u16 = 10_000;
+
 /// A line between the two ends, and what may have to be reported over it.
 #[derive(Clone, Copy)]
 #[repr(C)]
@@ -29,15 +32,17 @@ pub struct FlatLine {
     pub filter: u8,
     /// How many stop bits an octet has on an asynchronous line; 0 for a synchronous line.
     pub stop_bits: u8,
-    /// Not read.
-    pub reserved: [u8; 4],
+    /// By at most how many parts in a million the CPU's clock is faster or slower than the module's counter, 0 to 10,000.
+    pub drift: u16,
+    /// At most how many scans a poll is late by the CPU's clock.
+    pub jitter: u16,
 }
 
 /// A pace of a line, in scans.
 #[derive(Clone, Copy)]
 #[repr(C)]
 pub struct FlatPace {
-    /// How many scans apart polls are sent.
+    /// How many scans apart polls are sent, by the CPU's clock.
     pub scans: u64,
     /// How many scans a round takes at most.
     pub round: u64,
@@ -62,6 +67,8 @@ fn line_of(given: FlatLine) -> TimedLine
         answer: given.answer,
         other: given.other,
         lost: given.lost,
+        drift: given.drift,
+        jitter: given.jitter,
     }
 }
 
@@ -79,8 +86,8 @@ fn traffic_in(given: FlatLine) -> Traffic
 }
 
 /// Finds the least pace at which a line can be polled, so that each round ends before the next one and nothing is lost. Returns
-/// 0 and writes it; 1 if the line has no pace; 2 if the rate is 0, or no inputs or more than 64 may be open. After 1 and 2 `pace`
-/// is unchanged.
+/// 0 and writes it; 1 if the line has no pace; 2 if the rate is 0, no inputs or more than 64 may be open, or the drift is above
+/// 10,000. After 1 and 2 `pace` is unchanged.
 #[unsafe(no_mangle)]
 pub extern "C" fn fio2070_plan(line: &FlatLine, pace: &mut FlatPace) -> u8
     ensures planned { result ≡ 0 → IsPlanned (line_of line.now) (traffic_in line.now) pace.new }
@@ -90,7 +97,11 @@ pub extern "C" fn fio2070_plan(line: &FlatLine, pace: &mut FlatPace) -> u8
     ensures unchanged { 1 ≤ result → pace.new ≡ pace.old }
 {
     let given = *line;
-    if given.rate == 0 || given.inputs == 0 || usize::from(given.inputs) > INPUTS {
+    if given.rate == 0
+        || given.inputs == 0
+        || usize::from(given.inputs) > INPUTS
+        || given.drift > MOST_DRIFT
+    {
         return 2;
     }
     match plan(line_of(given), traffic_in(given)) {

@@ -39,9 +39,4 @@ pub mod LogLaws
 pub mod UnloadedLogs
 pub mod BothFind
 pub mod EventByEvent
-pub mod CountedTables
-pub mod CountedWaits
-pub mod CountedAnswers
-pub mod CountedLogs
-pub mod LateFrames
-pub mod SignsOfLogs
+pub mod InTime

@@ -27,7 +27,7 @@ use Rattle.fio_check.specs.declared.content_rules.ContentRule.TheVariants.{Order
 abbrev pub comes_after : ℕ → ℕ → ℕ → ℕ → Bool
 comes_after input wide above time = is_later wide time || (wide == time && nat_lt above input)
 
--- an entry does not come after the entry above it
+-- an entry does not come after the entry above it, and no block without C ends between them
 abbrev pub is_out_of_order : ℕ → ℕ → Floor → Bool
 is_out_of_order input wide floor =
     is_some_and floor.input (λ above. not (comes_after input wide above floor.time))
@@ -67,7 +67,7 @@ is_shown_otherwise level above = is_some_and above.shown (beq level) || above.un
 
 -- An entry of this input breaks a rule:
 abbrev pub breaks_entry : ContentFacts → ℕ → TimedState → ContentRule → Bool
--- Order: it does not come after the entry above it, and times are known and judged.
+-- Order: it does not come after the entry above it, with no end of a block without C between, and times are known and judged.
 breaks_entry facts input entry Order =
     are_times_judged facts && is_some_and facts.floor (is_out_of_order input entry.wide)
 -- Fresh: it is not later than the block without C above it, and times are known and judged.

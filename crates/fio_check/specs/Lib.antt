@@ -30,8 +30,5 @@ pub mod LogLaws
 pub mod UnloadedLogs
 pub mod LogSigns
 pub mod LogCounts
-pub mod Counting
-pub mod CountedLogs
-pub mod LateFrames
-pub mod SignsOfLogs
+pub mod Stretches
 pub mod Finding

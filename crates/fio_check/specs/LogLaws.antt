@@ -1,13 +1,18 @@
--- Laws of the judge of a log: without late answers it is the judge of a link, whose laws carry over to it.
-use Rattle.std.specs.Prelude.{◌≡◌, Bool, ◌||◌, true, false, List, [], ◌∷◌, ◌++◌, Option, Some, None, ℕ, map, nat_lt}
+-- Laws of the judge of a log: without late answers it is the judge of a link, whose laws carry over to it; with them it judges what is in time.
+use Rattle.std.specs.Prelude.{◌≡◌, Bool, ◌||◌, ◌≢◌, true, false, List, [], ◌∷◌, ◌++◌, Option, Some, None, ℕ, map, nat_lt}
 use Rattle.std.specs.List.{flat_map, list_all}
 use Rattle.fio_check.specs.Checkers.{found_by}
-use Rattle.fio_check.specs.LinkJudges.{Frame, Judging, LogLine, judging_below, outcomes_of}
+use Rattle.fio_check.specs.LateAnswers.{late_with}
+use Rattle.fio_check.specs.LinkJudges.{Frame, Judging, LogLine, judging_below, outcome_in, outcomes_of}
 use Rattle.fio_check.specs.LinkJudges.{Lost as Mark}
-use Rattle.fio_check.specs.LogJudges.{Found, Heading, LogEvent, LogJudging, Lost, Missing, Possible, judges_each, log_below_events, outcomes_in_log}
+use Rattle.fio_check.specs.LogJudges.{Found, Heading, LogEvent, LogJudging, Lost, Missing, Possible, has_content, is_rule_of_late, judges_each, log_below_events, outcome_late, outcomes_in_log}
 use Rattle.fio_check.specs.Observations.{observation_in}
 use Rattle.fio_check.specs.Places.{is_some_and}
-use Rattle.fio_check.specs.declared.log_judge.LogOutcome.TheVariants.{Link}
+use Rattle.fio_check.specs.declared.checker.Breach.{Breach}
+use Rattle.fio_check.specs.declared.content.ContentBreach.{ContentBreach}
+use Rattle.fio_check.specs.declared.late_answers.LateAnswers.{LateAnswers}
+use Rattle.fio_check.specs.declared.log_judge.LogOutcome.TheVariants.{Late, Link}
+use Rattle.fio_check.specs.declared.outcome.FrameOutcome.TheVariants.{Broken, BrokenContent}
 use Rattle.fio_check.specs.declared.missing_frames.MissingFrames.{MissingFrames}
 use Rattle.fio_check.specs.declared.missing_frames.MissingFrames.TheVariants.{Below, Nowhere}
 use Rattle.fio_check.specs.declared.observation.Observation.{Observation}
@@ -148,3 +153,13 @@ abbrev pub JudgesFramesAlike : LogJudging → LogPlace → List LogEvent → Typ
 JudgesFramesAlike log at events =
     log.late ≡ None → log.missing ≡ Nowhere → log.place ≡ Some at → list_all is_found events ≡ true
     → outcomes_in_log log events ≡ map Link (outcomes_of log.link (flat_map (line_at at) events))
+
+-- A frame that is no late answer is not left out as one. What the judge of the link accuses it of stands: a breach of a rule of
+-- transcripts that late answers may not break, and a breach of one on content, if no answer to a command above can still come.
+pub record JudgesInTime (log : LogJudging) (late : LateAnswers) (at : LogPlace) (from_cpu : Bool) (octets : List ℕ) : Type 0 where
+  pub kept : outcome_late log late at from_cpu octets ≢ Late
+  pub broken : (breach : Breach) → outcome_in log.link at from_cpu octets ≡ Broken breach → is_rule_of_late at breach.rule ≡ false
+      → outcome_late log late at from_cpu octets ≡ Link (Broken breach)
+  pub content : (breach : ContentBreach) → outcome_in log.link at from_cpu octets ≡ BrokenContent breach
+      → has_content from_cpu (observation_in from_cpu octets) ≡ true → (late_with late (observation_in from_cpu octets)).settled ≡ true
+      → outcome_late log late at from_cpu octets ≡ Link (BrokenContent breach)

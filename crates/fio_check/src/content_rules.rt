@@ -15,7 +15,7 @@ ghost use Rattle.fio_check.specs.ContentRules.{content_rule_name, content_rule_n
 /// which block is clear is read of C and E. `tools/generate-constants` makes the words of pages and tools of these.
 #[derive(Clone, Copy, Debug, PartialEq, Eq, PartialOrd, Ord, Hash)]
 pub enum ContentRule {
-    /// An entry is later than the entry above it, or has its time and a higher input.
+    /// An entry is later than the entry above it, or has its time and a higher input, if no block without C ends between them.
     ///
     /// Judged if a clear block is above the upper entry, the blocks of both are not late, and no load of the counter
     /// excuses it.

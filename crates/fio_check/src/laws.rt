@@ -5,21 +5,21 @@ ghost use Rattle.fio_check.specs.ContentCheckers.{ContentChecking, checking_at_s
 ghost use Rattle.fio_check.specs.ContentEvents.{LineEvent};
 ghost use Rattle.fio_check.specs.ContentLaws.{KeepsContent};
 ghost use Rattle.fio_check.specs.ContentFaults.{content_fault_in};
-ghost use Rattle.fio_check.specs.CountedLogs.{CountedEvent, KeepsCounts};
 ghost use Rattle.fio_check.specs.Facts.{is_answering, number_polled, status_of_block};
 ghost use Rattle.fio_check.specs.Finding.{FindsDoubled, FindsDropped, FindsSwapped, FindsTurned, FindsTurnedLater};
-ghost use Rattle.fio_check.specs.LateFrames.{KeepsLate};
+ghost use Rattle.fio_check.specs.LateAnswers.{lateness_of};
 ghost use Rattle.fio_check.specs.Laws.{HasOneVerdict, IsTheLatest, KeepsFacts};
 ghost use Rattle.fio_check.specs.Lines.{TranscriptLine};
 ghost use Rattle.fio_check.specs.LinkJudges.{Judging, LogLine};
 ghost use Rattle.fio_check.specs.LinkLaws.{ExcusesWhatIsShown, FindFirst, FindsRestart, GoesOnAsCheckers, HasOutcomes, LinkGoesOn, LosesPlace, SaysTheSame};
 ghost use Rattle.fio_check.specs.LogJudges.{LogEvent, LogJudging, late_starting, log_starting};
-ghost use Rattle.fio_check.specs.LogLaws.{IsJudgedAsLink, JudgesFramesAlike, around_in, nothing_around};
-ghost use Rattle.fio_check.specs.Observations.{observation_at};
-ghost use Rattle.fio_check.specs.SignsOfLogs.{KeepsSigns, SignFrame};
+ghost use Rattle.fio_check.specs.LogLaws.{IsJudgedAsLink, JudgesFramesAlike, JudgesInTime, around_in, nothing_around};
+ghost use Rattle.fio_check.specs.Observations.{observation_at, observation_in};
 ghost use Rattle.fio_check.specs.UnloadedLogs.{JudgesUnloaded, SupposesNoLoad};
 ghost use Rattle.fio_check.specs.Verdicts.{verdict_on};
 ghost use Rattle.fio_check.specs.declared.checker.Checker.{Checker};
+ghost use Rattle.fio_check.specs.declared.late_answers.LateAnswers.{LateAnswers};
+ghost use Rattle.fio_check.specs.declared.late_answers.Lateness.TheVariants.{InTime};
 ghost use Rattle.fio_check.specs.declared.limits.RuleLimits.{RuleLimits};
 ghost use Rattle.fio_check.specs.declared.log_judge.LogStart.{LogStart};
 ghost use Rattle.fio_check.specs.declared.observation.Observation.{Observation};
@@ -169,23 +169,12 @@ pub fn logs_are_judged_as_links()
     ensures frames { (log : LogJudging) (at : LogPlace) (events : List LogEvent) → JudgesFramesAlike log at events }
 {}
 
-/// What is counted of a log event by event equals what is defined by the events above the next one: how many there are such, and
-/// what the latest says.
-pub fn counts_are_kept()
-    ensures { (events : List CountedEvent) → KeepsCounts events }
-{}
-
-/// The signs of a log that are updated frame by frame equal what is defined by all its frames: how many answers are the second of
-/// equal frames, and how many block answers are backward. The numbers of the block answers decide the rows.
-#[tactic(auto, using(crate::proofs::SignsOfLogs::signs_are_kept))]
-pub fn signs_are_kept()
-    ensures { (frames : List SignFrame) → KeepsSigns frames }
-{}
-
-/// What decides which answers are late, updated frame by frame, equals what is defined by the frames above the next one: the latest
-/// command and poll, which answers of theirs are above, and whether another one can still come.
-pub fn late_answers_are_kept()
-    ensures { (frames : List Observation) → KeepsLate frames }
+/// A judge that leaves late answers out accuses a frame that is none of what the judge of the link accuses it of, but for rules that
+/// late answers may break, and for content where one can still come.
+#[tactic(auto, using(crate::proofs::InTime::judges_in_time))]
+pub fn answers_in_time_are_judged()
+    ensures { (log : LogJudging) (late : LateAnswers) (at : LogPlace) (from_cpu : Bool) (octets : List ℕ)
+        → lateness_of late (observation_in from_cpu octets) ≡ InTime → JudgesInTime log late at from_cpu octets }
 {}
 
 /// The judge of the log of a CPU that never loads the counter says of no frame that a load took effect, whatever lines are lost, and

@@ -23,13 +23,14 @@
 //! | judge a log by its frames and by the lines between them | `LogJudge` |
 //! | see whether a log looks like another kind than that of one link in order | `LogSigns` |
 //! | count what a log has | `LogCounts` |
+//! | see where a log records each transition once, and where not | `LogStretches` |
 //!
 //! The definitions are in `specs/`, in this order: the lines (`Lines`), what a line says to the rules (`Observations`), the latest
 //! value said above a place (`Places`), what is above a line (`Facts`), the rules (`Rules`), the verdict (`Verdicts`) and the
 //! checker (`Checkers`), whose laws (`Laws`) are the contracts of the module `laws`. Those of the rules on content follow: events
 //! (`ContentEvents`), the rules (`ContentRules`), what is above an event, by places (`ContentAbove`) and updated event by event
 //! (`ContentFacts`), and the checker (`ContentCheckers`); then the judges (`LinkJudges`, `LogJudges`), the signs of other logs
-//! (`LogSigns`) and the counts (`LogCounts`).
+//! (`LogSigns`), the counts (`LogCounts`) and the stretches (`Stretches`).
 //!
 //! # What is proved
 //!
@@ -46,11 +47,15 @@
 //! `LogJudge::line`, `LogJudge::below_frame` and of the calls that they make). Without late answers it is the judge of a link, of the frames
 //! with marks that the events of the log decide (`logs_are_judged_as_links`). So what is proved of that
 //! judge holds of this one, if its premises hold with these marks. Of a CPU that never loads the counter it supposes no load among lost
-//! lines (`unloaded_logs_excuse_no_load`).
+//! lines (`unloaded_logs_excuse_no_load`). With late answers it accuses a frame that is none of what the judge of the link accuses it
+//! of, but for rules that late answers may break, and for content where one can still come (`answers_in_time_are_judged`).
 //!
 //! `LogCounts` counts of each frame what `counts_with` says, and returns how long the module took for an answer (`next` and
 //! `time` of `LogCounts::frame`; the clause of `LogCounts::lose`). `LogSigns` counts as `signs_with` says (clause of
 //! `LogSigns::frame`), and says the sign that `sign_of` defines by the counts (clause of `LogSigns::sign`).
+//!
+//! `LogStretches` keeps of each frame what `stretches_with` says, and returns the place above a block answer that `seam_of` defines
+//! (`next` and `seam` of `LogStretches::frame`).
 //!
 //! Only tested: that no right end is accused where late answers are left out, where the CPU never loads the counter, or where the
 //! judge finds by itself where the log was taken; that the logs of right links have no sign, and the four other kinds of logs theirs.
@@ -84,6 +89,8 @@ mod observation;
 mod outcome;
 mod repeated_frames;
 mod rules;
+mod seam;
+mod stretches;
 mod verdict;
 
 pub use block_order::{BlockOrder, BlockSeen};
@@ -105,4 +112,6 @@ pub use observation::Observation;
 pub use outcome::{Excuse, FrameOutcome, LogPlace, Unjudged};
 pub use repeated_frames::RepeatedFrames;
 pub use rules::{Rule, rule_broken, rule_broken_within};
+pub use seam::{SeamCause, ToldBlock};
+pub use stretches::{LogStretches, Seam};
 pub use verdict::{Verdict, check_trace};

@@ -29,8 +29,8 @@ pub enum Rule {
     /// Broken by a line that is a poll, not the first, with another number than the one due: that of
     /// the poll before, plus one modulo 256 if a block answer is directly below that poll.
     ///
-    /// Breach ahead: the CPU went on without an answer, and what block N had is lost, which TEES allows; or the log lost a
-    /// line
+    /// Breach ahead: the CPU went on without an answer, and what block N had may be lost, which TEES allows; or the log lost
+    /// a line
     ///
     /// Breach behind: the CPU asks again for a block that was answered; or it did not hear that answer, and the log is
     /// not its own

@@ -1,7 +1,5 @@
 -- The log is in order of scans, and in a scan of inputs.
-use Rattle.fio_ends.proofs.Names.{◌≡◌, ◌-◌, ◌<◌, ◌⊎◌, inl, inr, ℕ, [], ◌∷◌, length, Option, Some, None, arith, slice_get, Life, Scanned, Transition, log_of, get_in_front, cases_lt, get_in_back, scans_now, scans_within}
-use Rattle.fio_module.specs.Log.{transitions_below}
-use Rattle.fio_module.proofs.ScanTransitions.{ascending}
+use Rattle.fio_ends.proofs.Names.{◌≡◌, ◌-◌, ◌<◌, ◌⊎◌, inl, inr, ℕ, [], ◌∷◌, length, Option, Some, None, arith, slice_get, Life, Scanned, Transition, log_of, get_in_front, cases_lt, get_in_back, scans_now, scans_within, transitions_below, ascending}
 
 -- a transition is later than so many scans, or of the last of them and of a higher input than this one, if there is one
 abbrev pub IsAhead : Option ℕ → ℕ → Transition → Type 0

@@ -1,5 +1,5 @@
 -- All rules on content at once, along a prompt run.
-use Rattle.fio_ends.proofs.Names.{◌≡◌, ◌+◌, ℕ, Bool, true, false, List, [], ◌∷◌, Option, None, refl, ap, ap₂, option_map, IsCommand, Life, life_of, loads_of, Settings, AreInRange, ContentFacts, ContentKept, content_with, no_content, ContentEvent, no_facts, ContentRule, Accepted, Alternate, Apart, Cleared, Clock, Done, Fresh, Ignored, Order, State, Watchdog, Facts, Event, Machine, number_of, sending_refusal, refusal, after, after_sending, IsNotRestart, CpuFrame, frames_at, IsPrompt, IsWithinRanges, command_octets, Command, breach_among, content_found, option_or, arith}
+use Rattle.fio_ends.proofs.Names.{◌≡◌, ◌+◌, ℕ, Bool, true, false, List, [], ◌∷◌, Option, None, refl, ap, ap₂, option_map, IsCommand, Life, life_of, loads_of, Settings, AreInRange, ContentFacts, ContentKept, content_with, no_content, ContentEvent, no_facts, ContentRule, Accepted, Alternate, Apart, Cleared, Clock, Done, Fresh, Ignored, Order, State, Watchdog, Facts, Event, Machine, number_of, sending_refusal, refusal, after, after_sending, IsNotRestart, CpuFrame, frames_at, IsPrompt, IsWithinRanges, command_octets, Command, breach_among, content_found, option_or, arith, nat_tests}
 use Rattle.fio_message.specs.declared.commands.Command.TheVariants as commands
 use Rattle.fio_link.specs.declared.event.Event.TheVariants as events
 use Rattle.fio_ends.proofs.AlternateKept.{FollowHolds, alternate_is_invariant}
@@ -37,34 +37,10 @@ pub record OfEach (P : ContentRule → Type 0) : Type 0 where
   pub state : P State
 
 pub each_follows : (P Q : ContentRule → Type 0) → ((rule : ContentRule) → P rule → Q rule) → OfEach P → OfEach Q
-each_follows P Q follows all = record {
-  order = follows Order all.order;
-  fresh = follows Fresh all.fresh;
-  alternate = follows Alternate all.alternate;
-  apart = follows Apart all.apart;
-  ignored = follows Ignored all.ignored;
-  clock = follows Clock all.clock;
-  done = follows Done all.done;
-  accepted = follows Accepted all.accepted;
-  cleared = follows Cleared all.cleared;
-  watchdog = follows Watchdog all.watchdog;
-  state = follows State all.state;
-}
+each_follows P Q follows all = grind (arith, nat_tests)
 
 pub both_follow : (P Q R : ContentRule → Type 0) → ((rule : ContentRule) → P rule → Q rule → R rule) → OfEach P → OfEach Q → OfEach R
-both_follow P Q R follows one other = record {
-  order = follows Order one.order other.order;
-  fresh = follows Fresh one.fresh other.fresh;
-  alternate = follows Alternate one.alternate other.alternate;
-  apart = follows Apart one.apart other.apart;
-  ignored = follows Ignored one.ignored other.ignored;
-  clock = follows Clock one.clock other.clock;
-  done = follows Done one.done other.done;
-  accepted = follows Accepted one.accepted other.accepted;
-  cleared = follows Cleared one.cleared other.cleared;
-  watchdog = follows Watchdog one.watchdog other.watchdog;
-  state = follows State one.state other.state;
-}
+both_follow P Q R follows one other = grind (arith, nat_tests)
 
 -- events that keep all rules break none
 none_among : (facts : ContentFacts) (items : ℕ) (found : List ContentEvent) → OfEach (λ rule. EventsKeep rule facts found) → breach_among facts items found ≡ None

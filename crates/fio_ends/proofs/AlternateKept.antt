@@ -1,9 +1,6 @@
 -- The rule `alternate` never accuses: an entry that is watched is a change from the state of the latest one of its input.
-use Rattle.fio_ends.proofs.Names.{◌≡◌, ◌≢◌, ◌∙◌, ◌+◌, ◌<◌, ◌≤◌, ◌&&◌, ◌||◌, inl, inr, ℕ, Bool, true, false, not, List, [], ◌∷◌, ◌++◌, length, Option, Some, None, option_map, option_and_then, refl, ap, sym, subst, arith, if◌then◌else◌, ◌==◌, beq, slice_get, eqb_tells, nat_lt, nat_tests, is_some_and, same_Some, Command, Block, InputItem, command_in, command_octets, IsCommand, says_again, says_more, Settings, AreInRange, Life, Occurrence, Scanned, LineSynced, Raised, life_of, life_after_command, log_of, Transition, entry_of, MadeBlock, blocks_in, ContentFacts, InputAbove, content_with, Ended, Recorded, Sent, Gap, Event, SentFrame, Machine, start, after, after_sending, after_delivery_to_module, after_taken, Alternate, IsKept, Always, KeepsRule, WatchedState, block_answer, coming, content_begun, end_of_blocks, ignores, input_below_clear, input_coming, input_ended, input_with_entry, input_with_item, item_for, items_sent, opens, settled_now, unnamed}
+use Rattle.fio_ends.proofs.Names.{◌≡◌, ◌≢◌, ◌∙◌, ◌+◌, ◌<◌, ◌≤◌, ◌&&◌, ◌||◌, inl, inr, ℕ, Bool, true, false, not, List, [], ◌∷◌, ◌++◌, length, Option, Some, None, option_map, option_and_then, refl, ap, sym, subst, arith, if◌then◌else◌, ◌==◌, beq, slice_get, eqb_tells, nat_lt, nat_tests, is_some_and, same_Some, Command, Block, InputItem, command_in, command_octets, IsCommand, says_again, says_more, Settings, AreInRange, Life, Occurrence, Scanned, LineSynced, Raised, life_of, life_after_command, log_of, Transition, entry_of, MadeBlock, blocks_in, ContentFacts, InputAbove, content_with, Ended, Recorded, Sent, Gap, Event, SentFrame, Machine, start, after, after_sending, after_delivery_to_module, after_taken, Alternate, IsKept, Always, KeepsRule, WatchedState, block_answer, coming, content_begun, end_of_blocks, ignores, input_below_clear, input_coming, input_ended, input_with_entry, input_with_item, item_for, items_sent, opens, settled_now, unnamed, wide_time_of, shaded, unless_shaded, ContentNeverAccuses}
 use Rattle.fio_message.specs.declared.commands.Command.TheVariants as commands
-use Rattle.fio_input.specs.Widening.{wide_time_of}
-use Rattle.fio_check.specs.ContentFacts.{shaded, unless_shaded}
-use Rattle.fio_ends.specs.ContentRuns.{ContentNeverAccuses}
 use Rattle.fio_ends.proofs.BlockPlaces.{end_at, ends_within, is_next}
 use Rattle.fio_ends.proofs.BlockWalk.{IsWalk, entry_event, gap_keeps, walk}
 use Rattle.fio_ends.proofs.ContentBegun.{begun_input}
@@ -299,12 +296,7 @@ module _ (settings : Settings) (range : AreInRange settings) (first : ℕ) (begi
 
 -- at the start of both ends no change is hidden
 pub follow_begun : (settings : Settings) → FollowHolds settings start content_begun
-follow_begun settings input low =
-    subst (KeepsFollowed [] [] 0 0 input true) (sym (begun_input input low))
-    (record {
-      open_ones = λ on none. may_be-now [] [] 0 0 input false (λ place frame high there. absurd (cc there)) (none_hidden-now [] 0 input refl);
-      watched_ones = λ watched is. absurd (cc is);
-    })
+follow_begun settings input low = grind (arith, nat_tests, begun_input, may_be-now, none_hidden-now)
 
 pub alternate_never_accuses : ContentNeverAccuses Alternate Always
 alternate_never_accuses = content_never_accuses Alternate (Unit {0}) tt (λ state machine event. tt)

@@ -1,7 +1,5 @@
 -- What is kept along a log of configurations and of the changes of inputs, whatever times are.
-use Rattle.fio_ends.proofs.Names.{List, ◌≡◌, ◌∙◌, ◌+◌, ◌<◌, ◌≤◌, ◌&&◌, ℕ, Bool, true, false, if◌then◌else◌, not, [], ◌∷◌, length, Some, None, refl, ap, sym, subst, arith, nat_lt, ◌==◌, fold, slice_get, Answer, Command, Block, IsCommand, command_in, says_again, says_more, Settings, AreInRange, Life, life_of, life_after_command, log_of, Transition, MadeBlock, blocks_in, end_of_blocks, ContentFacts, content_with, no_content, ContentEvent, Ended, Heard, Recorded, Gap, Sent, events_of_block, Event, SentFrame, Machine, start, after, after_sending, after_delivery_to_module, after_taken, IsKept, entry_of, below_clear, block_answer, coming, content_begun, input_coming, is_clear_end, steady_state}
-use Rattle.fio_input.specs.Widening.{wide_time_of}
-use Rattle.fio_check.specs.ContentRules.{is_excused}
+use Rattle.fio_ends.proofs.Names.{List, ◌≡◌, ◌∙◌, ◌+◌, ◌<◌, ◌≤◌, ◌&&◌, ℕ, Bool, true, false, if◌then◌else◌, not, [], ◌∷◌, length, Some, None, refl, ap, sym, subst, arith, nat_lt, ◌==◌, fold, slice_get, Answer, Command, Block, IsCommand, command_in, says_again, says_more, Settings, AreInRange, Life, life_of, life_after_command, log_of, Transition, MadeBlock, blocks_in, end_of_blocks, ContentFacts, content_with, no_content, ContentEvent, Ended, Heard, Recorded, Gap, Sent, events_of_block, Event, SentFrame, Machine, start, after, after_sending, after_delivery_to_module, after_taken, IsKept, entry_of, below_clear, block_answer, coming, content_begun, input_coming, is_clear_end, steady_state, wide_time_of, is_excused}
 use Rattle.fio_ends.proofs.ApartBlocks.{least_settled, logged_again, logged_clear, settle_least}
 use Rattle.fio_ends.proofs.ApartKept.{least-happens, least-sends, least_begun}
 use Rattle.fio_ends.proofs.ApartTimes.{least_by}

@@ -1,7 +1,5 @@
 -- The outcomes and the answers of a module that was started anew, as a judge of a link sees them.
-use Rattle.fio_ends.proofs.Names.{◌≡◌, ◌∙◌, Accepted, Cleared, Clock, ◌⊎◌, ◌&&◌, ℕ, Bool, true, false, List, [], ◌∷◌, length, Option, Some, None, refl, ap, ap₂, sym, subst, arith, if◌then◌else◌, is_some, option_and_then, AllByRecursion, Answer, Command, IsCommand, answered_block, command_octets, ContentFacts, ContentKept, content_events, kept_with, Heard, Done, Facts, RuleLimits, first_broken_within, is_some_and, observation_of, Watchdog, AccusesNeither, Block, Excused, FrameOutcome, HaveRestarts, IsRight, Judging, Kept, Load, NotJudged, Restarted, any_stamp_of, breach_among, breaks_answer, filter, is_answer_set_back, is_before, is_restart, stamp_of}
-use Rattle.fio_check.specs.LinkJudges.{stamp_above}
-use Rattle.fio_check.specs.declared.content.ContentBreach.{ContentBreach}
+use Rattle.fio_ends.proofs.Names.{◌≡◌, ◌∙◌, Accepted, Cleared, Clock, ◌⊎◌, ◌&&◌, ℕ, Bool, true, false, List, [], ◌∷◌, length, Option, Some, None, refl, ap, ap₂, sym, subst, arith, if◌then◌else◌, is_some, option_and_then, AllByRecursion, Answer, Command, IsCommand, answered_block, command_octets, ContentFacts, ContentKept, content_events, kept_with, Heard, Done, Facts, RuleLimits, first_broken_within, is_some_and, observation_of, Watchdog, AccusesNeither, Block, Excused, FrameOutcome, HaveRestarts, IsRight, Judging, Kept, Load, NotJudged, Restarted, any_stamp_of, breach_among, breaks_answer, filter, is_answer_set_back, is_before, is_restart, stamp_of, stamp_above, ContentBreach}
 use Rattle.fio_check.specs.declared.observation.Observation.TheVariants as seen
 use Rattle.fio_check.specs.declared.rules.Rule.TheVariants as tried
 use Rattle.fio_ends.proofs.ContentLines.{EventsKeep}

@@ -1,13 +1,9 @@
 -- What an answer that the CPU hears says of the module's life at the command.
-use Rattle.fio_ends.proofs.Names.{◌≡◌, ◌∙◌, ◌^◌, ◌<◌, ℕ, Bool, false, not, List, ◌∷◌, Some, None, refl, ap, sym, arith, same_Some, Answer, Command, answer_in, answer_octets, answer_to, answer_type_to, observation_of, all_present, Settings, Life, Commanded, filter_events, Machine, ContentFacts, ArrayVec, answer_code, counter_of, error_status, flags_of, input_state, is_some, raw_levels, set_before_status, to_be_bytes, w32, watchdog_of, word_of-fits}
-use Rattle.std.specs.Int.{w64, from_be_bytes, from_le_bytes, to_le_bytes}
-use Rattle.std.proofs.lemmas.Nat.{from_be_bytes-to_be_bytes_4, from_le_bytes-to_le_bytes_8}
+use Rattle.fio_ends.proofs.Names.{◌≡◌, ◌∙◌, ◌^◌, ◌<◌, ℕ, Bool, false, not, List, ◌∷◌, Some, None, refl, ap, sym, arith, same_Some, Answer, Command, answer_in, answer_octets, answer_to, answer_type_to, observation_of, all_present, Settings, Life, Commanded, filter_events, Machine, ContentFacts, ArrayVec, answer_code, counter_of, error_status, flags_of, input_state, is_some, raw_levels, set_before_status, to_be_bytes, w32, watchdog_of, word_of-fits, w64, from_le_bytes, to_le_bytes, from_be_bytes-to_be_bytes_4, from_le_bytes-to_le_bytes_8, OtherAnswer, word_of, nat_tests}
 use Rattle.fio_message.specs.Decoding.{message_in}
 use Rattle.fio_message.specs.declared.answers.Answer.TheVariants as answers
-use Rattle.fio_message.specs.declared.answers.OtherAnswer.{OtherAnswer}
 use Rattle.fio_message.specs.declared.commands.Command.TheVariants as commands
 use Rattle.fio_message.specs.declared.commands.OtherCommand.TheVariants as other_commands
-use Rattle.fio_module.specs.Flags.{word_of}
 use Rattle.fio_check.specs.declared.observation.Observation.TheVariants as seen
 use Rattle.fio_ends.proofs.ContentSteps.{HearsAnswer}
 
@@ -66,9 +62,7 @@ raw_back inputs stamp fits = ap (λ s. Some (answers.RawInputs (from_le_bytes w6
 filtered_back : (inputs stamp : ℕ) → inputs < 2 ^ 64 → stamp < 2 ^ 32
     → answer_in (answer_octets (answers.FilteredInputs inputs stamp)) ≡ Some (answers.FilteredInputs inputs stamp)
 unfolding message_in
-filtered_back inputs stamp small fits =
-    ap (λ n. Some (answers.FilteredInputs n (from_be_bytes w32 (to_be_bytes w32 stamp)))) (from_le_bytes-to_le_bytes_8 inputs small)
-    ∙ ap (λ s. Some (answers.FilteredInputs inputs s)) (from_be_bytes-to_be_bytes_4 stamp fits)
+filtered_back inputs stamp small fits = grind (arith, nat_tests, w32, to_be_bytes, from_le_bytes-to_le_bytes_8, from_be_bytes-to_be_bytes_4)
 
 -- ---- by the command
 

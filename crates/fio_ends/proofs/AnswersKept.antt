@@ -1,14 +1,8 @@
 -- The rules on answers that read no times never accuse: `done`, `accepted`, `cleared` and `watchdog`.
-use Rattle.fio_ends.proofs.Names.{◌≡◌, ◌∙◌, ◌&&◌, ◌||◌, ◌==◌, ℕ, ◌<◌, Bool, true, false, not, List, [], ◌∷◌, ◌++◌, refl, ap, sym, subst, arith, fold, if◌then◌else◌, list_any, nat_lt, nat_tests, InputItem, Answer, Command, Block, says_error, all_present, is_absent, Settings, Life, Occurrence, Commanded, life_of, Item, Entry, Gap, items_of_block, ContentFacts, content_with, Heard, Recorded, Ended, events_of_block, Accepted, Cleared, Done, Watchdog, ContentRule, Machine, Always, KeepsRule, below_clear, bit_at, bit_at-lt, bit_at-word_of, bit_of, block_answer, breaks_answer, error_back, error_status, flags_of, is_clear_end, is_some, items_and_end, list_all, same_from_bits_below, watchdog_of, word_of-fits}
-use Rattle.std.specs.Prelude.{bit_and, min}
-use Rattle.std.proofs.lemmas.Nat.{and_le_l}
-use Rattle.std.proofs.lemmas.Nat.Bits.{bit_at_and, bit_at-zero}
+use Rattle.fio_ends.proofs.Names.{◌≡◌, ◌∙◌, ◌&&◌, ◌||◌, ◌==◌, ℕ, ◌<◌, Bool, true, false, not, List, [], ◌∷◌, ◌++◌, refl, ap, sym, subst, arith, fold, if◌then◌else◌, list_any, nat_lt, nat_tests, InputItem, Answer, Command, Block, says_error, all_present, is_absent, Settings, Life, Occurrence, Commanded, life_of, Item, Entry, Gap, items_of_block, ContentFacts, content_with, Heard, Recorded, Ended, events_of_block, Accepted, Cleared, Done, Watchdog, ContentRule, Machine, Always, KeepsRule, below_clear, bit_at, bit_at-lt, bit_at-word_of, bit_of, block_answer, breaks_answer, error_back, error_status, flags_of, is_clear_end, is_some, items_and_end, list_all, same_from_bits_below, watchdog_of, word_of-fits, bit_and, and_le_l, bit_at_and, bit_at-zero, set_before_back, is_flag_up, word_of, is_set_dog, ContentNeverAccuses}
+use Rattle.std.specs.Prelude.{min}
 use Rattle.fio_message.specs.Bits.{is_set}
 use Rattle.fio_message.specs.declared.commands.Command.TheVariants as commands
-use Rattle.fio_message.proofs.StatusBits.{set_before_back}
-use Rattle.fio_module.specs.Flags.{is_flag_up, word_of}
-use Rattle.fio_check.specs.ContentSaid.{is_set_dog}
-use Rattle.fio_ends.specs.ContentRuns.{ContentNeverAccuses}
 use Rattle.fio_ends.proofs.Answered.{Says, says_of}
 use Rattle.fio_ends.proofs.Following.{GoesOn, IsSince}
 use Rattle.fio_ends.proofs.ContentLines.{EventsKeep}

@@ -1,8 +1,6 @@
 -- The entries of a block that the CPU takes are far enough from those of their inputs above.
-use Rattle.fio_ends.proofs.Names.{◌||◌, ◌≡◌, ◌∙◌, ◌+◌, ◌<◌, ◌≤◌, ◌&&◌, inl, inr, ℕ, Bool, true, false, not, List, [], ◌∷◌, ◌++◌, length, Option, Some, None, refl, ap, sym, subst, arith, append-nil, if◌then◌else◌, ◌==◌, slice_get, slice_get_within, eqb_tells, nat_lt, nat_tests, Block, says_again, says_more, Settings, AreInRange, Life, Occurrence, Commanded, FilterPair, AllByRecursion, life_of, log_of, Transition, entry_of, MadeBlock, ContentFacts, InputAbove, content_step, Ended, Recorded, Gap, Machine, after_taken, Apart, length-append, InputsAreNear, IsWithinAge, KeepsRule, SentItem, blocks_taken, coming, filter_towards, input_below_clear, input_coming, input_ended, input_with_entry, latest_with, milliseconds_between, settled_now, without_excuse}
+use Rattle.fio_ends.proofs.Names.{◌||◌, ◌≡◌, ◌∙◌, ◌+◌, ◌<◌, ◌≤◌, ◌&&◌, inl, inr, ℕ, Bool, true, false, not, List, [], ◌∷◌, ◌++◌, length, Option, Some, None, refl, ap, sym, subst, arith, append-nil, if◌then◌else◌, ◌==◌, slice_get, slice_get_within, eqb_tells, nat_lt, nat_tests, Block, says_again, says_more, Settings, AreInRange, Life, Occurrence, Commanded, FilterPair, AllByRecursion, life_of, log_of, Transition, entry_of, MadeBlock, ContentFacts, InputAbove, content_step, Ended, Recorded, Gap, Machine, after_taken, Apart, length-append, InputsAreNear, IsWithinAge, KeepsRule, SentItem, blocks_taken, coming, filter_towards, input_below_clear, input_coming, input_ended, input_with_entry, latest_with, milliseconds_between, settled_now, without_excuse, wide_time_of, is_too_near}
 use Rattle.fio_message.specs.declared.commands.Command.TheVariants as commands
-use Rattle.fio_input.specs.Widening.{wide_time_of}
-use Rattle.fio_check.specs.ContentRules.{is_too_near}
 use Rattle.fio_ends.proofs.Ahead.{log_ahead}
 use Rattle.fio_ends.proofs.BlockPlaces.{end_at, is_next}
 use Rattle.fio_ends.proofs.BlockWalk.{IsWalk, entry_event}

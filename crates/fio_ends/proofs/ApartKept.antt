@@ -1,6 +1,5 @@
 -- The rule `apart` never accuses: an entry is as far from the latest one of its input as the least filter that can be in force.
-use Rattle.fio_ends.proofs.Names.{after_sending, fold, Answer, Command, IsCommand, Sent, MadeBlock, Block, events_of_block, ◌≡◌, ◌∙◌, ◌+◌, ◌<◌, ◌≤◌, ℕ, true, false, [], ◌∷◌, ◌++◌, length, Some, refl, ap, sym, subst, arith, Option, append-nil, slice_get, command_in, command_octets, Settings, AreInRange, Life, Scanned, LineSynced, Raised, life_of, life_after_command, log_of, log_of-with_command, blocks_of, blocks_in, ContentFacts, InputAbove, Heard, Event, SentFrame, Machine, start, after, after_delivery_to_module, after_taken, Apart, IsKept, take, drop, KeepsRule, block_answer, blocks_taken, content_begun, content_step, end_of_blocks, item_for, item_parts, items_sent, scans_above, without_excuse, Occurrence}
-use Rattle.fio_module.specs.Log.{transitions_below}
+use Rattle.fio_ends.proofs.Names.{after_sending, fold, Answer, Command, IsCommand, Sent, MadeBlock, Block, events_of_block, ◌≡◌, ◌∙◌, ◌+◌, ◌<◌, ◌≤◌, ℕ, true, false, [], ◌∷◌, ◌++◌, length, Some, refl, ap, sym, subst, arith, Option, append-nil, slice_get, command_in, command_octets, Settings, AreInRange, Life, Scanned, LineSynced, Raised, life_of, life_after_command, log_of, log_of-with_command, blocks_of, blocks_in, ContentFacts, Heard, Event, SentFrame, Machine, start, after, after_delivery_to_module, after_taken, Apart, IsKept, take, drop, KeepsRule, block_answer, blocks_taken, content_begun, content_step, end_of_blocks, item_for, item_parts, items_sent, scans_above, without_excuse, Occurrence, transitions_below, nat_tests}
 use Rattle.fio_ends.proofs.BlockPlaces.{end_at}
 use Rattle.fio_ends.proofs.BlockWalk.{walk}
 use Rattle.fio_ends.proofs.ContentBegun.{begun_input}
@@ -148,22 +147,8 @@ module _ (settings : Settings) (range : AreInRange settings) (first : ℕ) (begi
       })
 
 pub least_begun : (input : ℕ) → input < 64 → KeepsLeast [] [] 0 0 input (content_begun.inputs input).least
-least_begun input low =
-    subst (λ (above : InputAbove). KeepsLeast [] [] 0 0 input above.least) (sym (begun_input input low))
-    (record {
-      now = record { leading = omega arith; trailing = omega arith };
-      coming = λ place frame high at. absurd (cc at);
-      logged = λ k transition high at of_input. absurd (cc at);
-    })
+least_begun input low = grind (arith, nat_tests, begun_input)
 
 -- at the start of both ends the filters are those of the item above, and no entry is recorded
 pub apart_begun : (settings : Settings) → KeepsApart settings start (scans_above true) start content_begun
-apart_begun settings = record {
-  full = λ clear. full_begun settings;
-  both = both_begun settings;
-  least = least_begun;
-  times = record {
-    clear = λ is. (omega arith, omega arith);
-    timed = λ input low time is. absurd (cc (ap (λ (above : InputAbove). above.timed) (sym (begun_input input low)) ∙ is));
-  };
-}
+apart_begun settings = grind (arith, nat_tests, full_begun, both_begun, least_begun, begun_input)

@@ -1,5 +1,5 @@
 -- The checkers begin anew at any command of a prompt run, below loads of the counter that may take effect, and go on.
-use Rattle.fio_ends.proofs.Names.{◌≡◌, ◌+◌, inr, ℕ, Bool, false, true, List, [], ◌∷◌, ◌++◌, map, Option, None, refl, ap, ap₂, sym, subst, arith, AllByRecursion, option_map, if◌then◌else◌, Life, life_of, loads_of, Settings, AreInRange, ContentKept, kept_with, no_facts, Done, Facts, RuleLimits, Event, Machine, start, refusal, after, Leads, IsNotRestart, HaveNoRestart, kept, kept_all, CpuFrame, TranscriptLine, cpu_frame_on, frames_at, frames_from, due_after, ArePrompt, IsPrompt, IsWithinRanges, SuitModule, AreTimesNear, AreUnderWay, HaveFrames, IsPromptRun, checking_with, content_found, found_first, found_in_frame, found_on, from_first_command, option_or, scans_above}
+use Rattle.fio_ends.proofs.Names.{◌≡◌, ◌+◌, inr, ℕ, Bool, false, true, List, [], ◌∷◌, ◌++◌, map, Option, None, refl, ap, ap₂, sym, subst, arith, AllByRecursion, option_map, if◌then◌else◌, Life, life_of, loads_of, Settings, AreInRange, ContentKept, kept_with, no_facts, Done, Facts, RuleLimits, Event, Machine, start, refusal, after, Leads, IsNotRestart, HaveNoRestart, kept, kept_all, CpuFrame, TranscriptLine, cpu_frame_on, frames_at, frames_from, due_after, ArePrompt, IsPrompt, IsWithinRanges, SuitModule, AreTimesNear, AreUnderWay, HaveFrames, IsPromptRun, checking_with, content_found, found_first, found_in_frame, found_on, from_first_command, option_or, scans_above, nat_tests}
 use Rattle.fio_link.specs.declared.event.Event.TheVariants as events
 use Rattle.fio_ends.specs.LinkLogs.{AccusesNoneBelowLoads}
 use Rattle.fio_ends.proofs.AllRules.{AllKeep, AllKnown, OfEach, agrees_again, again_known, all-event, all-poll, all-send, both_follow, done_is, each_follows, kept_again, none_in_frame, order_is}
@@ -167,12 +167,7 @@ none_above (line ∷ lines) kept none = by line.from_cpu refl (none_above lines 
 pub asks_begun : (begun : Bool) (settings : Settings) (first : ℕ) (machine last : Machine) (loads : ℕ) (later : List Event) → HaveNoRestart later → Leads settings first machine later last
     → AreUnderWay loads settings first machine later → AreTimesNear begun settings first machine later last
     → AsksTimes settings first machine (scans_above begun) (record { clock = clock_above begun; state = state_above; sent = loads }) machine later
-asks_begun begun settings first machine last loads later none leads under_way near = record {
-  taken = record { last = last; leads = leads; none = none; asked = record { blocks_near = near.blocks; near = near.inputs } };
-  stamps = near.stamps;
-  states = near.states;
-  loads = under_way;
-}
+asks_begun begun settings first machine last loads later none leads under_way near = grind (arith, nat_tests)
 
 module _ (settings : Settings) (range : AreInRange settings) (first : ℕ) (loads : ℕ) where
   begun_again : (later before : List Event) (machine last : Machine) → IsPromptRun settings first (before ++ later) last → Leads settings first start before machine → BeginsWithCommand later

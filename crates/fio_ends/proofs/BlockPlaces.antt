@@ -1,9 +1,5 @@
 -- Where the blocks of a life are in its log.
-use Rattle.fio_ends.proofs.Names.{◌≡◌, ◌∙◌, ◌+◌, ◌-◌, ◌≤◌, ℕ, zero, suc, false, List, [], ◌∷◌, length, take, drop, Some, slice_get, ap, sym, subst, arith, length-drop, length-take, nat_lt, nat_tests, same_Some, Settings, Life, Transition, log_of, MadeBlock, blocks_of, end_of_blocks, last_end-append, take_one_more}
-use Rattle.fio_module.specs.Blocks.{last_end}
-use Rattle.fio_module.specs.Laws.{FollowOneAnother, IsPartOf}
-use Rattle.fio_module.proofs.BlockLaws.{blocks_follow}
-use Rattle.fio_link.proofs.Places.{get_part}
+use Rattle.fio_ends.proofs.Names.{◌≡◌, ◌∙◌, ◌+◌, ◌-◌, ◌≤◌, ℕ, zero, suc, false, List, [], ◌∷◌, length, take, drop, Some, slice_get, ap, sym, subst, arith, length-drop, length-take, nat_lt, nat_tests, same_Some, Settings, Life, Transition, log_of, MadeBlock, blocks_of, end_of_blocks, last_end-append, take_one_more, last_end, FollowOneAnother, IsPartOf, blocks_follow, get_part}
 
 -- where the first blocks of a life end
 abbrev pub end_at : Settings → Life → ℕ → ℕ

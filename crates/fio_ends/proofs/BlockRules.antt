@@ -1,6 +1,5 @@
 -- Which rules of transcripts a block answer keeps that carries a block of the module.
-use Rattle.fio_ends.proofs.Names.{◌≡◌, ◌∙◌, ◌<◌, ◌≤◌, ◌&&◌, ◌||◌, ℕ, true, false, length, Some, refl, ap, sym, arith, is_some, nat_lt, nat_tests, list_any, BLOCK_ANSWER, Block, CarriesBlockOf, Facts, Life, Rule, RuleLimits, Settings, SuitModule, blocks_of, breaks_within, each-at, entry_of, is_absent, length-map, says_again, says_lost, says_more}
-use Rattle.fio_check.specs.Rules.{is_overfull_within}
+use Rattle.fio_ends.proofs.Names.{◌≡◌, ◌∙◌, ◌<◌, ◌≤◌, ◌&&◌, ◌||◌, ℕ, true, false, length, Some, refl, ap, sym, arith, is_some, nat_lt, nat_tests, list_any, BLOCK_ANSWER, Block, CarriesBlockOf, Facts, Life, Rule, RuleLimits, Settings, SuitModule, blocks_of, breaks_within, each-at, entry_of, is_absent, length-map, says_again, says_lost, says_more, is_overfull_within}
 use Rattle.fio_check.specs.declared.observation.Observation.TheVariants as seen
 use Rattle.fio_check.specs.declared.rules.Rule.TheVariants as tried
 use Rattle.fio_ends.proofs.BlocksOfLives.{KeepsLimits, blocks_keep}

@@ -1,7 +1,6 @@
 -- Times of the entries of a block that the CPU takes, and of the block, as the clock of the log has them.
-use Rattle.fio_ends.proofs.Names.{◌≡◌, ◌∙◌, ◌+◌, ◌^◌, ◌<◌, ◌≤◌, inl, inr, ℕ, false, [], ◌∷◌, length, Some, ap, sym, arith, append-nil, slice_get, length-append, Block, says_again, Settings, Life, Commanded, life_of, log_of, loads_of, scans_of, Transition, entry_of, MadeBlock, blocks_of, Machine, each-at, get_in_front, BlockTimely, blocks_timely, cases_lt}
+use Rattle.fio_ends.proofs.Names.{◌≡◌, ◌∙◌, ◌+◌, ◌^◌, ◌<◌, ◌≤◌, inl, inr, ℕ, false, [], ◌∷◌, length, Some, ap, sym, arith, append-nil, slice_get, length-append, Block, says_again, Settings, Life, Commanded, life_of, log_of, loads_of, scans_of, Transition, entry_of, MadeBlock, blocks_of, Machine, each-at, get_in_front, BlockTimely, blocks_timely, cases_lt, wide_time_of}
 use Rattle.fio_message.specs.declared.commands.Command.TheVariants as commands
-use Rattle.fio_input.specs.Widening.{wide_time_of}
 use Rattle.fio_ends.proofs.BlockPlaces.{ends_within, is_next}
 use Rattle.fio_ends.proofs.Clocks.{block_stamped, clock, offset_of, transition_clocked, wide_is}
 use Rattle.fio_ends.proofs.ContentSteps.{IsKnown, Takes}

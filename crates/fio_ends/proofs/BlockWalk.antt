@@ -1,6 +1,5 @@
 -- The events of a block that the CPU takes, one by one.
-use Rattle.fio_ends.proofs.Names.{◌==◌, ◌≡◌, ◌∙◌, ◌+◌, ◌≤◌, ℕ, suc, Bool, true, false, List, [], ◌∷◌, ◌++◌, length, map, Option, Some, None, refl, ap, sym, subst, arith, fold, slice_get, Block, says_lost, Settings, Life, Transition, entry_of, log_of, MadeBlock, blocks_of, item_of, Gap, ContentFacts, Ended, Heard, Recorded, events_of_block, ContentEvent, ContentRule, State, CarriesBlock, KeepsRule, Seen, block_answer, broken_state, gap_if}
-use Rattle.fio_check.specs.ContentRules.{first_differing}
+use Rattle.fio_ends.proofs.Names.{◌==◌, ◌≡◌, ◌∙◌, ◌+◌, ◌≤◌, ℕ, suc, Bool, true, false, List, [], ◌∷◌, ◌++◌, length, map, Option, Some, None, refl, ap, sym, subst, arith, fold, slice_get, Block, says_lost, Settings, Life, Transition, entry_of, log_of, MadeBlock, blocks_of, item_of, Gap, ContentFacts, Ended, Heard, Recorded, events_of_block, ContentEvent, ContentRule, State, CarriesBlock, KeepsRule, Seen, block_answer, broken_state, gap_if, first_differing}
 use Rattle.fio_ends.proofs.BlockPlaces.{IsNext, end_at, is_next}
 use Rattle.fio_ends.proofs.ContentLines.{EachKeeps, none_comes}
 

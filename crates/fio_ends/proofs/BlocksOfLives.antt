@@ -1,7 +1,5 @@
 -- What the rules ask of blocks: how many entries each has, and that the one after a block with C has some.
-use Rattle.fio_ends.proofs.Names.{◌≡◌, ◌∙◌, ◌+◌, ◌-◌, ◌<◌, ◌≤◌, inl, inr, ℕ, Bool, true, false, List, [], ◌∷◌, ◌++◌, length, drop, Option, Some, ap, sym, subst, arith, length-take, length-drop, length-append, if◌then◌else◌, nat_lt, slice_get, AllByRecursion, nat_tests, slice_get_within, Command, Poll, Settings, Life, Scanned, Commanded, life_after_command, log_of, MadeBlock, newest_poll, is_new, blocks_of, end_of_blocks, newest_end, next_block, start_after, count_from, last_end-append, get_after_push, get_before_push, HasInput, each_block, next_fits, min}
-use Rattle.fio_module.specs.Log.{transitions_below}
-use Rattle.fio_module.proofs.BlockLaws.{losses_leave_more}
+use Rattle.fio_ends.proofs.Names.{◌≡◌, ◌∙◌, ◌+◌, ◌-◌, ◌<◌, ◌≤◌, inl, inr, ℕ, Bool, true, false, List, [], ◌∷◌, ◌++◌, length, drop, Option, Some, ap, sym, subst, arith, length-take, length-drop, length-append, if◌then◌else◌, nat_lt, slice_get, AllByRecursion, nat_tests, slice_get_within, Command, Poll, Settings, Life, Scanned, Commanded, life_after_command, log_of, MadeBlock, newest_poll, is_new, blocks_of, end_of_blocks, newest_end, next_block, start_after, count_from, last_end-append, get_after_push, get_before_push, HasInput, each_block, next_fits, min, transitions_below, losses_leave_more}
 
 -- a block that keeps the limits: F implies C if more may wait than a block takes, C implies that it is full, and all its inputs
 -- are there

@@ -1,12 +1,7 @@
 -- A frame of another station is noise.
-use Rattle.fio_ends.proofs.Names.{◌≡◌, ◌∙◌, drop, ℕ, Bool, true, false, List, [], ◌∷◌, ◌++◌, Option, Some, None, option_map, refl, ap, sym, if◌then◌else◌, same_Some, SentFrame, FLAG, Framing, IsFraming, WireLine, frame_of, item_numbered, sent, stuffed}
-use Rattle.std.proofs.lemmas.Bool.{false≢true}
-use Rattle.std.proofs.lemmas.List.{same_from_push}
-use Rattle.fio_wire.specs.declared.heard.WireHeard.TheVariants.{Message, Other}
-use Rattle.fio_wire.specs.Frames.{Frame, is_own, wire_heard}
+use Rattle.fio_ends.proofs.Names.{◌≡◌, ◌∙◌, drop, ℕ, Bool, true, false, List, [], ◌∷◌, ◌++◌, Option, Some, None, option_map, refl, ap, sym, if◌then◌else◌, same_Some, SentFrame, FLAG, Framing, IsFraming, WireLine, frame_of, item_numbered, sent, stuffed, false≢true, same_from_push, Message, Other, is_own, wire_heard, said_in, IsNoise}
+use Rattle.fio_wire.specs.Frames.{Frame}
 use Rattle.fio_wire.specs.Frames as frames
-use Rattle.fio_wire.specs.Octets.{said_in}
-use Rattle.fio_ends.specs.Lines.{IsNoise}
 use Rattle.fio_ends.proofs.LineMessages.{IsMessage}
 use Rattle.fio_ends.proofs.LineParts.{frame_said}
 use Rattle.fio_ends.proofs.LineFrames.{IsLine, numbered_of, written_numbered}

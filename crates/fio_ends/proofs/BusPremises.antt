@@ -1,10 +1,6 @@
 -- What the premises of a bus leave open: whatever may come at each station if it is alone, and up to 256 stations.
-use Rattle.fio_ends.proofs.Names.{◌≡◌, ◌≢◌, ◌<◌, inl, ℕ, Bool, true, false, List, [], ◌∷◌, Option, Some, None, refl, sym, arith, nat_tests, ◌&&◌, Arrives, AtCpu, AtModule, EndOf, Happens, LeadOverLines, Loss, MayBring, Octet, WireEvent, WireLine, WiredEnds}
-use Rattle.fio_link.proofs.StandardLinks.{standard_in_range}
-use Rattle.fio_wire.specs.Frames.{admits}
-use Rattle.fio_ends.specs.Lines.{Brought}
-use Rattle.fio_ends.specs.Bus.{Bus, BusEnds, MayBringTo, MayComeAt, Station, after_bus_event, after_if, at_station, with_event}
-use Rattle.fio_ends.specs.BusRuns.{BusesExist, LinesAreStations}
+use Rattle.fio_ends.proofs.Names.{◌≡◌, ◌≢◌, ◌<◌, inl, ℕ, Bool, true, false, List, [], ◌∷◌, Option, Some, None, refl, sym, arith, nat_tests, ◌&&◌, Arrives, AtCpu, AtModule, EndOf, Happens, LeadOverLines, Loss, MayBring, Octet, WireEvent, WireLine, WiredEnds, standard_in_range, admits, Brought, BusEnds, MayBringTo, MayComeAt, Station, after_bus_event, after_if, at_station, with_event, BusesExist, LinesAreStations}
+use Rattle.fio_ends.specs.Bus.{Bus}
 use Rattle.fio_ends.proofs.BusStations.{MayComeIf}
 
 parts_of : (station : Station) (event : Option WireEvent) (events : List WireEvent) (ends last : WiredEnds)
@@ -53,14 +49,4 @@ not_both false b x = refl
 
 -- each station's number is its address
 pub buses_exist : BusesExist
-buses_exist count few = record {
-  settings = λ station within. standard_in_range 2 (omega arith);
-  framing = λ station within. record {
-    address = omega (arith, within, few);
-    control = omega arith;
-    own = both (admits station station) (admits 131 131) (same_admitted station) refl;
-  };
-  first = λ station within. omega arith;
-  apart = λ sender station is also other.
-      not_both (admits station sender) (admits 131 131) (other_not_admitted station sender (omega (arith, also, few)) other);
-}
+buses_exist count few = grind (arith, nat_tests, standard_in_range, both, same_admitted, not_both, other_not_admitted)

@@ -1,8 +1,6 @@
 -- Each station of a bus goes as if it were alone on its lines.
-use Rattle.fio_ends.proofs.Names.{◌<◌, ◌⊎◌, inl, inr, ℕ, List, [], ◌∷◌, Option, Some, None, ap, Machine, start, SentFrame, Arrives, AtCpu, AtModule, EndOf, Happens, LeadOverLines, Loss, MayBring, Octet, WireEvent, WireLine, WiredEnds}
-use Rattle.fio_ends.specs.Lines.{Brought, MayCome, IsNoise}
-use Rattle.fio_ends.specs.Bus.{Bus, BusEnds, BusEvent, IsAnothers, IsBus, LeadOnBus, MayBringTo, MayComeAt, Station, after_bus_event, after_if, at_station, bus_at_start, with_event}
-use Rattle.fio_ends.specs.BusRuns.{HeadlineAtStations, StationsAreLines, StationsAreRuns}
+use Rattle.fio_ends.proofs.Names.{◌<◌, ◌⊎◌, inl, inr, ℕ, List, [], ◌∷◌, Option, Some, None, ap, Machine, start, SentFrame, Arrives, AtCpu, AtModule, EndOf, Happens, LeadOverLines, Loss, MayBring, Octet, WireEvent, WireLine, WiredEnds, Brought, MayCome, IsNoise, BusEnds, BusEvent, IsAnothers, IsBus, LeadOnBus, MayBringTo, MayComeAt, Station, after_bus_event, after_if, at_station, bus_at_start, with_event, HeadlineAtStations, StationsAreLines, StationsAreRuns, nat_tests, arith}
+use Rattle.fio_ends.specs.Bus.{Bus}
 use Rattle.fio_ends.proofs.LineFrames.{IsLine}
 use Rattle.fio_ends.proofs.LineRuns.{Follows, begin, follow_one, headline_over_lines, lines_are_runs}
 use Rattle.fio_ends.proofs.BusNoise.{written_noise}
@@ -90,10 +88,7 @@ stations_are_lines bus events last station is lead within =
     lead_alone bus is events (bus_at_start bus) last (begin_all bus is) lead station within
 
 pub stations_are_runs : StationsAreRuns
-stations_are_runs bus events last station is lead within =
-    lines_are_runs (bus.station station).settings (bus.station station).framing (bus.station station).first (at_station station events)
-    (last station) (is.settings station within) (is.framing station within) (is.first station within)
-    (stations_are_lines bus events last station is lead within)
+stations_are_runs bus events last station is lead within = grind (arith, nat_tests, lines_are_runs, stations_are_lines)
 
 pub headline_at_stations : HeadlineAtStations
 headline_at_stations bus events last station is lead within =

@@ -1,21 +1,11 @@
 -- Each call follows an event of the link machine, up to the frames to the CPU.
-use Rattle.fio_ends.proofs.Names.{Answer, Block, Command, List, Machine, None, Option, SentFrame, Settings, Some, [], after, after_module_event, after_sending, answer_frames, ap, arith, block_in, cases_lt, command_octets, item_numbered, length, length-map, map, map-append, number_of, option_map, refl, slice_get-map, subst, suc, sym, take, zero, ℕ, ◌++◌, ◌<◌, ◌∙◌, ◌∷◌, ◌≡◌, ◌≢◌, ◌≤◌}
+use Rattle.fio_ends.proofs.Names.{Answer, Block, Command, List, Machine, None, Option, SentFrame, Settings, Some, [], after, after_module_event, after_sending, answer_frames, ap, arith, block_in, cases_lt, command_octets, item_numbered, length, length-map, map, map-append, number_of, option_map, refl, slice_get-map, subst, suc, sym, take, zero, ℕ, ◌++◌, ◌<◌, ◌∙◌, ◌∷◌, ◌≡◌, ◌≢◌, ◌≤◌, take-append_seam, new_items, next_number, no_block_in, FlatHeard, RecordItem, DeviceHistory, Reached, ErrorsChanged, ErrorChange, IsDeviceAfter, WritesReply, events_reached, with_errors, ErrorCounts, Writes, Hears, flat_record_item, flat_heard, with_block, CallerState, HasHappened, HasPolled, frames_written}
 use Rattle.std.proofs.lemmas.List.{length-append}
-use Rattle.std.proofs.Math.Seq.{take-append_seam}
 use Rattle.fio_message.specs.declared.answers.Answer.TheVariants as answers
 use Rattle.fio_message.specs.declared.commands.Command.TheVariants as commands
 use Rattle.fio_module.specs.Life as lives
-use Rattle.fio_cpu.specs.Hearing.{new_items, next_number}
 use Rattle.fio_cpu.specs.declared.poller.Heard.{Heard}
-use Rattle.fio_link.proofs.Spelled.{no_block_in}
-use Rattle.fio_flat.specs.declared.poller.FlatHeard.{FlatHeard}
-use Rattle.fio_flat.specs.declared.poller.RecordItem.{RecordItem}
 use Rattle.fio_flat.specs.Module as module_events
-use Rattle.fio_flat.specs.Module.{DeviceHistory, Reached, ErrorsChanged, ErrorChange, IsDeviceAfter, WritesReply, events_reached, with_errors}
-use Rattle.fio_flat.specs.declared.module.ErrorCounts.{ErrorCounts}
-use Rattle.fio_flat.specs.Written.{Writes}
-use Rattle.fio_flat.specs.Hearing.{Hears, flat_record_item, flat_heard, with_block}
-use Rattle.fio_ends.specs.Calls.{CallerState, HasHappened, HasPolled, frames_written}
 
 -- the octets of a frame
 abbrev pub octets_of : SentFrame → List ℕ

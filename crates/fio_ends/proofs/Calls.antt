@@ -1,14 +1,8 @@
 -- Calls of the exports follow the link machine, event by event.
-use Rattle.fio_ends.proofs.Names.{AreInRange, Block, Bool, Command, Event, Item, Leads, LineSync, List, Machine, None, Option, Raise, Restart, Scan, Send, SentFrame, Settings, Some, ToCpu, ToModule, [], after, after_delivered_block, after_delivery_to_cpu, after_delivery_to_module, answer_frames, ap, append-nil, ap₂, arith, block_in, command_in, delivery_refusal, if◌then◌else◌, item_numbered, items_of_block, length, length-map, map, map-append, nat_tests, number_of, number_of-next, option_map, refl, refusal, reply_to, runs_are_sound, same_Some, start, subst, sym, true, ℕ, ◌%◌, ◌++◌, ◌+◌, ◌∙◌, ◌∷◌, ◌≡◌, ◌≤◌}
+use Rattle.fio_ends.proofs.Names.{AreInRange, Block, Bool, Command, Event, Item, Leads, LineSync, List, Machine, None, Option, Raise, Restart, Scan, Send, SentFrame, Settings, Some, ToCpu, ToModule, [], after, after_delivered_block, after_delivery_to_cpu, after_delivery_to_module, answer_frames, ap, append-nil, ap₂, arith, block_in, command_in, delivery_refusal, if◌then◌else◌, item_numbered, items_of_block, length, length-map, map, map-append, nat_tests, number_of, number_of-next, option_map, refl, refusal, reply_to, runs_are_sound, same_Some, start, subst, sym, true, ℕ, ◌%◌, ◌++◌, ◌+◌, ◌∙◌, ◌∷◌, ◌≡◌, ◌≤◌, Received, new_items, next_number, Reached, are_flat_limits, events_reached, errors_of, with_errors, flat_settings, FlatLimits, flat_record_item, CallerState, caller_at_start, HasReceived, HasHeard, IsFoundAnd, IsCalledFor, AreCalled, Call, For, ChangeErrors, CallsAreRuns, link_events, frames_written}
 use Rattle.std.proofs.Common.{◌==◌}
-use Rattle.fio_module.specs.Life.{Received}
 use Rattle.fio_module.specs.Life as lives
-use Rattle.fio_cpu.specs.Hearing.{new_items, next_number}
 use Rattle.fio_link.specs.declared.event.Event.TheVariants.{Poll}
-use Rattle.fio_flat.specs.Module.{Reached, are_flat_limits, events_reached, errors_of, with_errors, flat_settings}
-use Rattle.fio_flat.specs.declared.module.FlatLimits.{FlatLimits}
-use Rattle.fio_flat.specs.Hearing.{flat_record_item}
-use Rattle.fio_ends.specs.Calls.{CallerState, caller_at_start, HasReceived, HasHeard, IsFoundAnd, IsCalledFor, AreCalled, Call, For, ChangeErrors, CallsAreRuns, link_events, frames_written}
 use Rattle.fio_ends.proofs.CallEvents.{Follows, block_of, errors_say, follows_errors, follows_event, follows_poll, follows_sent, frames_none, frames_written_say, items_written, numbered_block, numbered_octets, numbered_said, octets_of}
 
 module _ (settings : Settings) (first : ℕ) (machine : Machine) (held : CallerState) (f : Follows settings first machine held)

@@ -1,7 +1,6 @@
 -- What the judge of a link keeps of stamps where no load takes effect.
-use Rattle.fio_ends.proofs.Names.{◌≡◌, ◌∙◌, ℕ, Bool, true, false, List, Option, Some, None, refl, ap, arith, option_and_then, Answer, answer_in, facts_with, is_some_and, Facts, observation_in, observation_of, Judging, is_answer_set_back, judging_at, judging_kept, option_or, stamp_of}
+use Rattle.fio_ends.proofs.Names.{◌≡◌, ◌∙◌, ℕ, Bool, true, false, List, Option, Some, None, refl, ap, arith, option_and_then, Answer, answer_in, facts_with, is_some_and, Facts, observation_in, observation_of, Judging, is_answer_set_back, judging_at, judging_kept, option_or, stamp_of, asked_below}
 use Rattle.std.specs.Prelude.{◌||◌}
-use Rattle.fio_check.specs.LinkJudges.{asked_below}
 use Rattle.fio_check.specs.declared.observation.Observation.TheVariants as seen
 use Rattle.fio_ends.proofs.JudgeStamps.{StampState, comes_back, stamps_heard, stamps_polled}
 

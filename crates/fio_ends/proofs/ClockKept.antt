@@ -1,8 +1,7 @@
 -- The rule `clock` never accuses: a stamp is later than the one before it, or the same.
-use Rattle.fio_ends.proofs.Names.{◌≡◌, ◌∙◌, ◌+◌, ℕ, Bool, true, false, List, [], ◌∷◌, Option, Some, None, refl, ap, sym, subst, arith, fold, if◌then◌else◌, is_some_and, same_Some, Answer, Command, Block, answer_in, says_again, Settings, Life, life_of, loads_of, scans_of, MadeBlock, Item, Entry, Gap, items_of_block, ContentFacts, Ended, Heard, Recorded, Sent, events_of_block, Clock, Event, SentFrame, Machine, start, after_sending, after_taken, IsNear, KeepsRule, StampsAreNear, below_clear, block_answer, content_begun, content_step, counter_of, frame_at_place, is_before, is_clear_end, is_some, items_and_end, option_and_then, option_or, scans_above, stamp_of, without_excuse}
+use Rattle.fio_ends.proofs.Names.{◌≡◌, ◌∙◌, ◌+◌, ℕ, Bool, true, false, List, [], ◌∷◌, Option, Some, None, refl, ap, sym, subst, arith, fold, if◌then◌else◌, is_some_and, same_Some, Answer, Command, Block, answer_in, says_again, Settings, Life, life_of, loads_of, scans_of, MadeBlock, Item, Entry, Gap, items_of_block, ContentFacts, Ended, Heard, Recorded, Sent, events_of_block, Clock, Event, SentFrame, Machine, start, after_sending, after_taken, IsNear, KeepsRule, StampsAreNear, below_clear, block_answer, content_begun, content_step, counter_of, frame_at_place, is_before, is_clear_end, is_some, items_and_end, option_and_then, option_or, scans_above, stamp_of, without_excuse, hears_stamp}
 use Rattle.fio_message.specs.declared.commands.Command.TheVariants as commands
 use Rattle.fio_link.specs.declared.event.Event.TheVariants as events
-use Rattle.fio_ends.specs.ContentPremises.{hears_stamp}
 use Rattle.fio_ends.proofs.Answered.{says_of}
 use Rattle.fio_ends.proofs.Clocks.{clock, counter_is_clock, not_before, offset_of}
 use Rattle.fio_ends.proofs.ContentSteps.{HearsAnswer, IsKnown, IsSending, Takes}

@@ -1,9 +1,5 @@
 -- Where no load of the counter takes effect since a life, each counter since then is the scans and an offset.
-use Rattle.fio_ends.proofs.Names.{◌≡◌, ◌∷◌, ◌+◌, ◌-◌, ◌%◌, ◌^◌, ◌<◌, ◌≤◌, ℕ, true, false, Some, sym, subst, arith, slice_get, Settings, Life, Scanned, loads_of, scans_of, Transition, MadeBlock, each-at, BlockTimely, counter_of, is_before, is_later, milliseconds_between}
-use Rattle.fio_input.specs.Counter.{counter}
-use Rattle.fio_input.specs.Widening.{wide_time_of}
-use Rattle.fio_input.proofs.Ticks.{counter-append}
-use Rattle.fio_link.proofs.Times.{wide_time}
+use Rattle.fio_ends.proofs.Names.{◌≡◌, ◌∷◌, ◌+◌, ◌-◌, ◌%◌, ◌^◌, ◌<◌, ◌≤◌, ℕ, true, false, Some, sym, subst, arith, slice_get, Settings, Life, Scanned, loads_of, scans_of, Transition, MadeBlock, each-at, BlockTimely, counter_of, is_before, is_later, milliseconds_between, counter, wide_time_of, counter-append, wide_time}
 use Rattle.fio_ends.proofs.Following.{GoesOn}
 use Rattle.fio_ends.proofs.Lives.{IsLoggedSince, IsMadeSince, counter_events-append, goes_on-scan, loads_grow, scans_grow, scans_more}
 

@@ -1,8 +1,6 @@
 -- What is above a log that begins with both ends: events that break no rule, and what is known of each input.
-use Rattle.fio_ends.proofs.Names.{◌∙◌, None, Answer, content_step, ◌≡◌, ◌<◌, ℕ, Bool, [], ◌∷◌, refl, ap, arith, if◌then◌else◌, nat_lt, ContentFacts, content_with, no_content, Ended, Heard, Sent, ContentRule, State, KeepsRule, block_answer, broken_state, events_above, no_input, sent_step, step_only}
+use Rattle.fio_ends.proofs.Names.{◌∙◌, None, Answer, content_step, ◌≡◌, ◌<◌, ℕ, Bool, [], ◌∷◌, refl, ap, arith, if◌then◌else◌, nat_lt, ContentFacts, content_with, no_content, Ended, Heard, Sent, ContentRule, State, KeepsRule, block_answer, broken_state, events_above, no_input, sent_step, step_only, input_begun, block_at_start, command_at_start, no_again, no_error, no_lost}
 use Rattle.fio_message.specs.declared.answers.Answer.TheVariants as answers
-use Rattle.fio_check.specs.ContentFacts.{input_begun}
-use Rattle.fio_check.proofs.ContentStart.{block_at_start, command_at_start, no_again, no_error, no_lost}
 use Rattle.fio_ends.proofs.ContentFrame.{sent_keeps}
 use Rattle.fio_ends.proofs.ContentLines.{EventsKeep}
 

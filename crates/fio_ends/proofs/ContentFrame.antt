@@ -1,9 +1,7 @@
 -- What is kept of content along a prompt run, frame by frame.
-use Rattle.fio_ends.proofs.Names.{◌≡◌, ◌∙◌, ◌+◌, ◌%◌, ℕ, List, [], ◌∷◌, Option, Some, None, refl, ap, sym, subst, arith, ◌==◌, fold, same_Some, Answer, Command, answered_block, ContentFacts, content_with, ContentKept, kept_at_start, false, ContentEvent, Sent, events_in, content_events, events_of_block, number_after, facts_with, no_facts, ContentRule, Alternate, Apart, Fresh, Ignored, Order, State, Facts, Observation, Machine, number_of, sending_refusal, CpuFrame, SentFrame, length, ◌++◌, length-append, slice_get, get_push, command_in, Bool, Settings, KeepsRule, Seen, breaks_answer, broken_state, item_for, item_parts, items_sent, number_with_command}
+use Rattle.fio_ends.proofs.Names.{◌≡◌, ◌∙◌, ◌+◌, ◌%◌, ℕ, List, [], ◌∷◌, Option, Some, None, refl, ap, sym, subst, arith, ◌==◌, fold, same_Some, Answer, Command, answered_block, ContentFacts, content_with, ContentKept, kept_at_start, false, ContentEvent, Sent, events_in, content_events, events_of_block, number_after, facts_with, no_facts, ContentRule, Alternate, Apart, Fresh, Ignored, Order, State, Facts, Observation, Machine, number_of, sending_refusal, CpuFrame, SentFrame, length, ◌++◌, length-append, slice_get, get_last, command_in, Bool, Settings, KeepsRule, Seen, breaks_answer, broken_state, item_for, item_parts, items_sent, number_with_command, number_below, first_differing}
 use Rattle.fio_message.specs.declared.answers.Answer.TheVariants as answers
 use Rattle.fio_message.specs.Blocks.{Block as BlockOf}
-use Rattle.fio_check.specs.ContentEvents.{number_below}
-use Rattle.fio_check.specs.ContentRules.{first_differing}
 use Rattle.fio_ends.proofs.GoodLines.{said_by}
 use Rattle.fio_ends.proofs.Following.{IsSentLast, facts_below}
 use Rattle.fio_ends.proofs.ContentSteps.{Awaits, PollsKnown}
@@ -59,7 +57,7 @@ last_of frames f command s =
     let long : length (frames ++ f ∷ []) ≡ length frames + 1 = length-append frames (f ∷ []) in
     let last : length (frames ++ f ∷ []) ≡ s.place + 1 = s.last in
     let here : s.place ≡ length frames = omega arith in
-    let is : s.frame ≡ f = same_Some _ _ (sym s.at_place ∙ ap (slice_get (frames ++ f ∷ [])) here ∙ get_push frames f) in
+    let is : s.frame ≡ f = same_Some _ _ (sym s.at_place ∙ ap (slice_get (frames ++ f ∷ [])) here ∙ get_last frames f) in
     ap (λ (g : SentFrame). command_in g.octets) (sym is) ∙ s.spells
 
 -- the command that is sent awaits its answer

@@ -1,6 +1,6 @@
 -- A rule with an invariant never accuses, from the start of both ends or from any event on.
-use Rattle.fio_ends.proofs.Names.{life_of, loads_of, ◌≡◌, ℕ, Bool, true, false, List, [], ◌∷◌, refl, sym, subst, Life, Settings, AreInRange, ContentFacts, kept_at_start, no_facts, ContentRule, Event, Machine, start, Leads, HaveNoRestart, kept, frames_from, ◌++◌, TranscriptLine, Always, HaveFrames, IsPromptRun, LoadsAreSent, begun_is, content_begun}
-use Rattle.fio_ends.specs.ContentRuns.{ContentNeverAccuses, NoneBreaks, Premise}
+use Rattle.fio_ends.proofs.Names.{life_of, loads_of, ◌≡◌, ℕ, Bool, true, false, List, [], ◌∷◌, refl, sym, subst, Life, Settings, AreInRange, ContentFacts, kept_at_start, no_facts, ContentRule, Event, Machine, start, Leads, HaveNoRestart, kept, frames_from, ◌++◌, TranscriptLine, Always, HaveFrames, IsPromptRun, LoadsAreSent, begun_is, content_begun, NoneBreaks, Premise}
+use Rattle.fio_ends.specs.ContentRuns.{ContentNeverAccuses}
 use Rattle.fio_ends.proofs.Following.{follows-start}
 use Rattle.fio_ends.proofs.LaterLogs.{from_any}
 use Rattle.fio_ends.proofs.PromptRuns.{BeginsWithCommand, reaches}

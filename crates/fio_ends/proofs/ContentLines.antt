@@ -1,7 +1,5 @@
 -- Events that keep a rule on content, frame by frame, are those of a log in which none breaks it.
-use Rattle.fio_ends.proofs.Names.{◌&&◌, true, false, ◌≡◌, ◌∙◌, ◌-◌, ◌≤◌, inl, inr, ℕ, suc, Bool, List, [], ◌∷◌, ◌++◌, drop, length, map, Option, Some, None, refl, ap, sym, subst, arith, fold, option_map, slice_get, eqb_tells, length-drop, same_Some, slice_get_within, ContentFacts, content_with, no_content, ContentKept, kept_at_start, kept_with, ContentEvent, LineEvent, content_event_at, events_above, events_below, events_in, events_of_lines, TranscriptLine, ContentRule, CpuFrame, cpu_frame_on, KeepsRule, content_at, state_breach}
-use Rattle.fio_check.proofs.ContentCourse.{dropped_first}
-use Rattle.fio_check.proofs.ContentNext.{content_is_kept, content_next}
+use Rattle.fio_ends.proofs.Names.{◌&&◌, true, false, ◌≡◌, ◌∙◌, ◌-◌, ◌≤◌, inl, inr, ℕ, suc, Bool, List, [], ◌∷◌, ◌++◌, drop, length, map, Option, Some, None, refl, ap, sym, subst, arith, fold, option_map, slice_get, eqb_tells, length-drop, same_Some, slice_get_within, ContentFacts, content_with, no_content, ContentKept, kept_at_start, kept_with, ContentEvent, LineEvent, content_event_at, events_above, events_below, events_in, events_of_lines, TranscriptLine, ContentRule, CpuFrame, cpu_frame_on, KeepsRule, content_at, state_breach, dropped_first, content_is_kept, content_next}
 
 -- this holds of each of these events, by what is kept of content step by step
 abbrev pub EachKeeps : (ContentFacts → ContentEvent → Type 0) → (ContentFacts → ContentEvent → ContentFacts) → ContentFacts → List ContentEvent → Type 0

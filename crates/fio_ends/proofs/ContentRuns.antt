@@ -1,9 +1,8 @@
 -- Along a prompt run an invariant of content holds, from its start or from any command on.
-use Rattle.fio_ends.proofs.Names.{◌≡◌, ◌∙◌, ◌+◌, ◌%◌, ◌<◌, ◌≤◌, ◌⊎◌, inl, inr, ℕ, Bool, true, false, List, [], ◌∷◌, length, Option, Some, None, refl, ap, sym, subst, arith, if◌then◌else◌, ◌==◌, slice_get, AllByRecursion, list_any, nat_tests, Answer, Command, command_octets, IsCommand, Life, life_of, answer_in, block_in, Settings, AreInRange, ContentFacts, ContentKept, kept_at_start, Heard, Sent, content_events, events_of_block, number_after, no_facts, answer_type_to, is_absent, names_absent, observation_of, ContentRule, Facts, Event, SentFrame, Machine, number_of, sending_refusal, after_sending, after_delivery_to_module, after_delivered_block, after_delivery_to_cpu, refusal, after, Leads, HasBlock, IsNotRestart, HaveNoRestart, blocks_in, CarriesBlockOf, number_of-fits, number_of-next, after_taken, in_order, same_round, after_delivery, IsKept, carries_own, kept_all, kept, frame_heard, frames_at, frames_from, due_after, IsPrompt, ArePrompt, IsWithinRanges, Block, items_of_block, command_in, same_Some, InputAbove, InputItem, content_with, fold, Ended, Recorded, map, fold-append, ◌&&◌, Observation, block_answer, facts_with, frame_at_place, input_with_item, item_for, items_sent, number_with_command, observation_of_command, polling, unnamed, unwrap_or}
+use Rattle.fio_ends.proofs.Names.{◌≡◌, ◌∙◌, ◌+◌, ◌%◌, ◌<◌, ◌≤◌, ◌⊎◌, inl, inr, ℕ, Bool, true, false, List, [], ◌∷◌, length, Option, Some, None, refl, ap, sym, subst, arith, if◌then◌else◌, ◌==◌, slice_get, AllByRecursion, list_any, nat_tests, Answer, Command, command_octets, IsCommand, Life, life_of, answer_in, block_in, Settings, AreInRange, ContentFacts, ContentKept, kept_at_start, Heard, Sent, content_events, events_of_block, number_after, no_facts, answer_type_to, is_absent, names_absent, observation_of, ContentRule, Facts, Event, SentFrame, Machine, number_of, sending_refusal, after_sending, after_delivery_to_module, after_delivered_block, after_delivery_to_cpu, refusal, after, Leads, HasBlock, IsNotRestart, HaveNoRestart, blocks_in, CarriesBlockOf, number_of-fits, number_of-next, after_taken, in_order, same_round, after_delivery, IsKept, carries_own, kept_all, kept, frame_heard, frames_at, frames_from, due_after, IsPrompt, ArePrompt, IsWithinRanges, Block, items_of_block, command_in, same_Some, InputAbove, InputItem, content_with, fold, fold-append, ◌&&◌, Observation, block_answer, facts_with, frame_at_place, input_with_item, item_for, items_sent, number_with_command, observation_of_command, polling, unnamed, unwrap_or, ended_unpolled}
 use Rattle.fio_message.specs.declared.commands.Command.TheVariants as commands
 use Rattle.std.specs.Prelude.{◌||◌}
 use Rattle.fio_check.specs.declared.observation.Observation.TheVariants as seen
-use Rattle.fio_check.proofs.KeptContent.{ended_unpolled}
 use Rattle.fio_link.specs.declared.event.Event.TheVariants as events
 use Rattle.fio_ends.proofs.FirstPolls.{polls_begin, polls_raised, polls_received, polls_scanned, polls_sent, polls_synced, polls_taken}
 use Rattle.fio_ends.proofs.Heard.{IsHeardAs}
@@ -24,9 +23,7 @@ left_since polled since above item held free = grind arith
 
 -- below a block no poll is sent
 unpolled_below : (facts : ContentFacts) (block : Block) → (fold content_with facts (events_of_block block)).polled ≡ false
-unpolled_below facts block =
-    ap (λ (facts : ContentFacts). facts.polled) (fold-append content_with facts (Heard (block_answer block) ∷ map Recorded (items_of_block block)) (Ended block.status block.stamp ∷ []))
-    ∙ ended_unpolled (fold content_with facts (Heard (block_answer block) ∷ map Recorded (items_of_block block))) block.status block.stamp
+unpolled_below facts block = grind (arith, nat_tests, fold-append, content_with, block_answer, items_of_block, ended_unpolled)
 
 -- ---- an answer that is no block answer
 

@@ -1,8 +1,6 @@
 -- What is to be shown of an invariant, event by event, so that a rule on content never accuses.
-use Rattle.std.proofs.Common.{arith}
-use Rattle.fio_ends.proofs.Names.{◌≡◌, ◌+◌, ◌<◌, ◌≤◌, ℕ, true, false, List, ◌∷◌, length, Some, None, is_some, fold, slice_get, Answer, Command, Block, IsCommand, answer_in, command_in, says_again, Settings, Life, life_of, MadeBlock, newest_poll, is_new, ContentFacts, content_with, no_content, Heard, Sent, events_of_block, names_absent, ContentRule, Event, SentFrame, Machine, number_of, sending_refusal, after, after_sending, after_delivery_to_module, HasBlock, blocks_in, after_taken, IsKept, CarriesBlock, KeepsRule, item_for, items_sent}
+use Rattle.fio_ends.proofs.Names.{◌≡◌, ◌+◌, ◌<◌, ◌≤◌, ℕ, true, false, List, ◌∷◌, length, Some, None, is_some, fold, slice_get, Answer, Command, Block, IsCommand, answer_in, command_in, says_again, Settings, Life, life_of, MadeBlock, newest_poll, is_new, ContentFacts, content_with, no_content, Heard, Sent, events_of_block, names_absent, ContentRule, Event, SentFrame, Machine, number_of, sending_refusal, after, after_sending, after_delivery_to_module, HasBlock, blocks_in, after_taken, IsKept, CarriesBlock, KeepsRule, item_for, items_sent, arith, flags_cleared}
 use Rattle.fio_message.specs.declared.commands.Command.TheVariants as commands
-use Rattle.fio_check.specs.ContentAbove.{flags_cleared}
 use Rattle.fio_link.specs.declared.event.Event.TheVariants as events
 use Rattle.fio_ends.proofs.ContentLines.{EventsKeep}
 use Rattle.fio_ends.proofs.FirstPolls.{KnowsPolls}

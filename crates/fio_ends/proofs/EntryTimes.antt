@@ -1,6 +1,5 @@
 -- The times of a block that the CPU takes in a log, and of its entries.
-use Rattle.fio_ends.proofs.Names.{◌≡◌, ◌∙◌, ◌+◌, ◌^◌, ◌<◌, ◌≤◌, ℕ, false, length, Some, ap, arith, slice_get, AllByRecursion, length-append, Block, says_again, Settings, Life, life_of, loads_of, log_of, Transition, entry_of, MadeBlock, blocks_of, Machine, each-at, BlockTimely, blocks_timely, blocks_without_more_take_all}
-use Rattle.fio_input.specs.Widening.{wide_time_of}
+use Rattle.fio_ends.proofs.Names.{◌≡◌, ◌∙◌, ◌+◌, ◌^◌, ◌<◌, ◌≤◌, ℕ, false, length, Some, ap, arith, slice_get, AllByRecursion, length-append, Block, says_again, Settings, Life, life_of, loads_of, log_of, Transition, entry_of, MadeBlock, blocks_of, Machine, each-at, BlockTimely, blocks_timely, blocks_without_more_take_all, wide_time_of}
 use Rattle.fio_ends.proofs.Clocks.{IsClocked, block_stamped, clock, offset_of, transition_clocked, wide_is}
 use Rattle.fio_ends.proofs.ContentSteps.{IsKnown, Takes}
 use Rattle.fio_ends.proofs.Following.{GoesOn, goes_on-both}

@@ -1,17 +1,10 @@
 -- The judge of a log accuses no right link: its events are lines with marks.
-use Rattle.fio_ends.proofs.Names.{◌≡◌, ◌∙◌, ◌⊎◌, ◌||◌, inl, inr, ℕ, Bool, true, false, List, [], ◌∷◌, ◌++◌, map, Option, Some, None, refl, ap, sym, subst, AllByRecursion, if◌then◌else◌, AccusesNeither, AreUnderWay, AreUnderWayAt, CpuFrame, Event, FewAreUnderWay, FrameOutcome, Judging, LogLine, LogPlace, LogStep, Logged, Machine, Marked, Missing, RuleLimits, Settings, after, events_of, frames_at, is_command, log_from, logged_at, outcomes_of}
-use Rattle.fio_check.proofs.LogLaws.{as_link}
+use Rattle.fio_ends.proofs.Names.{◌≡◌, ◌∙◌, ◌⊎◌, ◌||◌, inl, inr, ℕ, Bool, true, false, List, [], ◌∷◌, ◌++◌, map, Option, Some, None, refl, ap, sym, subst, AllByRecursion, if◌then◌else◌, AccusesNeither, AreUnderWay, AreUnderWayAt, CpuFrame, Event, FewAreUnderWay, FrameOutcome, Judging, LogLine, LogPlace, LogStep, Logged, Machine, Marked, Missing, RuleLimits, Settings, after, events_of, frames_at, is_command, log_from, logged_at, outcomes_of, as_link, Frame, judging_below, link_starting, log_starting, judges_each, outcomes_in_log, AreLinesOf, Around, around_with, mark_if, nothing_around, Link, LogStart, Bus, AccusesNeitherInLog, AreLostWhereSaid, BeginsPart, FewAreUnderWayInParts, MayHaveHeldFrame, Remarked, SaysMessage, SeenAbove, SeenStep, SpeaksOfLoss, Unseen, below_frames, events_seen, found_saying, starts_begun, log_seen, lost_if, nothing_seen, AreMarked, below_command, judging_at_start, loads_at_start}
 use Rattle.fio_check.specs.LinkJudges.{Lost as Mark}
-use Rattle.fio_check.specs.LinkJudges.{Frame, judging_below}
 use Rattle.fio_check.specs.LogJudges as judged
-use Rattle.fio_check.specs.LogJudges.{link_starting, log_starting, judges_each, outcomes_in_log}
-use Rattle.fio_check.specs.LogLaws.{AreLinesOf, Around, around_with, mark_if, nothing_around}
-use Rattle.fio_check.specs.declared.log_judge.LogOutcome.TheVariants.{Link}
-use Rattle.fio_check.specs.declared.log_judge.LogStart.{LogStart}
 use Rattle.fio_check.specs.declared.log_judge.LogStart.TheVariants as starts
-use Rattle.fio_check.specs.declared.outcome.LogPlace.TheVariants.{Bus}
-use Rattle.fio_ends.specs.EventLogs.{AccusesNeitherInLog, AreLostWhereSaid, BeginsPart, FewAreUnderWayInParts, LogJudgeAccusesNone, MayHaveHeldFrame, Remarked, SaysMessage, Seen, SeenAbove, SeenStep, SpeaksOfLoss, Unseen, below_frames, events_seen, found_saying, starts_begun, log_seen, lost_if, nothing_seen}
-use Rattle.fio_ends.specs.LinkLogs.{AreMarked, JudgeAccusesNone, below_command, judging_at_start, loads_at_start}
+use Rattle.fio_ends.specs.EventLogs.{LogJudgeAccusesNone, Seen}
+use Rattle.fio_ends.specs.LinkLogs.{JudgeAccusesNone}
 use Rattle.fio_ends.proofs.JudgedLogs.{judge_accuses_none}
 use Rattle.fio_ends.proofs.SeenAbove.{Agrees, Stays, agrees_framed, agrees_lost, one_frame, possible_marks, possible_none, stays_framed, stays_lost, stays_warned}
 

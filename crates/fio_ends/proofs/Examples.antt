@@ -1,11 +1,9 @@
 -- Worked runs and their transcripts, by computation.
-use Rattle.fio_ends.proofs.Names.{◌≡◌, ◌+◌, ℕ, true, false, List, [], ◌∷◌, refl, arith, TranscriptLine, verdict_on, Event, ToModule, ToCpu, Machine, start, after, CpuFrame, Broken, IsPromptRun, Send, standard_settings}
+use Rattle.fio_ends.proofs.Names.{◌≡◌, ◌+◌, ℕ, true, false, List, [], ◌∷◌, refl, arith, TranscriptLine, verdict_on, Event, ToModule, ToCpu, Machine, start, after, CpuFrame, Broken, IsPromptRun, Send, standard_settings, Pair, Same, transcript_of, nat_tests}
 use Rattle.fio_message.specs.declared.commands.Command.TheVariants as commands
 use Rattle.fio_message.specs.Bits.{is_set}
 use Rattle.fio_message.specs.Decoding.{message_in}
-use Rattle.fio_check.specs.declared.rules.Rule.TheVariants.{Pair, Same}
 use Rattle.fio_link.specs.declared.event.Event.TheVariants.{Poll}
-use Rattle.fio_ends.specs.Transcripts.{transcript_of}
 
 -- the machine after these events
 abbrev done : ℕ → Machine → List Event → Machine
@@ -35,13 +33,7 @@ late_frames = refl
 -- it is a prompt run
 late_is_prompt : IsPromptRun (standard_settings 2) 255 late (done 255 start late)
 unfolding message_in is_set
-late_is_prompt =
-    record {
-      is_run = (refl, (refl, (refl, (refl, (refl, (refl, (refl, (refl, refl))))))));
-      no_restart = (tt, (tt, (tt, (tt, (tt, (tt, (tt, (tt, tt))))))));
-      within = (tt, (tt, (tt, (tt, (tt, (tt, (tt, (tt, tt))))))));
-      prompt = (tt, (tt, (omega arith, (omega arith, ((omega arith, refl), (tt, (omega arith, ((omega arith, refl), tt))))))));
-    }
+late_is_prompt = grind (arith, nat_tests)
 
 -- a poll that reaches the module twice breaks `same`
 twice : verdict_on (lines_from 1 (transcript_of (standard_settings 2) 0

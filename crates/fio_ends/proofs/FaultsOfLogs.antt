@@ -1,9 +1,6 @@
 -- Where the rules are kept, a log has no fault of them.
-use Rattle.fio_ends.proofs.Names.{◌≡◌, ℕ, Bool, false, List, length, Option, Some, None, refl, ap, option_map, slice_get, Answer, Entry, TranscriptLine, ContentFacts, ContentEvent, LineEvent, Heard, Recorded, content_event_at, events_of_log, ContentRule, Accepted, Alternate, Apart, Cleared, Clock, Done, Fresh, Ignored, Order, State, Watchdog, rule_broken_by, HasNearTimes, KeepsRule, breaks_answer, breaks_entry, content_at, content_fault_in, entry_rules, find, option_and_then, arith}
+use Rattle.fio_ends.proofs.Names.{◌≡◌, ℕ, Bool, false, List, length, Option, Some, None, refl, ap, option_map, slice_get, Answer, Entry, TranscriptLine, ContentFacts, ContentEvent, LineEvent, Heard, Recorded, content_event_at, events_of_log, ContentRule, Accepted, Alternate, Apart, Cleared, Clock, Done, Fresh, Ignored, Order, State, Watchdog, rule_broken_by, HasNearTimes, KeepsRule, breaks_answer, breaks_entry, content_at, content_fault_in, entry_rules, find, option_and_then, arith, recorded_items, answer_rules, content_fault_at, fault_by}
 use Rattle.std.specs.Prelude.{take, if◌then◌else◌}
-use Rattle.fio_check.specs.ContentEvents.{recorded_items}
-use Rattle.fio_check.specs.ContentRules.{answer_rules}
-use Rattle.fio_check.specs.ContentFaults.{content_fault_at, fault_by}
 use Rattle.fio_ends.specs.ContentRuns.{AccusesNone, ContentNeverAccuses}
 use Rattle.fio_ends.proofs.TimesKept.{apart_never_accuses, clock_never_accuses, fresh_never_accuses, order_never_accuses, state_never_accuses}
 use Rattle.fio_ends.proofs.AlternateKept.{alternate_never_accuses}

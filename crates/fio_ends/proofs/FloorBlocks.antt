@@ -1,6 +1,5 @@
 -- The entries of a block that the CPU takes come after the floor, and are the floor of those after them.
-use Rattle.fio_ends.proofs.Names.{◌≡◌, ◌∙◌, ◌+◌, ◌≤◌, ℕ, Bool, true, false, List, [], ◌∷◌, ◌++◌, length, Option, Some, None, refl, ap, sym, subst, arith, if◌then◌else◌, slice_get, Block, says_again, says_more, Settings, AreInRange, Life, life_of, scans_of, log_of, Transition, entry_of, MadeBlock, blocks_of, ContentFacts, content_step, Ended, Recorded, Machine, after_taken, Order, Fresh, ContentEvent, loads_of, same_Some, Gap, each-at, BlockTimely, BlocksAreNear, Floor, IsNear, IsTimely, KeepsRule, blocks_taken, blocks_timely, is_out_of_order, is_stale, scans_below, without_excuse}
-use Rattle.fio_input.specs.Widening.{wide_time_of}
+use Rattle.fio_ends.proofs.Names.{◌≡◌, ◌∙◌, ◌+◌, ◌≤◌, ℕ, Bool, true, false, List, [], ◌∷◌, ◌++◌, length, Option, Some, None, refl, ap, sym, subst, arith, if◌then◌else◌, slice_get, Block, says_again, says_more, Settings, AreInRange, Life, life_of, scans_of, log_of, Transition, entry_of, MadeBlock, blocks_of, ContentFacts, content_step, Ended, Recorded, Machine, after_taken, Order, Fresh, ContentEvent, loads_of, same_Some, Gap, each-at, BlockTimely, BlocksAreNear, Floor, IsNear, IsTimely, KeepsRule, blocks_taken, blocks_timely, is_out_of_order, is_stale, scans_below, without_excuse, wide_time_of}
 use Rattle.fio_ends.proofs.Ahead.{log_ahead}
 use Rattle.fio_ends.proofs.BlockPlaces.{end_at, is_next}
 use Rattle.fio_ends.proofs.BlockWalk.{IsWalk, entry_event}

@@ -1,5 +1,5 @@
 -- The rules `order` and `fresh` where no load of the counter takes effect: below a clear block each entry comes after the latest entry or block without C.
-use Rattle.fio_ends.proofs.Names.{fold, ◌++◌, MadeBlock, Block, events_of_block, ◌≡◌, ◌+◌, ◌≤◌, ℕ, true, [], ◌∷◌, length, Option, Some, refl, ap, subst, arith, Settings, AreInRange, Life, life_of, life_after_command, command_in, blocks_of, ContentFacts, Heard, Event, SentFrame, Machine, after, after_delivery_to_module, after_taken, blocks_in, IsKept, start, same_Some, take, drop, BlocksAreNear, block_answer, blocks_taken, content_begun, content_step, end_of_blocks, log_of-with_command, scans_above}
+use Rattle.fio_ends.proofs.Names.{fold, ◌++◌, MadeBlock, Block, events_of_block, ◌≡◌, ◌+◌, ◌≤◌, ℕ, true, [], ◌∷◌, length, Option, Some, refl, ap, arith, Settings, AreInRange, Life, life_of, life_after_command, command_in, blocks_of, ContentFacts, Heard, Event, SentFrame, Machine, after, after_delivery_to_module, after_taken, blocks_in, IsKept, start, same_Some, take, drop, BlocksAreNear, block_answer, blocks_taken, content_begun, content_step, end_of_blocks, log_of-with_command, scans_above, nat_tests}
 use Rattle.fio_link.specs.declared.event.Event.TheVariants as events
 use Rattle.fio_ends.proofs.BlockPlaces.{end_at}
 use Rattle.fio_ends.proofs.BlockWalk.{walk}
@@ -7,7 +7,7 @@ use Rattle.fio_ends.proofs.ContentSteps.{IsKnown, IsPastBus, Takes, past_cases}
 use Rattle.fio_ends.proofs.Clocks.{offset_of}
 use Rattle.fio_ends.proofs.Steady.{IsSteady}
 use Rattle.fio_ends.proofs.Taken.{blocks_stay, taken_stay}
-use Rattle.fio_ends.proofs.Floors.{IsFloor, KeepsFloor, floor-same, floor-scan}
+use Rattle.fio_ends.proofs.Floors.{KeepsFloor, floor-same, floor-scan}
 use Rattle.fio_ends.proofs.Fulls.{full_begun, full-happens, full-receives, scans_after, scans-command, waits_briefly}
 use Rattle.fio_ends.proofs.FloorBlocks.{KeepsFloorRules, KeepsRest, floor_walk}
 use Rattle.fio_ends.proofs.ContentLines.{EachKeeps}
@@ -78,15 +78,4 @@ module _ (settings : Settings) (range : AreInRange settings) (first : ℕ) (begi
 
 -- at the start of both ends no entry is below that time
 pub floor_begun : (settings : Settings) → KeepsFloor settings start (scans_above true) start content_begun
-floor_begun settings = record {
-  full = λ clear. full_begun settings;
-  floor = λ clear f is.
-      subst (IsFloor (offset_of []) [] 0 (Some 0)) (same_Some _ _ is)
-      (record {
-        scans = 0;
-        time = refl;
-        low = λ full at. (let same : 0 ≡ full = same_Some _ _ at in omega (arith, same));
-        within = omega arith;
-        ahead = λ k transition low at. absurd (cc at);
-      });
-}
+floor_begun settings = grind (arith, nat_tests, full_begun, offset_of, same_Some)

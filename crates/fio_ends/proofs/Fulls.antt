@@ -1,6 +1,5 @@
 -- The latest block without C: each entry that is still to be recorded was logged later than it was made.
-use Rattle.fio_ends.proofs.Names.{◌||◌, ◌≡◌, ◌∙◌, ◌+◌, ◌-◌, ◌^◌, ◌<◌, ◌≤◌, inl, inr, ℕ, Bool, true, false, List, [], ◌∷◌, ◌++◌, length, Option, Some, None, refl, ap, ap₂, sym, subst, arith, take, drop, if◌then◌else◌, slice_get, nat_le, nat_tests, is_some_and, Command, Block, says_again, says_more, Settings, AreInRange, Life, Occurrence, life_of, life_after_command, Scanned, LineSynced, Raised, scans_of, log_of, Transition, MadeBlock, blocks_of, blocks_in, ContentFacts, content_step, Ended, Event, SentFrame, Machine, after, after_delivery_to_module, after_taken, IsKept, command_in, end_of_blocks, log_of-with_command, length-append, get_in_front, each-at, BlockTimely, BlocksAreNear, IsNear, IsTimely, blocks_taken, blocks_timely, cases_lt, each-from_get, get_in_back, is_aging, is_far, scans_below, scans_now}
-use Rattle.fio_module.specs.Log.{transitions_below}
+use Rattle.fio_ends.proofs.Names.{◌||◌, ◌≡◌, ◌∙◌, ◌+◌, ◌^◌, ◌<◌, ◌≤◌, inl, inr, ℕ, Bool, true, false, List, [], ◌∷◌, ◌++◌, length, Option, Some, None, refl, ap, ap₂, sym, subst, arith, take, drop, if◌then◌else◌, slice_get, nat_le, nat_tests, is_some_and, Command, Block, says_again, says_more, Settings, AreInRange, Life, Occurrence, life_of, life_after_command, Scanned, LineSynced, Raised, scans_of, log_of, Transition, MadeBlock, blocks_of, blocks_in, ContentFacts, content_step, Ended, Event, SentFrame, Machine, after, after_delivery_to_module, after_taken, IsKept, command_in, end_of_blocks, log_of-with_command, length-append, get_in_front, each-at, BlockTimely, BlocksAreNear, IsNear, IsTimely, blocks_taken, blocks_timely, cases_lt, each-from_get, get_in_back, is_aging, is_far, scans_below, scans_now}
 use Rattle.fio_ends.proofs.BlockPlaces.{end_at, is_next}
 use Rattle.fio_ends.proofs.Clocks.{IsStamped, between_clocks, block_stamped, clock, offset_of}
 use Rattle.fio_ends.proofs.ContentSteps.{IsKnown, IsPastBus, Takes, past_cases}
@@ -53,48 +52,17 @@ KeepsFull settings begin above machine facts = facts.timely ≡ true
 
 pub full-scan : (settings : Settings) (begin now : Life) (raw upto round : ℕ) (before full : Option ℕ) → IsFull settings begin now upto round before full
     → IsFull settings begin (Scanned raw ∷ now) upto round before full
-full-scan settings begin now raw upto round before full f = record {
-  log = f.log;
-  blocks = f.blocks;
-  scans = f.scans;
-  full_is = f.full_is;
-  before_is = f.before_is;
-  within = omega (arith, f.within);
-  ahead = λ k transition low at.
-      (let log = log_of now in
-      elim (cases_lt k (length log)) as (λ _. f.scans < transition.scans) [
-        | inl old ↦ f.ahead k transition low (get_in_front log (transitions_below 64 raw now) k transition old at)
-        | inr new ↦
-            let newest = scans_now raw now (k - length log) transition (get_in_back log (transitions_below 64 raw now) k transition new at) in
-            omega (arith, f.within, newest)
-      ]);
-}
+full-scan settings begin now raw upto round before full f = grind (arith, nat_tests, log_of, cases_lt, inl, get_in_front, inr, scans_now, get_in_back)
 
 -- the start of both ends counts as a block without C
 pub full_begun : (settings : Settings) → IsFull settings [] [] 0 0 (Some 0) (Some 0)
-full_begun settings = record {
-  log = omega arith;
-  blocks = omega arith;
-  scans = 0;
-  full_is = refl;
-  before_is = refl;
-  within = omega arith;
-  ahead = λ k transition low at. absurd (cc at);
-}
+full_begun settings = grind (arith, nat_tests)
 
 -- where the log of the life stays, and more is recorded, or as much
 pub full-same : (settings : Settings) (begin now later : Life) (upto upto_later round round_later : ℕ) (before before_later full : Option ℕ)
     → log_of later ≡ log_of now → scans_of later ≡ scans_of now → upto ≤ upto_later → round ≤ round_later → before_later ≡ before
     → IsFull settings begin now upto round before full → IsFull settings begin later upto_later round_later before_later full
-full-same settings begin now later upto upto_later round round_later before before_later full log scans place further point f = record {
-  log = omega (arith, f.log, place);
-  blocks = omega (arith, f.blocks, further);
-  scans = f.scans;
-  full_is = f.full_is;
-  before_is = point ∙ f.before_is;
-  within = omega (arith, f.within, scans);
-  ahead = λ k transition low at. f.ahead k transition (omega (arith, low, place)) (ap (λ l. slice_get l k) (sym log) ∙ at);
-}
+full-same settings begin now later upto upto_later round round_later before before_later full log scans place further point f = grind (arith, nat_tests, slice_get)
 
 -- ---- other events
 

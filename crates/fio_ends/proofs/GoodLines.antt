@@ -1,8 +1,5 @@
 -- In frames that break no rule, one after the other, a checker finds nothing.
-use Rattle.fio_ends.proofs.Names.{◌≡◌, ◌∙◌, ◌+◌, ◌<◌, ◌≤◌, inl, inr, ℕ, zero, suc, List, [], ◌∷◌, ◌++◌, length, map, Option, Some, None, refl, ap, ap₂, sym, arith, length-append, append_assoc, slice_get, eqb_tells, facts_with, no_facts, TranscriptLine, observation_in, observation_on, first_broken_within, standard_rule_limits, verdict_on, Facts, RuleLimits, Observation, Good, seen_at, CpuFrame, cpu_frame_on, Breach, Broken, checker_with, earliest_above, found-taking, found_by, option_and_then, option_map, option_or, taking, unwrap_or, with-taking}
-use Rattle.fio_check.specs.Checkers.{checker_at, found_at, verdict_found_at}
-use Rattle.fio_check.specs.Observations.{is_sent_at, observation_at}
-use Rattle.fio_check.proofs.Checkers.{finds_the_first_breach}
+use Rattle.fio_ends.proofs.Names.{◌≡◌, ◌∙◌, ◌+◌, ◌<◌, ◌≤◌, inl, inr, ℕ, zero, suc, List, [], ◌∷◌, ◌++◌, length, map, Option, Some, None, refl, ap, ap₂, sym, arith, length-append, append_assoc, slice_get, eqb_tells, facts_with, no_facts, TranscriptLine, observation_in, observation_on, first_broken_within, standard_rule_limits, verdict_on, Facts, RuleLimits, Observation, Good, seen_at, CpuFrame, cpu_frame_on, Breach, Broken, checker_with, earliest_above, found-taking, found_by, option_and_then, option_map, option_or, taking, unwrap_or, with-taking, checker_at, found_at, verdict_found_at, is_sent_at, observation_at, finds_the_first_breach}
 
 -- what a frame says to the rules
 abbrev pub said_by : CpuFrame → Observation

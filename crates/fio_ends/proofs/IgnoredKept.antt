@@ -1,9 +1,6 @@
 -- The rule `ignored` never accuses: an input that was settled as ignored has no entries until an item opens it.
-use Rattle.fio_ends.proofs.Names.{◌≡◌, ◌∙◌, ◌+◌, ◌<◌, ◌≤◌, ◌&&◌, ◌||◌, inl, inr, ℕ, Bool, true, false, not, List, [], ◌∷◌, ◌++◌, length, Option, Some, None, is_some, same_Some, refl, ap, sym, subst, arith, if◌then◌else◌, ◌==◌, slice_get, slice_get_within, nat_lt, Answer, Command, Block, command_in, command_octets, IsCommand, says_again, says_more, says_error, all_present, InputItem, ArrayVec, Settings, AreInRange, Life, Scanned, LineSynced, Raised, life_of, life_after_command, log_of, Transition, entry_of, MadeBlock, blocks_in, ContentFacts, InputAbove, content_with, Ended, Recorded, Sent, Gap, Event, SentFrame, Machine, start, after, after_sending, after_delivery_to_module, after_taken, Ignored, IsKept, Always, KeepsRule, SentItem, block_answer, coming, content_begun, end_of_blocks, error_back, error_status, input_below_clear, input_coming, input_ended, input_with_entry, item_for, item_parts, items_sent, opens, Occurrence}
+use Rattle.fio_ends.proofs.Names.{◌≡◌, ◌∙◌, ◌+◌, ◌<◌, ◌≤◌, ◌&&◌, ◌||◌, inl, inr, ℕ, Bool, true, false, not, List, [], ◌∷◌, ◌++◌, length, Option, Some, None, is_some, same_Some, refl, ap, sym, subst, arith, if◌then◌else◌, ◌==◌, slice_get, slice_get_within, nat_lt, Answer, Command, Block, command_in, command_octets, IsCommand, says_again, says_more, says_error, all_present, InputItem, ArrayVec, Settings, AreInRange, Life, Scanned, LineSynced, Raised, life_of, life_after_command, log_of, Transition, entry_of, MadeBlock, blocks_in, ContentFacts, InputAbove, content_with, Ended, Recorded, Sent, Gap, Event, SentFrame, Machine, start, after, after_sending, after_delivery_to_module, after_taken, Ignored, IsKept, Always, KeepsRule, SentItem, block_answer, coming, content_begun, end_of_blocks, error_back, error_status, input_below_clear, input_coming, input_ended, input_with_entry, item_for, item_parts, items_sent, opens, Occurrence, wide_time_of, accepts_items, ContentNeverAccuses, nat_tests}
 use Rattle.fio_message.specs.declared.commands.Command.TheVariants as commands
-use Rattle.fio_input.specs.Widening.{wide_time_of}
-use Rattle.fio_check.specs.ContentSaid.{accepts_items}
-use Rattle.fio_ends.specs.ContentRuns.{ContentNeverAccuses}
 use Rattle.fio_ends.proofs.Alternating.{NoneOf}
 use Rattle.fio_ends.proofs.SettledAgain.{MadeThen, hidden_then, made_then, settles_open}
 use Rattle.fio_ends.proofs.SteadyKept.{clear_open}
@@ -16,7 +13,7 @@ use Rattle.fio_ends.proofs.ContentHeld.{content_never_accuses}
 use Rattle.fio_ends.proofs.ContentSteps.{HearsAnswer, IsInvariant, IsKnown, IsPastBus, Takes, past_cases}
 use Rattle.fio_ends.proofs.Following.{IsSentLast, IsSince, IsNoCommand}
 use Rattle.fio_ends.proofs.Sends.{read_back}
-use Rattle.fio_ends.proofs.Settled.{HasItem, KeepsItem, item-quiet, item-received, item-sent, item-taken, setting_of}
+use Rattle.fio_ends.proofs.Settled.{KeepsItem, item-quiet, item-received, item-sent, item-taken, setting_of}
 use Rattle.fio_ends.proofs.Taken.{blocks_stay}
 use Rattle.fio_ends.proofs.Watching.{IsSilent, NoneHidden, input_at, rest_at}
 use Rattle.fio_ends.proofs.Shut.{KeepsBoth, KeepsShut, ShutHolds, none_shut, shut-sent, silent-command, silent-further, silent-quiet}
@@ -236,18 +233,7 @@ module _ (settings : Settings) (range : AreInRange settings) (first : ℕ) (begi
 
 -- at the start of both ends each input is ignored, as the item above says
 pub both_begun : (settings : Settings) → ShutHolds settings start content_begun
-both_begun settings input low =
-    subst (KeepsBoth [] [] 0 0 input) (sym (begun_input input low))
-    (record {
-      item = record {
-        taken_one = λ is kept at. (
-          λ place frame high there. absurd (cc there),
-          subst (HasItem [] input) (same_Some _ _ at) (record { ignore = refl; leading = refl; trailing = refl }),
-        );
-        sent_last = λ is. absurd (cc is);
-      };
-      shut = λ is. (λ place frame high there. absurd (cc there), record { ignored = refl; none = tt });
-    })
+both_begun settings input low = grind (arith, nat_tests, begun_input, same_Some)
 
 pub ignored_never_accuses : ContentNeverAccuses Ignored Always
 ignored_never_accuses = content_never_accuses Ignored (Unit {0}) tt (λ state machine event. tt)

@@ -1,15 +1,14 @@
 -- Worked logs that fulfil what the laws of the judge of a link require, by computation: a frame is missing at a mark; the module is
 -- restarted; a load of the counter is under way where a log begins.
-use Rattle.fio_ends.proofs.Names.{◌≡◌, ◌∙◌, ◌+◌, ◌++◌, ℕ, true, false, List, [], ◌∷◌, None, refl, ap, sym, arith, is_some, list_any, Event, ToModule, ToCpu, Machine, start, after, standard_rule_limits, SuitModule, TranscriptLine, CpuFrame, frames_from, Leads, AreInRange, AreTimesNear, AreUnderWay, FewAreUnderWay, IsPromptRun, IsRestarted, Kept, LineSync, LoadCounter, LogStep, Logged, LoggedLife, Marked, Missing, Scan, Send, checking_again, events_from_command, events_of, found_first, is_restart, judging_anywhere, judging_below, log_from, machine_at_command, standard_settings}
+use Rattle.fio_ends.proofs.Names.{◌≡◌, ◌∙◌, ◌+◌, ◌++◌, ℕ, true, false, List, [], ◌∷◌, None, refl, ap, sym, arith, is_some, list_any, Event, ToModule, ToCpu, Machine, start, after, standard_rule_limits, SuitModule, TranscriptLine, CpuFrame, frames_from, Leads, AreInRange, AreTimesNear, AreUnderWay, FewAreUnderWay, IsPromptRun, IsRestarted, Kept, LineSync, LoadCounter, LogStep, Logged, LoggedLife, Marked, Missing, Scan, Send, checking_again, events_from_command, events_of, found_first, is_restart, judging_anywhere, judging_below, log_from, machine_at_command, standard_settings, Cpu, IsLogBelowLoads, outcomes_begun, outcomes_over_lives, nat_tests}
 use Rattle.fio_message.specs.Bits.{is_set}
 use Rattle.fio_message.specs.Decoding.{message_in}
 use Rattle.fio_input.specs.Widening.{wide_time_of}
 use Rattle.fio_module.specs.Log.{transitions_below}
 use Rattle.fio_check.specs.ContentRules.{first_differing, is_excused}
-use Rattle.fio_check.specs.declared.outcome.LogPlace.TheVariants.{Cpu}
 use Rattle.fio_link.specs.declared.event.Event.TheVariants.{Poll}
-use Rattle.fio_ends.specs.LinkLogs.{FramesMayBeMissing, IsLogBelowLoads, LoadsMayBeUnderWay, outcomes_begun}
-use Rattle.fio_ends.specs.RestartedLogs.{RestartsAreFound, outcomes_over_lives}
+use Rattle.fio_ends.specs.LinkLogs.{FramesMayBeMissing, LoadsMayBeUnderWay}
+use Rattle.fio_ends.specs.RestartedLogs.{RestartsAreFound}
 
 -- the machine after these events
 abbrev done : ℕ → Machine → List Event → Machine
@@ -53,13 +52,7 @@ missing_outcomes = refl
 
 missing_is_prompt : IsPromptRun (standard_settings 2) 0 (events_of missing) missing_last
 unfolding message_in is_set
-missing_is_prompt =
-    record {
-      is_run = (refl, (refl, (refl, (refl, (refl, (refl, refl))))));
-      no_restart = (tt, (tt, (tt, (tt, (tt, (tt, tt))))));
-      within = (tt, (tt, (tt, (tt, (tt, (tt, tt))))));
-      prompt = (tt, (omega arith, ((omega arith, refl), (tt, (omega arith, ((omega arith, refl), tt))))));
-    }
+missing_is_prompt = grind (arith, nat_tests)
 
 missing_under_way : FewAreUnderWay (standard_settings 2) 0 start None missing
 unfolding message_in is_set
@@ -67,12 +60,7 @@ missing_under_way = (λ command. tt, (λ command. tt, (λ command. (omega arith,
 
 missing_times : AreTimesNear true (standard_settings 2) 0 start (events_of missing) missing_last
 unfolding message_in is_set
-missing_times = record {
-  blocks = (omega arith, (omega arith, tt));
-  stamps = (λ hears. omega arith, (λ hears. omega arith, (λ hears. omega arith, (λ hears. omega arith, (λ hears. omega arith, (λ hears. omega arith, tt))))));
-  inputs = tt;
-  states = (λ scans block seen taken. absurd (cc seen), (λ scans block seen taken. absurd (cc seen), (λ scans block seen taken. absurd (cc seen), (λ scans block seen taken. absurd (cc seen), (λ scans block seen taken. absurd (cc seen), (λ scans block seen taken. absurd (cc seen), tt))))));
-}
+missing_times = grind (arith, nat_tests)
 
 pub may_be_missing : FramesMayBeMissing
 unfolding FramesMayBeMissing
@@ -120,42 +108,15 @@ is_found = refl
 
 above_is_prompt : IsPromptRun (standard_settings 2) 0 (events_of above) above_last
 unfolding message_in is_set wide_time_of transitions_below
-above_is_prompt =
-    record {
-      is_run = (refl, (refl, (refl, (refl, refl))));
-      no_restart = (tt, (tt, (tt, (tt, tt))));
-      within = (tt, (tt, (tt, (tt, tt))));
-      prompt = (tt, (tt, (omega arith, ((omega arith, refl), tt))));
-    }
+above_is_prompt = grind (arith, nat_tests)
 
 above_times : AreTimesNear false (standard_settings 2) 0 (machine_at_command (standard_settings 2) 0 start (events_of above)) (events_from_command (events_of above)) above_last
 unfolding message_in is_set wide_time_of transitions_below
-above_times = record {
-  blocks = (tt, tt);
-  stamps = (λ hears. tt, (λ hears. tt, (λ hears. tt, tt)));
-  inputs = tt;
-  states = (λ scans block seen taken. absurd (cc seen), (λ scans block seen taken. absurd (cc seen), (λ scans block seen taken. absurd (cc seen), tt)));
-}
+above_times = grind (arith, nat_tests)
 
 below_is_restarted : IsRestarted (standard_settings 2) 1 (judging_below (judging_anywhere standard_rule_limits) (log_from (standard_settings 2) 0 start above)) below below_last
 unfolding message_in is_set first_differing is_excused wide_time_of transitions_below
-below_is_restarted = record {
-  run = record {
-    is_run = (refl, (refl, (refl, refl)));
-    no_restart = (tt, (tt, (tt, tt)));
-    within = (tt, (tt, (tt, tt)));
-    prompt = (tt, (omega arith, ((omega arith, refl), tt)));
-  };
-  logged = tt;
-  calm = record { no_loads = refl; short = omega arith };
-  near = record {
-    blocks = (tt, tt);
-    stamps = (λ hears. tt, (λ hears. tt, (λ hears. tt, tt)));
-    inputs = tt;
-    states = (λ scans block seen taken. absurd (cc seen), (λ scans block seen taken. absurd (cc seen), (λ scans block seen taken. absurd (cc seen), tt)));
-  };
-  earlier = (λ stamp. absurd (cc stamp), λ none. (λ stamp. refl, λ none. tt));
-}
+below_is_restarted = grind (arith, nat_tests)
 
 pub restarts_found : RestartsAreFound
 unfolding RestartsAreFound message_in is_set first_differing is_excused wide_time_of transitions_below
@@ -202,13 +163,7 @@ loaded_needs_one = refl
 
 loaded_is_prompt : IsPromptRun (standard_settings 2) 0 (asked ++ loaded) loaded_last
 unfolding message_in is_set wide_time_of transitions_below
-loaded_is_prompt =
-    record {
-      is_run = (refl, (refl, (refl, (refl, (refl, (refl, (refl, (refl, (refl, (refl, refl))))))))));
-      no_restart = (tt, (tt, (tt, (tt, (tt, (tt, (tt, (tt, (tt, (tt, tt))))))))));
-      within = (tt, (omega arith, (tt, (tt, (tt, (tt, (tt, (tt, (tt, (tt, tt))))))))));
-      prompt = (tt, (tt, (omega arith, (tt, (omega arith, ((omega arith, refl), (tt, (tt, (omega arith, ((omega arith, refl), tt))))))))));
-    }
+loaded_is_prompt = grind (arith, nat_tests)
 
 asked_leads : Leads (standard_settings 2) 0 start asked asked_last
 asked_leads = (refl, (refl, (refl, refl)))
@@ -219,12 +174,7 @@ loaded_under_way = (omega arith, (omega arith, (omega arith, (omega arith, (omeg
 
 loaded_times : AreTimesNear false (standard_settings 2) 0 asked_last loaded loaded_last
 unfolding message_in is_set wide_time_of transitions_below
-loaded_times = record {
-  blocks = (tt, (omega arith, tt));
-  stamps = (λ hears. tt, (λ hears. tt, (λ hears. tt, (λ hears. omega arith, (λ hears. omega arith, (λ hears. omega arith, (λ hears. omega arith, tt)))))));
-  inputs = tt;
-  states = (λ scans block seen taken. absurd (cc seen), (λ scans block seen taken. absurd (cc seen), (λ scans block seen taken. absurd (cc seen), (λ scans block seen taken. absurd (cc seen), (λ scans block seen taken. absurd (cc seen), (λ scans block seen taken. absurd (cc seen), (λ scans block seen taken. absurd (cc seen), tt)))))));
-}
+loaded_times = grind (arith, nat_tests)
 
 loaded_log : IsLogBelowLoads 1 (standard_settings 2) 0 asked loaded asked_last loaded_last loaded_lines
 unfolding message_in is_set wide_time_of transitions_below

@@ -1,5 +1,5 @@
 -- Where the place is lost in the log of a prompt run: what the judge of a link knows there, and how it goes on.
-use Rattle.fio_ends.proofs.Names.{◌≡◌, ◌∙◌, ◌+◌, ◌-◌, ◌≤◌, ◌⊎◌, inl, inr, ℕ, true, false, List, [], ◌∷◌, map, Option, Some, None, refl, ap, sym, subst, arith, fold, AllByRecursion, Command, IsCommand, command_octets, command_in, Life, life_of, loads_of, Settings, AreInRange, ContentFacts, content_with, content_step, Sent, kept_with, content_events, Facts, RuleLimits, observation_in, Event, Machine, SentFrame, sending_refusal, refusal, after, after_delivery_to_module, item_numbered, IsNotRestart, IsKept, kept_all, CpuFrame, frame_heard, frames_at, due_after, IsPrompt, IsWithinRanges, Done, answer_in, AccusesNeither, AreUnderWayAt, Checker, ContentChecking, Judging, LoadsAreSent, LogPlace, Nothing, Skips, ToCommand, ToPoll, checker_below_lines, checker_skipping, checking_again, checking_with, is_command, judging_below, judging_lost, judging_passed, judging_with, le-max_left, loads_left, loads_sent, logged_at, max, outcomes_of, passes_over, sent_step, with_loads}
+use Rattle.fio_ends.proofs.Names.{◌≡◌, ◌∙◌, ◌+◌, ◌-◌, ◌≤◌, ◌⊎◌, inl, inr, ℕ, true, false, List, [], ◌∷◌, map, Option, Some, None, refl, ap, sym, subst, arith, fold, AllByRecursion, Command, IsCommand, command_octets, command_in, Life, life_of, loads_of, Settings, AreInRange, ContentFacts, content_with, content_step, Sent, kept_with, content_events, Facts, RuleLimits, observation_in, Event, Machine, SentFrame, sending_refusal, refusal, after, after_delivery_to_cpu, after_delivery_to_module, item_numbered, IsNotRestart, IsKept, kept_all, CpuFrame, frame_heard, frames_at, due_after, IsPrompt, IsWithinRanges, Done, answer_in, AccusesNeither, AreUnderWayAt, Checker, ContentChecking, Judging, LoadsAreSent, LogPlace, Nothing, Skips, ToCommand, ToPoll, checker_below_lines, checker_skipping, checking_again, checking_with, is_command, judging_below, judging_lost, judging_passed, judging_with, le-max_left, loads_left, loads_sent, logged_at, max, outcomes_of, passes_over, sent_step, with_loads, nat_tests}
 use Rattle.fio_link.specs.declared.event.Event.TheVariants as events
 use Rattle.fio_ends.proofs.AllRules.{done_is}
 use Rattle.fio_ends.proofs.BegunAgain.{Sends}
@@ -10,7 +10,6 @@ use Rattle.fio_ends.proofs.JudgeSteps.{heard_passed, passed}
 use Rattle.fio_ends.proofs.Lives.{loads_grow}
 use Rattle.fio_ends.proofs.PromptRuns.{keeps-event}
 use Rattle.fio_ends.proofs.Sends.{other_said, read_back, said_of}
-use Rattle.fio_ends.proofs.Steady.{heard-life}
 use Rattle.fio_ends.proofs.JumpedBlocks.{HasExcuses}
 use Rattle.fio_ends.proofs.TimesKept.{sends_loads, sent_has}
 use Rattle.fio_ends.proofs.TimesKnown.{goes_on-command, past_life}
@@ -51,17 +50,15 @@ life_on settings first machine (events.ToModule index) none = by (item_numbered 
     by : (found : Option SentFrame) → GoesOn (life_of machine.history) (life_of (after_delivery_to_module settings machine index found).history)
     by None = goes_on-same _ _ refl
     by (Some frame) = goes_on-command (life_of machine.history) (life_of machine.history) (command_in frame.octets) (goes_on-same _ _ refl)
-life_on settings first machine (events.ToCpu index) none =
-    goes_on-same (life_of machine.history) _ (ap life_of (heard-life settings first machine index (item_numbered machine.to_cpu index)))
+life_on settings first machine (events.ToCpu index) none = goes_on-same _ _ (ap life_of (stays (item_numbered machine.to_cpu index)))
+  where
+    stays : (found : Option SentFrame) → (after_delivery_to_cpu first machine index found).history ≡ machine.history
+    stays found = grind arith
 life_on settings first machine events.Restart none = absurd none
 
 -- more loads have taken effect since
 pub has_later : (sent jumps later excuses : ℕ) → jumps ≤ later → HasExcuses sent jumps excuses → HasExcuses sent later excuses
-has_later sent jumps later excuses more h = record { enough = by h.enough }
-  where
-    by : (excuses ≡ 255) ⊎ (sent ≤ jumps + excuses) → (excuses ≡ 255) ⊎ (sent ≤ later + excuses)
-    by (inl full) = inl full
-    by (inr enough) = inr (omega (arith, enough, more))
+has_later sent jumps later excuses more h = grind (arith, nat_tests, inl, inr)
 
 module _ (settings : Settings) (range : AreInRange settings) (first : ℕ) (limits : RuleLimits) (begin : Machine) where
   abbrev pub began : ℕ

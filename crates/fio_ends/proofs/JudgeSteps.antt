@@ -1,6 +1,5 @@
 -- What the judge of a link does with a frame in which no breach is found.
-use Rattle.fio_ends.proofs.Names.{◌≡◌, ◌∙◌, ℕ, Bool, true, false, List, [], ◌∷◌, ◌++◌, ◌⊎◌, inl, inr, Option, Some, None, refl, ap, sym, subst, if◌then◌else◌, nat_lt, AllByRecursion, ContentKept, kept_with, facts_with, no_facts, first_broken_within, Facts, RuleLimits, Observation, observation_in, observation_of, AccusesNeither, Answer, Checker, CpuFrame, Excused, FrameOutcome, Judging, Kept, Load, LogLine, LogPlace, NotJudged, Nothing, Restarted, Skips, ToCommand, checker_skipping, checker_with, checking_above, checking_with, content_found, content_here, found-taking, found_by, found_in_frame, is_set_back, judging_at, judging_below, judging_below_outcome, judging_kept, judging_passed, judging_taken, judging_with, judging_with_line, loads_below, loads_left, outcome_anew, outcome_found, outcome_in, outcome_set_back, outcomes_of, passes_over, place_lost, stamp_in, taking, unjudged_by, with-taking, arith}
-use Rattle.fio_check.specs.LinkJudges.{Frame, Lost}
+use Rattle.fio_ends.proofs.Names.{◌≡◌, ◌∙◌, ℕ, Bool, true, false, List, [], ◌∷◌, ◌++◌, ◌⊎◌, inl, inr, Option, Some, None, refl, ap, sym, subst, if◌then◌else◌, nat_lt, AllByRecursion, ContentKept, kept_with, facts_with, no_facts, first_broken_within, Facts, RuleLimits, Observation, observation_in, observation_of, AccusesNeither, Answer, Checker, CpuFrame, Excused, FrameOutcome, Judging, Kept, Load, LogLine, LogPlace, NotJudged, Nothing, Restarted, Skips, ToCommand, checker_skipping, checker_with, checking_above, checking_with, content_found, content_here, found-taking, found_by, found_in_frame, is_set_back, judging_at, judging_below, judging_below_outcome, judging_kept, judging_passed, judging_taken, judging_with, judging_with_line, loads_below, loads_left, outcome_anew, outcome_found, outcome_in, outcome_set_back, outcomes_of, passes_over, place_lost, stamp_in, taking, unjudged_by, with-taking, arith, Frame, Lost}
 use Rattle.fio_check.specs.declared.observation.Observation.TheVariants as seen
 
 -- the stamp of a frame is set back

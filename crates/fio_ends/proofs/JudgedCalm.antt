@@ -1,10 +1,9 @@
 -- Where no frame is missing, and no load takes effect, each frame of a right link keeps all rules for the judge, from the first
 -- command on.
-use Rattle.fio_ends.proofs.Names.{number_due, ◌≡◌, ◌∙◌, ◌+◌, ◌<◌, ◌≤◌, inr, ℕ, Bool, true, false, List, [], ◌∷◌, ◌++◌, map, Option, Some, None, refl, ap, sym, subst, arith, AllByRecursion, if◌then◌else◌, option_and_then, Life, life_of, loads_of, Settings, AreInRange, answer_in, ContentFacts, ContentKept, kept_with, facts_with, no_facts, Facts, RuleLimits, observation_in, answer_type_to, names_absent, Done, Event, Machine, SentFrame, start, number_of, number_of-fits, refusal, after, Leads, item_numbered, IsNotRestart, HaveNoRestart, IsKept, kept, CpuFrame, frame_heard, frames_at, due_after, ArePrompt, IsPrompt, IsWithinRanges, SuitModule, command_octets, AreLogged, AreTimesNear, Checker, ContentChecking, FrameOutcome, IsPromptRun, IsRight, JudgesOn, Judging, Kept, LoadsAreSent, LogLine, LogPlace, LogStep, Logged, Marked, Missing, NotJudged, Nothing, ToCommand, checker_skipping, events_from_command, events_of, is_command, judging_anywhere, judging_below, judging_kept, judging_passed, judging_with, judging_with_line, loads_sent, log_from, logged_at, machine_at_command, outcome_in, outcomes_of, passes_over, taking, unjudged_by}
+use Rattle.fio_ends.proofs.Names.{Skips, checking_above, number_due, ◌≡◌, ◌∙◌, ◌+◌, ◌<◌, ◌≤◌, inr, ℕ, Bool, true, false, List, [], ◌∷◌, ◌++◌, map, Option, Some, None, refl, ap, sym, subst, arith, AllByRecursion, if◌then◌else◌, option_and_then, Life, life_of, loads_of, Settings, AreInRange, answer_in, ContentFacts, ContentKept, kept_with, facts_with, no_facts, Facts, RuleLimits, observation_in, answer_type_to, names_absent, Done, Event, Machine, SentFrame, start, number_of, number_of-fits, refusal, after, Leads, item_numbered, HaveNoRestart, kept, CpuFrame, frame_heard, frames_at, due_after, ArePrompt, IsWithinRanges, SuitModule, command_octets, AreLogged, AreTimesNear, Checker, FrameOutcome, IsPromptRun, IsRight, JudgesOn, Judging, Kept, LoadsAreSent, LogLine, LogPlace, LogStep, Logged, Marked, Missing, NotJudged, Nothing, ToCommand, checker_skipping, events_from_command, events_of, is_command, judging_anywhere, judging_below, judging_kept, judging_passed, judging_with, judging_with_line, loads_sent, log_from, logged_at, machine_at_command, outcome_in, outcomes_of, passes_over, taking, unjudged_by, AboveCommand, IsCalm, nat_tests}
 use Rattle.fio_message.specs.declared.commands.Command.TheVariants as commands
-use Rattle.fio_check.specs.declared.outcome.Unjudged.TheVariants.{AboveCommand}
 use Rattle.fio_link.specs.declared.event.Event.TheVariants as events
-use Rattle.fio_ends.specs.LinkLogs.{IsCalm, JudgeKeepsAll}
+use Rattle.fio_ends.specs.LinkLogs.{JudgeKeepsAll}
 use Rattle.fio_ends.proofs.AllRules.{AllKnown, agrees_again, kept_again, none_in_frame}
 use Rattle.fio_ends.proofs.BegunAgain.{Sends, Went, asks_begun, asks_further, went-again, went-on}
 use Rattle.fio_ends.proofs.ClockKept.{clock_above}
@@ -12,21 +11,34 @@ use Rattle.fio_ends.proofs.ContentFrame.{Agrees}
 use Rattle.fio_ends.proofs.ContentLines.{content_below}
 use Rattle.fio_ends.proofs.ContentRuns.{content-event, content-poll, content-send}
 use Rattle.fio_ends.proofs.ContentSteps.{IsKnown}
-use Rattle.fio_ends.proofs.Following.{Follows, follows-start, from_after, goes_on-same}
+use Rattle.fio_ends.proofs.Following.{facts_below, Follows, follows-start, from_after, goes_on-same}
 use Rattle.fio_ends.proofs.JudgeLost.{AreHeard, all_heard, sends_if}
-use Rattle.fio_ends.proofs.JudgeStamps.{IsCalmOn, KeepsStamps, StampState, calm_on, lives_on, stamps_above, stamps_after, stamps_are_invariant, stamps_begin, stamps_heard, stamps_polled}
+use Rattle.fio_ends.proofs.JudgeStamps.{IsCalmOn, KeepsStamps, StampState, calm_on, lives_on, stamps_above, stamps_after, stamps_are_invariant, stamps_begin, stamps_heard}
 use Rattle.fio_ends.proofs.JudgeSteps.{KeepsFrame, command_taken, frame_again, frame_kept, heard_passed, outcomes-append, passed, passed_is}
 use Rattle.fio_ends.proofs.LaterLogs.{moved}
+use Rattle.fio_ends.proofs.JumpedBlocks.{HasExcuses}
 use Rattle.fio_ends.proofs.Lives.{loads_grow}
-use Rattle.fio_ends.proofs.PromptRuns.{ReachesLater, reaches}
+use Rattle.fio_ends.proofs.PromptRuns.{reaches}
 use Rattle.fio_ends.proofs.Sends.{other_said, said_of}
-use Rattle.fio_ends.proofs.Stamps.{ClockState, clock_after}
 use Rattle.fio_ends.proofs.StateKept.{state_above}
-use Rattle.fio_ends.proofs.StateKnown.{StateState, state_after}
 use Rattle.fio_ends.proofs.TimesKnown.{AsksTimes, TimeState, time_after}
 use Rattle.fio_ends.proofs.CalmStamps.{HasStamps, heard_on, heard_stamps, polled_stamps, sent_stamps}
 
 -- ---- a run
+
+-- What is kept beside the lines of a log: of times and of stamps, the life at the latest frame, the facts of both checkers, the
+-- machine, and the number that is due.
+pub record Beside : Type 0 where
+  pub times : TimeState
+  pub stamps : StampState
+  pub from : Life
+  pub facts : Facts
+  pub kept : ContentKept
+  pub machine : Machine
+  pub due : ℕ
+
+abbrev pub below_frames : Beside → List CpuFrame → Beside
+below_frames g frames = record g { facts = facts_below g.facts frames; kept = content_below g.kept frames }
 
 right_of : (outcome : FrameOutcome) → outcome ≡ Kept → IsRight outcome
 right_of outcome is = subst IsRight (sym is) tt
@@ -42,12 +54,7 @@ EndsAt first limits last judging = judging.checker.skips ≡ Nothing → JudgesO
 
 pub ends_judging : (first : ℕ) (limits : RuleLimits) (last : Machine) (facts : Facts) (kept : ContentKept) (judging : Judging) → judging.checker ≡ taking limits facts
     → judging.content ≡ record { begun = true; kept = kept } → ((due : ℕ) → number_due facts ≡ Some due → due ≡ number_of first last.round) → EndsAt first limits last judging
-ends_judging first limits last facts kept judging checker content due all = record {
-  limits_are = ap (λ (c : Checker). c.limits) checker;
-  all = all;
-  content = ap (λ (c : ContentChecking). c.begun) content;
-  due = λ n is. due n (sym (ap (λ (c : Checker). number_due c.facts) checker) ∙ is);
-}
+ends_judging first limits last facts kept judging checker content due all = grind (arith, nat_tests, number_due)
 
 -- lines of which each frame keeps all rules, to the end of a log
 abbrev pub RightTo : ℕ → RuleLimits → Machine → Judging → List LogLine → Type 0
@@ -58,162 +65,6 @@ right_both : (first : ℕ) (limits : RuleLimits) (last : Machine) (judging : Jud
 right_both first limits last judging front rest above below =
     (outcomes-append IsRight front rest judging above below.0, subst (EndsAt first limits last) (sym (below_both judging front rest)) below.1)
 
-module _ (settings : Settings) (range : AreInRange settings) (first : ℕ) (limits : RuleLimits) (suit : SuitModule settings limits) (begin : Machine) where
-  abbrev pub loads_at : ℕ
-  loads_at = loads_of (life_of begin.history)
-
-  abbrev pub time_at : ClockState → StateState → ℕ → TimeState
-  time_at c t sent = record { clock = c; state = t; sent = sent }
-
-  abbrev pub Stamps : StampState → Life → Machine → ContentFacts → Type 0
-  Stamps = KeepsStamps settings range first begin
-
-  -- each frame is judged, and no stamp was set back
-  pub record IsCalmly (c : ClockState) (t : StateState) (s : StampState) (machine : Machine) (due : ℕ) (judging : Judging) : Type 0 where
-    pub sent : ℕ
-    pub from : Life
-    pub facts : Facts
-    pub kept : ContentKept
-    pub known : IsKnown settings first begin from machine
-    pub follows : Follows settings first from machine due facts
-    pub agrees : Agrees settings first machine facts kept
-    pub content : AllKnown settings begin None (time_at c t sent) from machine kept.facts
-    pub stamps : Stamps s from machine kept.facts
-    pub checker_is : judging.checker ≡ taking limits facts
-    pub content_is : judging.content ≡ record { begun = true; kept = kept }
-    pub has : HasStamps judging facts.polled s
-
-  -- what an event keeps
-  pub record KeepsCalm (c : ClockState) (t : StateState) (sent : ℕ) (s : StampState) (machine : Machine) (due : ℕ) (judging : Judging) (lines : List LogLine) : Type 0 where
-    pub right : AllByRecursion IsRight (outcomes_of judging lines)
-    pub there : IsCalmly c t s machine due (judging_below judging lines)
-    pub sent_is : there.sent ≡ sent
-
-  module _ (c : ClockState) (t : StateState) (sent : ℕ) (from : Life) (machine : Machine) (due : ℕ) (at : LogPlace) where
-    -- below one frame
-    pub kept_on : (judging : Judging) (frame : CpuFrame) (facts : Facts) (kept : ContentKept) (s : StampState)
-        → KeepsFrame limits judging at frame (facts_with facts (observation_in frame.from_cpu frame.octets)) (kept_with kept frame.from_cpu frame.octets)
-        → Went settings first begin None (time_at c t sent) from due facts kept (frame ∷ []) machine → Stamps s from machine (kept_with kept frame.from_cpu frame.octets).facts
-        → HasStamps (judging_kept judging frame.from_cpu frame.octets) (facts_with facts (observation_in frame.from_cpu frame.octets)).polled s
-        → KeepsCalm c t sent s machine due judging (logged_at at frame ∷ [])
-    kept_on judging frame facts kept s k went stamps has = record {
-      right = (right_of (outcome_in judging at frame.from_cpu frame.octets) k.outcome, tt);
-      there = record {
-        sent = sent;
-        from = from;
-        facts = facts_with facts (observation_in frame.from_cpu frame.octets);
-        kept = kept_with kept frame.from_cpu frame.octets;
-        known = went.known;
-        follows = went.follows;
-        agrees = went.content.agrees;
-        content = went.content.holds;
-        stamps = stamps;
-        checker_is = k.checker;
-        content_is = k.content;
-        has = subst (λ j. HasStamps j (facts_with facts (observation_in frame.from_cpu frame.octets)).polled s) (sym k.is) has;
-      };
-      sent_is = refl;
-    }
-
-    module _ (judging : Judging) (facts : Facts) (kept : ContentKept) (s : StampState) (checker_is : judging.checker ≡ taking limits facts)
-        (content_is : judging.content ≡ record { begun = true; kept = kept }) (h : HasStamps judging facts.polled s) where
-      -- an event without a frame
-      calm_none : Went settings first begin None (time_at c t sent) from due facts kept [] machine → Stamps s from machine kept.facts → KeepsCalm c t sent s machine due judging []
-      calm_none went stamps = record {
-        right = tt;
-        there = record {
-          sent = sent;
-          from = from;
-          facts = facts;
-          kept = kept;
-          known = went.known;
-          follows = went.follows;
-          agrees = went.content.agrees;
-          content = went.content.holds;
-          stamps = stamps;
-          checker_is = checker_is;
-          content_is = content_is;
-          has = h;
-        };
-        sent_is = refl;
-      }
-
-      -- one with an answer
-      calm_heard : (found : Option SentFrame) → Went settings first begin None (time_at c t sent) from due facts kept (frame_heard found) machine
-          → Stamps (stamps_heard s (option_and_then (λ (frame : SentFrame). answer_in frame.octets) found)) from machine (content_below kept (frame_heard found)).facts
-          → KeepsCalm c t sent (stamps_heard s (option_and_then (λ (frame : SentFrame). answer_in frame.octets) found)) machine due judging (map (logged_at at) (frame_heard found))
-      calm_heard None went stamps = calm_none went stamps
-      calm_heard (Some sent_frame) went stamps =
-          let frame : CpuFrame = record { from_cpu = false; octets = sent_frame.octets } in
-          kept_on judging frame facts kept (stamps_heard s (answer_in sent_frame.octets))
-          (frame_kept limits judging at frame facts kept checker_is content_is (heard_on judging s facts.polled h (answer_in sent_frame.octets) stamps.none)
-          (went.rules limits suit).0 (none_in_frame kept frame [] went.content.keep)) went stamps (heard_stamps judging s facts sent_frame.octets h)
-
-      -- one with a command
-      calm_sent : (octets : List ℕ) (below : StampState) → Went settings first begin None (time_at c t sent) from due facts kept (record { from_cpu = true; octets = octets } ∷ []) machine
-          → Stamps below from machine (kept_with kept true octets).facts → HasStamps (judging_kept judging true octets) (facts_with facts (observation_in true octets)).polled below
-          → KeepsCalm c t sent below machine due judging (logged_at at (record { from_cpu = true; octets = octets }) ∷ [])
-      calm_sent octets below went stamps has =
-          let frame : CpuFrame = record { from_cpu = true; octets = octets } in
-          kept_on judging frame facts kept below
-          (frame_kept limits judging at frame facts kept checker_is content_is refl (went.rules limits suit).0 (none_in_frame kept frame [] went.content.keep)) went stamps has
-
-  -- an event
-  calm_step : (c : ClockState) (t : StateState) (s : StampState) (at : LogPlace) (event : Event) (rest : List Event) (machine : Machine) (due : ℕ) (judging : Judging) → (j : IsCalmly c t s machine due judging)
-      → AsksTimes settings first begin None (time_at c t j.sent) machine (event ∷ rest) → IsCalmOn settings range first begin machine (event ∷ rest)
-      → refusal machine event ≡ None → IsNotRestart event → IsWithinRanges event → IsPrompt machine due event
-      → KeepsCalm (clock_after c machine event) (state_after settings t machine event) (j.sent + loads_sent event) (stamps_after first s machine event) (after settings first machine event) (due_after machine due event) judging
-      (map (logged_at at) (frames_at first machine event))
-  calm_step c t s at event rest machine due judging j asks calm fine none within prompt =
-      by event
-      (went-on settings range first begin false None (time_at c t j.sent) j.from machine due j.facts j.known j.follows j.kept j.agrees j.content event rest fine none within prompt asks)
-      (content-event settings range first begin Done StampState (stamps_above settings range first begin) (stamps_after first) (λ s machine later. IsCalmOn settings range first begin machine later) Stamps
-      (stamps_are_invariant settings range first begin) s j.from machine due j.facts j.kept j.known j.follows j.agrees j.stamps event fine none within prompt rest calm).holds
-      fine within
-    where
-      by : (event : Event) → Went settings first begin None (time_after settings (time_at c t j.sent) machine event) (from_after machine j.from event) (due_after machine due event) j.facts j.kept (frames_at first machine event)
-          (after settings first machine event)
-          → Stamps (stamps_after first s machine event) (from_after machine j.from event) (after settings first machine event) (content_below j.kept (frames_at first machine event)).facts
-          → refusal machine event ≡ None → IsWithinRanges event
-          → KeepsCalm (clock_after c machine event) (state_after settings t machine event) (j.sent + loads_sent event) (stamps_after first s machine event) (after settings first machine event) (due_after machine due event) judging
-          (map (logged_at at) (frames_at first machine event))
-      by events.Poll went stamps fine within =
-          let number = number_of first machine.round in
-          let fits : number < 256 = omega (arith, number_of-fits first machine.round) in
-          calm_sent _ _ _ _ _ _ at judging j.facts j.kept s j.checker_is j.content_is j.has (command_octets (commands.Poll number)) (stamps_polled s number) went stamps
-          (polled_stamps judging s j.facts (command_octets (commands.Poll number)) number (ap (λ (c : Checker). c.facts) j.checker_is) (said_of (commands.Poll number) fits) j.has)
-      by (events.Send command) went stamps fine within =
-          calm_sent _ _ _ _ _ _ at judging j.facts j.kept s j.checker_is j.content_is j.has (command_octets command) s went stamps
-          (sent_stamps judging s j.facts (command_octets command) (answer_type_to command) (names_absent command) (said_of command within ∙ other_said command fine) j.has)
-      by (events.ToCpu index) went stamps fine within =
-          calm_heard _ _ _ _ _ _ at judging j.facts j.kept s j.checker_is j.content_is j.has (item_numbered machine.to_cpu index) went stamps
-      by (events.ToModule index) went stamps fine within = calm_none _ _ _ _ _ _ at judging j.facts j.kept s j.checker_is j.content_is j.has went stamps
-      by (events.Scan raw) went stamps fine within = calm_none _ _ _ _ _ _ at judging j.facts j.kept s j.checker_is j.content_is j.has went stamps
-      by events.LineSync went stamps fine within = calm_none _ _ _ _ _ _ at judging j.facts j.kept s j.checker_is j.content_is j.has went stamps
-      by (events.Raise mask) went stamps fine within = calm_none _ _ _ _ _ _ at judging j.facts j.kept s j.checker_is j.content_is j.has went stamps
-      by events.Restart went stamps fine within = calm_none _ _ _ _ _ _ at judging j.facts j.kept s j.checker_is j.content_is j.has went stamps
-
-  -- all events
-  pub calm_all : (steps : List LogStep) (c : ClockState) (t : StateState) (s : StampState) (machine last : Machine) (due : ℕ) (judging : Judging) → (j : IsCalmly c t s machine due judging)
-      → AsksTimes settings first begin None (time_at c t j.sent) machine (events_of steps) → IsCalmOn settings range first begin machine (events_of steps)
-      → Leads settings first machine (events_of steps) last → HaveNoRestart (events_of steps) → AllByRecursion IsWithinRanges (events_of steps) → ArePrompt settings first machine due (events_of steps)
-      → AreLogged steps → RightTo first limits last judging (log_from settings first machine steps)
-  calm_all [] c t s machine last due judging j asks calm leads none within prompt logged =
-      (tt, ends_judging first limits last j.facts j.kept judging j.checker_is j.content_is (λ n is. j.follows.number n is ∙ ap (λ (m : Machine). number_of first m.round) (sym leads)))
-  calm_all (Logged at event ∷ steps) c t s machine last due judging j asks calm leads none within prompt logged =
-      let next = after settings first machine event in
-      let lines = map (logged_at at) (frames_at first machine event) in
-      let k = calm_step c t s at event (events_of steps) machine due judging j asks calm leads.0 none.0 within.0 prompt.0 in
-      right_both first limits last judging lines (log_from settings first next steps) k.right
-      (calm_all steps (clock_after c machine event) (state_after settings t machine event) (stamps_after first s machine event) next last (due_after machine due event) (judging_below judging lines) k.there
-      (subst (λ n. AsksTimes settings first begin None (time_at (clock_after c machine event) (state_after settings t machine event) n) next (events_of steps)) (sym k.sent_is)
-      (asks_further settings range first begin false None (time_at c t j.sent) machine event (events_of steps) asks))
-      (calm_on settings range first begin machine event (events_of steps) calm) leads.1 none.1 within.1 prompt.1 logged)
-  calm_all (Missing event ∷ steps) c t s machine last due judging j asks calm leads none within prompt logged = absurd logged
-  calm_all (Marked ∷ steps) c t s machine last due judging j asks calm leads none within prompt logged = absurd logged
-
--- ---- from its first line on
-
 -- no load takes effect
 pub none_loaded : (settings : Settings) (range : AreInRange settings) (first : ℕ) (later : List Event) (machine last : Machine) (most : ℕ) → Leads settings first machine later last → HaveNoRestart later
     → loads_of (life_of last.history) ≤ most → LoadsAreSent settings first most machine later
@@ -223,6 +74,204 @@ none_loaded settings range first (event ∷ later) machine last most leads none 
       omega (arith, grown, few),
       none_loaded settings range first later (after settings first machine event) last (most + loads_sent event) leads.1 none.1 (omega (arith, few)),
     )
+
+module _ (settings : Settings) (range : AreInRange settings) (first : ℕ) (limits : RuleLimits) (suit : SuitModule settings limits) (begin : Machine) where
+  -- an event later
+  abbrev pub later : Beside → Event → Beside
+  later g event = record g {
+    times = time_after settings g.times g.machine event;
+    stamps = stamps_after first g.stamps g.machine event;
+    from = from_after g.machine g.from event;
+    machine = after settings first g.machine event;
+    due = due_after g.machine g.due event;
+  }
+
+  abbrev pub step : Beside → Event → Beside
+  step g event = below_frames (later g event) (frames_at first g.machine event)
+
+  abbrev pub Stamped : StampState → Life → Machine → ContentFacts → Type 0
+  Stamped = KeepsStamps settings range first begin
+
+  -- what is known of a log
+  pub record Knows (g : Beside) : Type 0 where
+    pub known : IsKnown settings first begin g.from g.machine
+    pub follows : Follows settings first g.from g.machine g.due g.facts
+    pub agrees : Agrees settings first g.machine g.facts g.kept
+    pub content : AllKnown settings begin None g.times g.from g.machine g.kept.facts
+    pub stamps : Stamped g.stamps g.from g.machine g.kept.facts
+
+  -- what is asked of the rest of it
+  pub record Rest (times : TimeState) (machine : Machine) (due : ℕ) (last : Machine) (rest : List Event) : Type 0 where
+    pub asks : AsksTimes settings first begin None times machine rest
+    pub calm : IsCalmOn settings range first begin machine rest
+    pub leads : Leads settings first machine rest last
+    pub none : HaveNoRestart rest
+    pub within : AllByRecursion IsWithinRanges rest
+    pub prompt : ArePrompt settings first machine due rest
+    pub steady : loads_of (life_of last.history) ≡ loads_of (life_of begin.history)
+
+  pub rest_on : (times : TimeState) (machine : Machine) (due : ℕ) (last : Machine) (event : Event) (rest : List Event) → Rest times machine due last (event ∷ rest)
+      → Rest (time_after settings times machine event) (after settings first machine event) (due_after machine due event) last rest
+  rest_on times machine due last event rest r = record {
+    asks = asks_further settings range first begin false None times machine event rest r.asks;
+    calm = calm_on settings range first begin machine event rest r.calm;
+    leads = r.leads.1;
+    none = r.none.1;
+    within = r.within.1;
+    prompt = r.prompt.1;
+    steady = r.steady;
+  }
+
+  -- an event of it
+  pub record Goes (n : Beside) (frames : List CpuFrame) : Type 0 where
+    pub went : Went settings first begin None n.times n.from n.due n.facts n.kept frames n.machine
+    pub knows : Knows (below_frames n frames)
+
+  with_stamps : (n : Beside) (frames : List CpuFrame) → Went settings first begin None n.times n.from n.due n.facts n.kept frames n.machine
+      → Stamped n.stamps n.from n.machine (content_below n.kept frames).facts → Goes n frames
+  with_stamps n frames w stamps =
+      record { went = w; knows = record { known = w.known; follows = w.follows; agrees = w.content.agrees; content = w.content.holds; stamps = stamps } }
+
+  pub goes : (g : Beside) (last : Machine) (event : Event) (rest : List Event) → Knows g → Rest g.times g.machine g.due last (event ∷ rest) → Goes (later g event) (frames_at first g.machine event)
+  goes g last event rest k r = with_stamps (later g event) (frames_at first g.machine event)
+      (went-on settings range first begin false None g.times g.from g.machine g.due g.facts k.known k.follows g.kept k.agrees k.content event rest r.leads.0 r.none.0 r.within.0 r.prompt.0 r.asks)
+      (content-event settings range first begin Done StampState (stamps_above settings range first begin) (stamps_after first) (λ s machine rest. IsCalmOn settings range first begin machine rest) Stamped
+      (stamps_are_invariant settings range first begin) g.stamps g.from g.machine g.due g.facts g.kept k.known k.follows k.agrees k.stamps event r.leads.0 r.none.0 r.within.0 r.prompt.0 rest r.calm).holds
+
+  -- each frame is judged, and no stamp was set back
+  pub record IsCalmly (g : Beside) (judging : Judging) : Type 0 where
+    pub knows : Knows g
+    pub checker_is : judging.checker ≡ taking limits g.facts
+    pub content_is : judging.content ≡ record { begun = true; kept = g.kept }
+    pub has : HasStamps judging g.facts.polled g.stamps
+
+  -- what an event keeps
+  pub record KeepsCalm (g : Beside) (judging : Judging) (lines : List LogLine) : Type 0 where
+    pub right : AllByRecursion IsRight (outcomes_of judging lines)
+    pub there : IsCalmly g (judging_below judging lines)
+
+  -- below one frame
+  one_frame : (at : LogPlace) (n : Beside) (judging : Judging) (frame : CpuFrame)
+      → KeepsFrame limits judging at frame (facts_with n.facts (observation_in frame.from_cpu frame.octets)) (kept_with n.kept frame.from_cpu frame.octets) → Goes n (frame ∷ [])
+      → HasStamps (judging_kept judging frame.from_cpu frame.octets) (facts_with n.facts (observation_in frame.from_cpu frame.octets)).polled n.stamps
+      → KeepsCalm (below_frames n (frame ∷ [])) judging (logged_at at frame ∷ [])
+  one_frame at n judging frame k w has = record {
+    right = (right_of (outcome_in judging at frame.from_cpu frame.octets) k.outcome, tt);
+    there = record {
+      knows = w.knows;
+      checker_is = k.checker;
+      content_is = k.content;
+      has = subst (λ j. HasStamps j (facts_with n.facts (observation_in frame.from_cpu frame.octets)).polled n.stamps) (sym k.is) has;
+    };
+  }
+
+  module _ (at : LogPlace) (judging : Judging) (n : Beside) (s : StampState) (checker_is : judging.checker ≡ taking limits n.facts)
+      (content_is : judging.content ≡ record { begun = true; kept = n.kept }) (h : HasStamps judging n.facts.polled s) where
+    -- an event without a frame
+    calm_none : Goes (record n { stamps = s }) [] → KeepsCalm (record n { stamps = s }) judging []
+    calm_none w = record { right = tt; there = record { knows = w.knows; checker_is = checker_is; content_is = content_is; has = h } }
+
+    abbrev heard_by : Option SentFrame → Beside
+    heard_by found = record n { stamps = stamps_heard s (option_and_then (λ (frame : SentFrame). answer_in frame.octets) found) }
+
+    -- one with an answer
+    calm_heard : (found : Option SentFrame) → Goes (heard_by found) (frame_heard found) → KeepsCalm (below_frames (heard_by found) (frame_heard found)) judging (map (logged_at at) (frame_heard found))
+    calm_heard None w = calm_none w
+    calm_heard (Some sent_frame) w =
+        let frame : CpuFrame = record { from_cpu = false; octets = sent_frame.octets } in
+        one_frame at (heard_by (Some sent_frame)) judging frame
+        (frame_kept limits judging at frame n.facts n.kept checker_is content_is (heard_on judging s n.facts.polled h (answer_in sent_frame.octets) w.knows.stamps.none)
+        (w.went.rules limits suit).0 (none_in_frame n.kept frame [] w.went.content.keep)) w (heard_stamps judging s n.facts sent_frame.octets h)
+
+    -- one with a command
+    calm_sent : (octets : List ℕ) → Goes n (record { from_cpu = true; octets = octets } ∷ [])
+        → HasStamps (judging_kept judging true octets) (facts_with n.facts (observation_in true octets)).polled n.stamps
+        → KeepsCalm (below_frames n (record { from_cpu = true; octets = octets } ∷ [])) judging (logged_at at (record { from_cpu = true; octets = octets }) ∷ [])
+    calm_sent octets w has =
+        let frame : CpuFrame = record { from_cpu = true; octets = octets } in
+        one_frame at n judging frame (frame_kept limits judging at frame n.facts n.kept checker_is content_is refl (w.went.rules limits suit).0 (none_in_frame n.kept frame [] w.went.content.keep)) w has
+
+  -- an event
+  calm_step : (at : LogPlace) (g : Beside) (judging : Judging) → (j : IsCalmly g judging) → (event : Event) → refusal g.machine event ≡ None → IsWithinRanges event
+      → Goes (later g event) (frames_at first g.machine event) → KeepsCalm (step g event) judging (map (logged_at at) (frames_at first g.machine event))
+  calm_step at g judging j events.Poll fine within w =
+      let number = number_of first g.machine.round in
+      let fits : number < 256 = omega (arith, number_of-fits first g.machine.round) in
+      calm_sent at judging (later g events.Poll) g.stamps j.checker_is j.content_is j.has (command_octets (commands.Poll number)) w
+      (polled_stamps judging g.stamps g.facts (command_octets (commands.Poll number)) number (ap (λ (c : Checker). c.facts) j.checker_is) (said_of (commands.Poll number) fits) j.has)
+  calm_step at g judging j (events.Send command) fine within w =
+      calm_sent at judging (later g (events.Send command)) g.stamps j.checker_is j.content_is j.has (command_octets command) w
+      (sent_stamps judging g.stamps g.facts (command_octets command) (answer_type_to command) (names_absent command) (said_of command within ∙ other_said command fine) j.has)
+  calm_step at g judging j (events.ToCpu index) fine within w = calm_heard at judging (later g (events.ToCpu index)) g.stamps j.checker_is j.content_is j.has (item_numbered g.machine.to_cpu index) w
+  calm_step at g judging j (events.ToModule index) fine within w = calm_none at judging (later g (events.ToModule index)) g.stamps j.checker_is j.content_is j.has w
+  calm_step at g judging j (events.Scan raw) fine within w = calm_none at judging (later g (events.Scan raw)) g.stamps j.checker_is j.content_is j.has w
+  calm_step at g judging j events.LineSync fine within w = calm_none at judging (later g events.LineSync) g.stamps j.checker_is j.content_is j.has w
+  calm_step at g judging j (events.Raise mask) fine within w = calm_none at judging (later g (events.Raise mask)) g.stamps j.checker_is j.content_is j.has w
+  calm_step at g judging j events.Restart fine within w = calm_none at judging (later g events.Restart) g.stamps j.checker_is j.content_is j.has w
+
+  -- all events
+  calm_all : (steps : List LogStep) (g : Beside) (last : Machine) (judging : Judging) → IsCalmly g judging → Rest g.times g.machine g.due last (events_of steps) → AreLogged steps
+      → RightTo first limits last judging (log_from settings first g.machine steps)
+  calm_all [] g last judging j r logged =
+      (tt, ends_judging first limits last g.facts g.kept judging j.checker_is j.content_is (λ n is. j.knows.follows.number n is ∙ ap (λ (m : Machine). number_of first m.round) (sym r.leads)))
+  calm_all (Logged at event ∷ steps) g last judging j r logged =
+      let lines = map (logged_at at) (frames_at first g.machine event) in
+      let k = calm_step at g judging j event r.leads.0 r.within.0 (goes g last event (events_of steps) j.knows r) in
+      right_both first limits last judging lines (log_from settings first (after settings first g.machine event) steps) k.right
+      (calm_all steps (step g event) last (judging_below judging lines) k.there (rest_on g.times g.machine g.due last event (events_of steps) r) logged)
+  calm_all (Missing event ∷ steps) g last judging j r logged = absurd logged
+  calm_all (Marked ∷ steps) g last judging j r logged = absurd logged
+
+  -- a log from a command on at which both checkers begin anew
+  module _ (g : Beside) (last : Machine) (steps : List LogStep) (at : LogPlace) (judging : Judging) (skips : Skips) (excuses : ℕ) (known : IsKnown settings first begin (life_of g.machine.history) g.machine)
+      (f : Follows settings first g.from g.machine g.due g.facts) (has : HasExcuses (loads_of (life_of begin.history) + g.times.sent) (loads_of (life_of g.machine.history)) excuses)
+      (stamped : Stamped g.stamps (life_of g.machine.history) g.machine (kept_again excuses).facts) (same : HasStamps judging None g.stamps) (checker_is : judging.checker ≡ checker_skipping skips limits)
+      (above : checking_above judging skips ≡ record { begun = false; kept = kept_again excuses }) (logged : AreLogged steps) where
+    abbrev anew : Beside
+    anew = record g { facts = no_facts; kept = kept_again excuses }
+
+    frame_anew : (event : Event) (octets : List ℕ) → passes_over (checker_skipping skips limits) true (observation_in true octets) ≡ false → Rest g.times g.machine g.due last (event ∷ events_of steps)
+        → Goes (later anew event) (record { from_cpu = true; octets = octets } ∷ [])
+        → HasStamps (judging_kept judging true octets) (facts_with no_facts (observation_in true octets)).polled (stamps_after first g.stamps g.machine event)
+        → (frames_at first g.machine event ≡ record { from_cpu = true; octets = octets } ∷ []) → RightTo first limits last judging (log_from settings first g.machine (Logged at event ∷ steps))
+    frame_anew event octets over r w stamps_are is =
+        let frame : CpuFrame = record { from_cpu = true; octets = octets } in
+        let rest = log_from settings first (after settings first g.machine event) steps in
+        let k = one_frame at (later anew event) judging frame
+        (frame_again limits judging at octets skips (kept_again excuses) checker_is above over (w.went.rules limits suit).0 (none_in_frame (kept_again excuses) frame [] w.went.content.keep)) w stamps_are in
+        subst (λ frames. RightTo first limits last judging (map (logged_at at) frames ++ rest)) (sym is)
+        (right_both first limits last judging (logged_at at frame ∷ []) rest k.right
+        (calm_all steps (below_frames (later anew event) (frame ∷ [])) last (judging_below judging (logged_at at frame ∷ [])) k.there (rest_on g.times g.machine g.due last event (events_of steps) r) logged))
+
+    pub begins_anew : (event : Event) → Sends event → AllByRecursion (λ (frame : CpuFrame). passes_over (checker_skipping skips limits) true (observation_in true frame.octets) ≡ false) (frames_at first g.machine event)
+        → Rest g.times g.machine g.due last (event ∷ events_of steps) → RightTo first limits last judging (log_from settings first g.machine (Logged at event ∷ steps))
+    begins_anew events.Poll sends over r =
+        let number = number_of first g.machine.round in
+        let fits : number < 256 = omega (arith, number_of-fits first g.machine.round) in
+        let octets = command_octets (commands.Poll number) in
+        frame_anew events.Poll octets over.0 r
+        (with_stamps (later anew events.Poll) (record { from_cpu = true; octets = octets } ∷ [])
+        (went-again settings range first begin false None g.times g.from g.machine g.due g.facts known f excuses has events.Poll tt r.leads.0 r.within.0)
+        (content-poll settings range first begin Done StampState (stamps_above settings range first begin) (stamps_after first) (λ s machine rest. IsCalmOn settings range first begin machine rest) Stamped
+        (stamps_are_invariant settings range first begin) g.stamps (life_of g.machine.history) g.machine no_facts (kept_again excuses) known (agrees_again settings range first begin false None g.machine excuses) stamped).holds)
+        (polled_stamps judging g.stamps no_facts octets number (ap (λ (c : Checker). c.facts) checker_is) (said_of (commands.Poll number) fits) same) refl
+    begins_anew (events.Send command) sends over r =
+        let octets = command_octets command in
+        let event = events.Send command in
+        frame_anew (events.Send command) octets over.0 r
+        (with_stamps (later anew (events.Send command)) (record { from_cpu = true; octets = octets } ∷ [])
+        (went-again settings range first begin false None g.times g.from g.machine g.due g.facts known f excuses has (events.Send command) tt r.leads.0 r.within.0)
+        (content-send settings range first begin Done StampState (stamps_above settings range first begin) (stamps_after first) (λ s machine rest. IsCalmOn settings range first begin machine rest) Stamped
+        (stamps_are_invariant settings range first begin) g.stamps (life_of g.machine.history) g.machine no_facts (kept_again excuses) known (agrees_again settings range first begin false None g.machine excuses) stamped command r.leads.0 r.within.0).holds)
+        (sent_stamps judging g.stamps no_facts octets (answer_type_to command) (names_absent command) (said_of command r.within.0 ∙ other_said command r.leads.0) same) refl
+    begins_anew (events.Scan raw) sends over r = absurd sends
+    begins_anew events.LineSync sends over r = absurd sends
+    begins_anew (events.Raise mask) sends over r = absurd sends
+    begins_anew (events.ToModule index) sends over r = absurd sends
+    begins_anew (events.ToCpu index) sends over r = absurd sends
+    begins_anew events.Restart sends over r = absurd sends
+
+-- ---- from its first line on
 
 -- what is heard above the first command
 heard_above : (limits : RuleLimits) (judging : Judging) → judging.checker ≡ checker_skipping ToCommand limits → (at : LogPlace) (frames : List CpuFrame) → AreHeard frames
@@ -244,6 +293,12 @@ heard_above limits judging checker at (frame ∷ frames) heard =
       ap (λ j. judging_below j (map (logged_at at) frames)) same ∙ below.1,
     )
 
+all_taken : (first : ℕ) (limits : RuleLimits) (machine : Machine) (event : Event) → Sends event
+    → AllByRecursion (λ (frame : CpuFrame). passes_over (checker_skipping ToCommand limits) true (observation_in true frame.octets) ≡ false) (frames_at first machine event)
+all_taken first limits machine events.Poll sends = (command_taken limits (observation_in true (command_octets (commands.Poll (number_of first machine.round)))), tt)
+all_taken first limits machine (events.Send command) sends = (command_taken limits (observation_in true (command_octets command)), tt)
+all_taken first limits machine other sends = absurd sends
+
 module _ (settings : Settings) (range : AreInRange settings) (first : ℕ) (limits : RuleLimits) (suit : SuitModule settings limits) (last : Machine) where
   abbrev AtStart : Judging
   AtStart = judging_anywhere limits
@@ -260,73 +315,22 @@ module _ (settings : Settings) (range : AreInRange settings) (first : ℕ) (limi
   calm_begins at event steps before machine sends run leads asked logged =
       let r = reaches settings range first before (event ∷ events_of steps) [] start machine last 0 no_facts (kept settings range first [] start refl tt) (follows-start settings first)
       leads run.is_run run.no_restart run.within run.prompt in
-      by event sends r (asked.1)
-    where
-      now : Life
-      now = life_of machine.history
-
-      s : TimeState
-      s = record { clock = clock_above false; state = state_above; sent = 0 }
-
-      above : StampState
-      above = stamps_above settings range first machine
-
-      rest_of : (event : Event) → (r : ReachesLater settings range first machine last (event ∷ events_of steps)) → AreTimesNear false settings first machine (event ∷ events_of steps) last
-          → KeepsCalm settings range first limits suit machine (clock_after (clock_above false) machine event) (state_after settings state_above machine event) (0 + loads_sent event) (stamps_after first above machine event)
-          (after settings first machine event) (due_after machine r.due event) AtStart (map (logged_at at) (frames_at first machine event)) → AllRight machine (Logged at event ∷ steps)
-      rest_of event r near k =
-          let next = after settings first machine event in
-          let lines = map (logged_at at) (frames_at first machine event) in
-          let same = asked.0.no_loads in
-          let asks = asks_begun false settings first machine last 0 (event ∷ events_of steps) r.no_restart r.leads
-          (none_loaded settings range first (event ∷ events_of steps) machine last (loads_of now + 0) r.leads r.no_restart (omega (arith, same))) near in
-          let calm : IsCalmOn settings range first machine machine (event ∷ events_of steps) = record { last = last; leads = r.leads; none = r.no_restart; steady = asked.0.no_loads; short = asked.0.short } in
-          right_both first limits last AtStart lines (log_from settings first next steps) k.right
-          (calm_all settings range first limits suit machine steps (clock_after (clock_above false) machine event) (state_after settings state_above machine event) (stamps_after first above machine event) next last
-          (due_after machine r.due event) (judging_below AtStart lines) k.there
-          (subst (λ n. AsksTimes settings first machine None (record { clock = clock_after (clock_above false) machine event; state = state_after settings state_above machine event; sent = n }) next (events_of steps)) (sym k.sent_is)
-          (asks_further settings range first machine false None s machine event (events_of steps) asks))
-          (calm_on settings range first machine machine event (events_of steps) calm) r.leads.1 r.no_restart.1 r.within.1 r.prompt.1 logged)
-
-      known_at : IsKept settings first machine → IsKnown settings first machine now machine
-      known_at k = record { is_kept = k; begun = goes_on-same now now refl; rounds = omega arith; now = goes_on-same now now refl }
-
-      went : (event : Event) → Sends event → (r : ReachesLater settings range first machine last (event ∷ events_of steps))
-          → Went settings first machine None (time_after settings s machine event) now (due_after machine r.due event) no_facts (kept_again 0) (frames_at first machine event) (after settings first machine event)
-      went event sends r = went-again settings range first machine false None s r.from machine r.due r.facts (known_at r.is_kept) r.follows 0 (record { enough = inr (omega arith) }) event sends r.leads.0 r.within.0
-
-      by : (event : Event) → Sends event → (r : ReachesLater settings range first machine last (event ∷ events_of steps)) → AreTimesNear false settings first machine (event ∷ events_of steps) last
-          → AllRight machine (Logged at event ∷ steps)
-      by events.Poll sends r near =
-          let number = number_of first machine.round in
-          let fits : number < 256 = omega (arith, number_of-fits first machine.round) in
-          let octets = command_octets (commands.Poll number) in
-          let w = went events.Poll tt r in
-          let stamps = (content-poll settings range first machine Done StampState above (stamps_after first) (λ s here later. IsCalmOn settings range first machine here later) (KeepsStamps settings range first machine)
-          (stamps_are_invariant settings range first machine) above now machine no_facts (kept_again 0) (known_at r.is_kept) (agrees_again settings range first machine false None machine 0)
-          (stamps_begin settings range first machine now machine (kept_again 0).facts)).holds in
-          rest_of events.Poll r near
-          (kept_on settings range first limits suit machine _ _ 0 now _ _ at AtStart (record { from_cpu = true; octets = octets }) no_facts (kept_again 0) (stamps_polled above number)
-          (frame_again limits AtStart at octets ToCommand (kept_again 0) refl refl (command_taken limits (observation_in true octets)) (w.rules limits suit).0 (none_in_frame (kept_again 0) (record { from_cpu = true; octets = octets }) [] w.content.keep))
-          w stamps (polled_stamps AtStart above no_facts octets number refl (said_of (commands.Poll number) fits) (record { latest = refl; asked = refl; polled = refl })))
-      by (events.Send command) sends r near =
-          let octets = command_octets command in
-          let fine = r.leads.0 in
-          let within = r.within.0 in
-          let w = went (events.Send command) tt r in
-          let stamps = (content-send settings range first machine Done StampState above (stamps_after first) (λ s here later. IsCalmOn settings range first machine here later) (KeepsStamps settings range first machine)
-          (stamps_are_invariant settings range first machine) above now machine no_facts (kept_again 0) (known_at r.is_kept) (agrees_again settings range first machine false None machine 0)
-          (stamps_begin settings range first machine now machine (kept_again 0).facts) command fine within).holds in
-          rest_of (events.Send command) r near
-          (kept_on settings range first limits suit machine _ _ (0 + loads_sent (events.Send command)) now _ _ at AtStart (record { from_cpu = true; octets = octets }) no_facts (kept_again 0) above
-          (frame_again limits AtStart at octets ToCommand (kept_again 0) refl refl (command_taken limits (observation_in true octets)) (w.rules limits suit).0 (none_in_frame (kept_again 0) (record { from_cpu = true; octets = octets }) [] w.content.keep))
-          w stamps (sent_stamps AtStart above no_facts octets (answer_type_to command) (names_absent command) (said_of command within ∙ other_said command fine) (record { latest = refl; asked = refl; polled = refl })))
-      by (events.Scan raw) sends r near = absurd sends
-      by events.LineSync sends r near = absurd sends
-      by (events.Raise mask) sends r near = absurd sends
-      by (events.ToModule index) sends r near = absurd sends
-      by (events.ToCpu index) sends r near = absurd sends
-      by events.Restart sends r near = absurd sends
+      let now = life_of machine.history in
+      let same = asked.0.no_loads in
+      begins_anew settings range first limits suit machine
+      (record { times = record { clock = clock_above false; state = state_above; sent = 0 }; stamps = stamps_above settings range first machine; from = r.from; facts = r.facts; kept = kept_again 0; machine = machine; due = r.due })
+      last steps at AtStart ToCommand 0 (record { is_kept = r.is_kept; begun = goes_on-same now now refl; rounds = omega arith; now = goes_on-same now now refl }) r.follows (record { enough = inr (omega arith) })
+      (stamps_begin settings range first machine now machine (kept_again 0).facts) (record { latest = refl; asked = refl; polled = refl }) refl refl logged event sends (all_taken first limits machine event sends)
+      (record {
+        asks = asks_begun false settings first machine last 0 (event ∷ events_of steps) r.no_restart r.leads
+            (none_loaded settings range first (event ∷ events_of steps) machine last (loads_of now + 0) r.leads r.no_restart (omega (arith, same))) asked.1;
+        calm = record { last = last; leads = r.leads; none = r.no_restart; steady = asked.0.no_loads; short = asked.0.short };
+        leads = r.leads;
+        none = r.no_restart;
+        within = r.within;
+        prompt = r.prompt;
+        steady = same;
+      })
 
   -- what is above it
   pub calm_above : (steps : List LogStep) (before : List Event) (machine : Machine) → IsPromptRun settings first (before ++ events_of steps) last → Leads settings first start before machine → AreLogged steps

@@ -1,7 +1,6 @@
 -- The judge of a link accuses no right link, from the first line of a log on.
-use Rattle.fio_ends.proofs.Names.{◌≡◌, ◌∙◌, ◌≤◌, inl, inr, ℕ, Bool, true, false, List, [], ◌∷◌, ◌++◌, map, Some, None, refl, ap, sym, subst, arith, AllByRecursion, if◌then◌else◌, Settings, AreInRange, no_facts, RuleLimits, Event, Machine, start, after, Leads, kept, kept_at_start, frames_at, SuitModule, AccusesNeither, AreTimesNear, Checker, ContentChecking, FewAreUnderWay, IsPromptRun, Judging, LogStep, Logged, Marked, Missing, ToCommand, begun_is, checker_below_lines, checker_skipping, checking_again, events_from_command, events_of, is_command, judging_anywhere, judging_lost, le-max_left, loads_left, log_from, logged_at, machine_at_command, max, outcomes_of, scans_above, with_loads}
-use Rattle.fio_check.specs.LinkJudges.{judging_begun}
-use Rattle.fio_ends.specs.LinkLogs.{AreMarked, JudgeAccusesNone}
+use Rattle.fio_ends.proofs.Names.{◌≡◌, ◌∙◌, ◌≤◌, inl, inr, ℕ, Bool, true, false, List, [], ◌∷◌, ◌++◌, map, Some, None, refl, ap, sym, subst, arith, AllByRecursion, if◌then◌else◌, Settings, AreInRange, no_facts, RuleLimits, Event, Machine, start, after, Leads, kept, kept_at_start, frames_at, SuitModule, AccusesNeither, AreTimesNear, Checker, ContentChecking, FewAreUnderWay, IsPromptRun, Judging, LogStep, Logged, Marked, Missing, ToCommand, begun_is, checker_below_lines, checker_skipping, checking_again, events_from_command, events_of, is_command, judging_anywhere, judging_lost, le-max_left, loads_left, log_from, logged_at, machine_at_command, max, outcomes_of, scans_above, with_loads, judging_begun, AreMarked}
+use Rattle.fio_ends.specs.LinkLogs.{JudgeAccusesNone}
 use Rattle.fio_ends.proofs.AlternateKept.{follow_begun}
 use Rattle.fio_ends.proofs.AllRules.{AllKnown}
 use Rattle.fio_ends.proofs.ClockKept.{clock_above}

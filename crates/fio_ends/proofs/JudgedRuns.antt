@@ -1,8 +1,7 @@
 -- The judge of a link accuses no right link: event by event of a prompt run, where frames may be missing at marks.
-use Rattle.fio_ends.proofs.Names.{◌≡◌, ◌∙◌, ◌+◌, ◌<◌, ◌⊎◌, inl, inr, ℕ, Bool, true, false, List, [], ◌∷◌, map, Option, Some, None, refl, ap, sym, subst, arith, is_some, AllByRecursion, if◌then◌else◌, Life, life_of, loads_of, Settings, AreInRange, ContentKept, kept_with, facts_with, no_facts, Facts, RuleLimits, Observation, observation_in, Event, Machine, SentFrame, number_of, number_of-fits, refusal, after, Leads, item_numbered, IsNotRestart, HaveNoRestart, CpuFrame, frame_heard, frames_at, due_after, ArePrompt, IsPrompt, IsWithinRanges, SuitModule, AccusesNeither, AreUnderWayAt, Checker, ContentChecking, FewAreUnderWay, Judging, LoadsAreSent, LogLine, LogPlace, LogStep, Logged, Marked, Missing, Skips, StampsAreNear, StatesAreNear, ToCommand, ToPoll, checker_below_breach, checker_below_lines, checker_skipping, checking_above, checking_again, checking_with, command_octets, events_of, is_command, judging_below, judging_lost, le-max_left, loads_below, loads_left, loads_sent, log_from, logged_at, outcomes_of, passes_over, taking}
+use Rattle.fio_ends.proofs.Names.{◌≡◌, ◌∙◌, ◌+◌, ◌<◌, ◌⊎◌, inl, inr, ℕ, Bool, true, false, List, [], ◌∷◌, map, Option, Some, None, refl, ap, sym, subst, arith, is_some, AllByRecursion, if◌then◌else◌, Life, life_of, loads_of, Settings, AreInRange, ContentKept, kept_with, facts_with, no_facts, Facts, RuleLimits, Observation, observation_in, Event, Machine, SentFrame, number_of, number_of-fits, refusal, after, Leads, item_numbered, IsNotRestart, HaveNoRestart, CpuFrame, frame_heard, frames_at, due_after, ArePrompt, IsPrompt, IsWithinRanges, SuitModule, AccusesNeither, AreUnderWayAt, Checker, ContentChecking, FewAreUnderWay, Judging, LoadsAreSent, LogLine, LogPlace, LogStep, Logged, Marked, Missing, Skips, StampsAreNear, StatesAreNear, ToCommand, ToPoll, checker_below_breach, checker_below_lines, checker_skipping, checking_above, checking_again, checking_with, command_octets, events_of, is_command, judging_below, judging_lost, le-max_left, loads_below, loads_left, loads_sent, log_from, logged_at, outcomes_of, passes_over, taking, AreMarked, below_command}
 use Rattle.fio_message.specs.declared.commands.Command.TheVariants as commands
 use Rattle.fio_link.specs.declared.event.Event.TheVariants as events
-use Rattle.fio_ends.specs.LinkLogs.{AreMarked, below_command}
 use Rattle.fio_ends.proofs.AllRules.{AllKnown, kept_again, none_in_frame}
 use Rattle.fio_ends.proofs.ApartTimes.{AreNearByInput}
 use Rattle.fio_ends.proofs.BegunAgain.{Sends, Went, went-again, went-on}

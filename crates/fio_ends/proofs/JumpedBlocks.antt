@@ -1,6 +1,5 @@
 -- A block in whose time the counter jumped, or may have.
-use Rattle.fio_ends.proofs.Names.{Block, events_of_block, items_of_block, eqb_tells, ◌≡◌, ◌∙◌, ◌+◌, ◌≤◌, ◌⊎◌, ℕ, true, false, List, [], ◌∷◌, refl, arith, fold, nat_tests, ◌==◌, Answer, Item, Entry, Gap, ContentFacts, content_with, ContentEvent, Ended, Heard, Recorded, block_answer, cases_lt, content_step, items_and_end, one_excuse_more}
-use Rattle.fio_check.specs.ContentAbove.{one_excuse_less}
+use Rattle.fio_ends.proofs.Names.{Block, events_of_block, items_of_block, eqb_tells, ◌≡◌, ◌∙◌, ◌+◌, ◌≤◌, ◌⊎◌, ℕ, true, false, List, [], ◌∷◌, refl, arith, fold, nat_tests, ◌==◌, Answer, Item, Entry, Gap, ContentFacts, content_with, ContentEvent, Ended, Heard, Recorded, block_answer, cases_lt, content_step, items_and_end, one_excuse_more, one_excuse_less}
 use Rattle.fio_ends.proofs.ContentLines.{EachKeeps}
 use Rattle.fio_ends.proofs.Timeless.{IsTimeless, KeepsTimeRules, WouldKeep, ended_timeless, excuses_all, item_timeless, keeps, not_excused, timeless_forgetting}
 

@@ -1,13 +1,6 @@
 -- The CPU's end hears a block answer, in time or late: the judge that leaves late answers out finds no breach.
-use Rattle.fio_ends.proofs.Names.{◌≡◌, ◌≢◌, ◌∙◌, ◌+◌, ◌%◌, ◌<◌, ◌≤◌, ◌||◌, ◌==◌, inl, inr, ℕ, Bool, true, false, List, length, Option, Some, None, refl, ap, sym, subst, arith, if◌then◌else◌, nat_tests, slice_get, list_any, same_Some, AreInRange, BLOCK_ANSWER, Block, CarriesBlockOf, Checker, Facts, HasBlock, IsKept, Machine, MadeBlock, Nothing, Observation, Rule, RuleLimits, SentFrame, Settings, Skips, SuitModule, ToCommand, ToPoll, after_delivered_block, after_delivery_to_cpu, after_taken, answer_in, block_in, blocks_of, breaks_within, carries_own, checker_below_breach, checker_below_lines, facts_with, in_order, is_absent, is_some_and, life_of, next_round, no_facts, number_of, number_of-fits, number_of-next, observation_in, same_round}
-use Rattle.fio_check.specs.Checkers.{skips_frame}
-use Rattle.fio_check.specs.LateAnswers.{awaits, late_below_answer, late_with, lateness_below, lateness_of_block, lateness_of_polled}
-use Rattle.fio_check.specs.LogJudges.{is_rule_of_late}
-use Rattle.fio_check.specs.declared.late_answers.LateAnswers.{LateAnswers}
-use Rattle.fio_check.specs.declared.late_answers.Lateness.{Lateness}
-use Rattle.fio_check.specs.declared.late_answers.Lateness.TheVariants.{InTime, Late, LateButTaken}
+use Rattle.fio_ends.proofs.Names.{◌≡◌, ◌≢◌, ◌∙◌, ◌+◌, ◌%◌, ◌<◌, ◌≤◌, ◌||◌, ◌==◌, inl, inr, ℕ, Bool, true, false, List, length, Option, Some, None, refl, ap, sym, subst, arith, if◌then◌else◌, nat_tests, slice_get, list_any, same_Some, AreInRange, BLOCK_ANSWER, Block, CarriesBlockOf, Checker, Facts, HasBlock, IsKept, Machine, MadeBlock, Nothing, Observation, Rule, RuleLimits, SentFrame, Settings, Skips, SuitModule, ToCommand, ToPoll, after_delivered_block, after_delivery_to_cpu, after_taken, answer_in, block_in, blocks_of, breaks_within, carries_own, checker_below_breach, checker_below_lines, facts_with, in_order, is_absent, is_some_and, life_of, next_round, no_facts, number_of, number_of-fits, number_of-next, observation_in, same_round, skips_frame, awaits, late_below_answer, late_with, lateness_below, lateness_of_block, lateness_of_polled, is_rule_of_late, LateAnswers, Lateness, InTime, Late, LateButTaken, Cpu}
 use Rattle.fio_check.specs.declared.observation.Observation.TheVariants as seen
-use Rattle.fio_check.specs.declared.outcome.LogPlace.TheVariants.{Cpu}
 use Rattle.fio_ends.proofs.BlocksOfLives.{blocks_leave}
 use Rattle.fio_ends.proofs.Hears.{block_said}
 use Rattle.fio_ends.proofs.BlockRules.{block_keeps, counted}

@@ -1,11 +1,8 @@
 -- The CPU's end sends a command: the judge that leaves late answers out finds no breach.
-use Rattle.fio_ends.proofs.Names.{◌≡◌, ◌∙◌, ◌+◌, ◌%◌, ◌≤◌, inl, inr, ℕ, Bool, true, false, List, [], ◌∷◌, ◌++◌, Option, Some, None, refl, ap, sym, subst, arith, if◌then◌else◌, option_map, same_Some, BLOCK_ANSWER, Checker, Command, Facts, HasPoll, IsCommand, IsKept, Machine, Nothing, RuleLimits, SentFrame, Settings, Skips, ToCommand, ToPoll, after_sending, answer_type_to, blocks_of, checker_below_breach, command_octets, facts_with, get_after_push, life_of, names_absent, no_poll_in, none_more, number_of, number_of-fits, number_of-next, observation_in, poll_in, sending_refusal, breaks_within, Rule, MadeBlock, number_due}
+use Rattle.fio_ends.proofs.Names.{◌≡◌, ◌∙◌, ◌+◌, ◌%◌, ◌≤◌, inl, inr, ℕ, Bool, true, false, List, [], ◌∷◌, ◌++◌, Option, Some, None, refl, ap, sym, subst, arith, if◌then◌else◌, option_map, same_Some, BLOCK_ANSWER, Checker, Command, Facts, HasPoll, IsCommand, IsKept, Machine, Nothing, RuleLimits, SentFrame, Settings, Skips, ToCommand, ToPoll, after_sending, answer_type_to, blocks_of, checker_below_breach, command_octets, facts_with, get_after_push, life_of, names_absent, no_poll_in, none_more, number_of, number_of-fits, number_of-next, observation_in, poll_in, sending_refusal, breaks_within, Rule, MadeBlock, number_due, checker_within, skips_frame, LateAnswers, Cpu}
 use Rattle.fio_message.specs.declared.commands.Command.TheVariants as commands
-use Rattle.fio_check.specs.Checkers.{checker_within, skips_frame}
-use Rattle.fio_check.specs.declared.late_answers.LateAnswers.{LateAnswers}
 use Rattle.fio_check.specs.declared.observation.Observation.TheVariants as seen
 use Rattle.fio_ends.proofs.Following.{TookBlock}
-use Rattle.fio_check.specs.declared.outcome.LogPlace.TheVariants.{Cpu}
 use Rattle.fio_ends.proofs.LateRules.{Holds, Takes, may_be_late}
 use Rattle.fio_ends.proofs.LateKnown.{AgreesLate, HasLatest, KnownOf, KnowsFacts, found_late, with_frame}
 use Rattle.fio_ends.proofs.Sends.{other_said, poll_keeps, said_of}

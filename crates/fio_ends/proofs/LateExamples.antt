@@ -1,15 +1,13 @@
 -- A worked log with a late answer, by computation.
-use Rattle.fio_ends.proofs.Names.{◌≡◌, List, [], ◌∷◌, None, Some, refl, arith, Event, Kept, Machine, ToCpu, ToModule, after, standard_rule_limits, standard_settings, start}
+use Rattle.fio_ends.proofs.Names.{◌≡◌, List, [], ◌∷◌, None, Some, refl, arith, Event, Kept, Machine, ToCpu, ToModule, after, standard_rule_limits, standard_settings, start, log_starting, outcomes_in_log, Link, Cpu, SeenStep, events_seen, log_seen, IsLateLog, nat_tests}
 use Rattle.fio_message.specs.Bits.{is_set}
 use Rattle.fio_message.specs.Decoding.{message_in}
 use Rattle.fio_check.specs.ContentRules.{first_differing, is_excused}
-use Rattle.fio_check.specs.LogJudges.{log_starting, outcomes_in_log}
-use Rattle.fio_check.specs.declared.log_judge.LogOutcome.TheVariants.{Late, Link}
+use Rattle.fio_check.specs.declared.log_judge.LogOutcome.TheVariants.{Late}
 use Rattle.fio_check.specs.declared.log_judge.LogStart.TheVariants.{LateAnswers as StartLate}
-use Rattle.fio_check.specs.declared.outcome.LogPlace.TheVariants.{Cpu}
 use Rattle.fio_link.specs.declared.event.Event.TheVariants.{Poll}
-use Rattle.fio_ends.specs.EventLogs.{Seen, SeenStep, events_seen, log_seen}
-use Rattle.fio_ends.specs.LateLogs.{AnswersMayBeLate, IsLateLog}
+use Rattle.fio_ends.specs.EventLogs.{Seen}
+use Rattle.fio_ends.specs.LateLogs.{AnswersMayBeLate}
 
 -- the machine after these events
 abbrev done : Machine → List Event → Machine
@@ -26,15 +24,7 @@ last = done start (events_seen steps)
 
 is_late : IsLateLog (standard_settings 2) standard_rule_limits 0 [] steps start last
 unfolding message_in is_set
-is_late = record {
-  in_range = record { id_fits = omega arith; some_per_block = omega arith; few_per_block = omega arith };
-  suit = record { per_block = refl; waiting = omega arith };
-  run = (refl, (refl, (refl, (refl, (refl, (refl, refl))))));
-  no_restart = (tt, (tt, (tt, (tt, (tt, (tt, tt))))));
-  within = (tt, (tt, (tt, (tt, (tt, (tt, tt))))));
-  leads = refl;
-  whole = (tt, (tt, (tt, (tt, (tt, (tt, tt))))));
-}
+is_late = grind (arith, nat_tests)
 
 outcomes : outcomes_in_log (log_starting standard_rule_limits (Some Cpu) StartLate) (log_seen (standard_settings 2) 0 start steps)
     ≡ Link Kept ∷ Link Kept ∷ Link Kept ∷ Late ∷ []

@@ -1,12 +1,6 @@
 -- The CPU's end hears an answer that is no block answer, in time or late: the judge that leaves late answers out finds no breach.
-use Rattle.fio_ends.proofs.Names.{◌≡◌, ◌∙◌, ◌+◌, inl, inr, ℕ, Bool, true, false, List, Option, Some, None, refl, ap, sym, subst, if◌then◌else◌, Checker, Facts, Machine, MadeBlock, Nothing, Rule, RuleLimits, SentFrame, Settings, after_delivered_block, after_delivery_to_cpu, answer_in, block_in, blocks_of, breaks_within, checker_below_breach, facts_with, life_of, observation_in}
-use Rattle.fio_check.specs.LateAnswers.{awaits, late_below_answer, late_with, lateness_of}
-use Rattle.fio_check.specs.LogJudges.{is_rule_of_late}
-use Rattle.fio_check.specs.declared.late_answers.LateAnswers.{LateAnswers}
-use Rattle.fio_check.specs.declared.late_answers.Lateness.{Lateness}
-use Rattle.fio_check.specs.declared.late_answers.Lateness.TheVariants.{InTime, Late}
+use Rattle.fio_ends.proofs.Names.{◌≡◌, ◌∙◌, ◌+◌, inl, inr, ℕ, Bool, true, false, List, Option, Some, None, refl, ap, sym, subst, if◌then◌else◌, Checker, Facts, Machine, MadeBlock, Nothing, Rule, RuleLimits, SentFrame, Settings, after_delivered_block, after_delivery_to_cpu, answer_in, block_in, blocks_of, breaks_within, checker_below_breach, facts_with, life_of, observation_in, awaits, late_below_answer, late_with, lateness_of, is_rule_of_late, LateAnswers, Lateness, InTime, Late, Cpu, nat_tests, arith}
 use Rattle.fio_check.specs.declared.observation.Observation.TheVariants as seen
-use Rattle.fio_check.specs.declared.outcome.LogPlace.TheVariants.{Cpu}
 use Rattle.fio_check.specs.declared.rules.Rule.TheVariants as tried
 use Rattle.fio_ends.proofs.Hears.{is_asked, no_block_said}
 use Rattle.fio_ends.proofs.LateRules.{Holds, Takes, may_be_late}
@@ -78,9 +72,4 @@ pub heard_answer : (settings : Settings) (limits : RuleLimits) (first : ℕ) (ma
     → Holds (KnownOf settings limits first machine) checker late
     → (place : ℕ) (frame : SentFrame) (code : ℕ) (accepted : Bool) → observation_in false frame.octets ≡ seen.Answer code accepted
     → Takes Cpu (KnownOf settings limits first (after_delivery_to_cpu first machine (place + 1) (Some frame))) checker late false (observation_in false frame.octets)
-heard_answer settings limits first machine checker late k place frame code accepted is =
-    let none : block_in frame.octets ≡ None = no_block_said (answer_in frame.octets) code accepted is in
-    subst (λ found. Takes Cpu (KnownOf settings limits first (after_delivered_block first (record machine { last_to_cpu = place + 1 }) found)) checker late false (observation_in false frame.octets))
-    (sym none)
-    (subst (Takes Cpu (KnownOf settings limits first machine) checker late false) (sym is)
-    (takes_answer limits first machine.to_module machine.polls machine.round (blocks_of settings (life_of machine.history)) checker late k code accepted))
+heard_answer settings limits first machine checker late k place frame code accepted is = grind (arith, nat_tests, block_in, no_block_said, answer_in, after_delivered_block, observation_in, blocks_of, life_of)

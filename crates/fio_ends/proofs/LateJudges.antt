@@ -1,14 +1,5 @@
 -- What the judge of a log that leaves late answers out does with a frame, by its checker and by what it keeps of the answers.
-use Rattle.fio_ends.proofs.Names.{◌≡◌, ◌||◌, inl, inr, ℕ, Bool, true, false, List, Option, Some, None, refl, ap, sym, subst, if◌then◌else◌, option_map, Checker, Judging, LogPlace, Observation, checker_below_lines, observation_in}
-use Rattle.fio_check.specs.LateAnswers.{late_with, lateness_of}
-use Rattle.fio_check.specs.LinkJudges.{is_at_cpu}
-use Rattle.fio_check.specs.LogJudges.{LogJudging, is_explained, is_same_end, judges_each, judging_in_time, late_settled, link_lost, log_below, log_by_lateness, log_counting, log_forgetting, log_lost, log_reaching, log_with, log_with_event, one_more, outcome_by_lateness, outcome_here, outcome_in_log, outcome_in_time, place_by, place_of, unsettled}
-use Rattle.fio_check.specs.declared.late_answers.LateAnswers.{LateAnswers}
-use Rattle.fio_check.specs.declared.late_answers.Lateness.{Lateness}
-use Rattle.fio_check.specs.declared.late_answers.Lateness.TheVariants.{InTime}
-use Rattle.fio_check.specs.declared.outcome.LogPlace.TheVariants.{Bus, Cpu, Module}
-use Rattle.fio_ends.specs.EventLogs.{BeginsPart, MayHaveHeldFrame, Remark, SaysMessage, SpeaksOfLoss, event_of_remark}
-use Rattle.fio_ends.specs.LateLogs.{IsNoBreach}
+use Rattle.fio_ends.proofs.Names.{◌≡◌, ◌||◌, inl, inr, ℕ, Bool, true, false, List, Option, Some, None, refl, ap, sym, subst, if◌then◌else◌, option_map, Checker, Judging, LogPlace, Observation, checker_below_lines, observation_in, late_with, lateness_of, is_at_cpu, LogJudging, is_explained, is_same_end, judges_each, judging_in_time, late_settled, link_lost, log_below, log_by_lateness, log_counting, log_forgetting, log_lost, log_reaching, log_with, log_with_event, one_more, outcome_by_lateness, outcome_here, outcome_in_log, outcome_in_time, place_by, place_of, unsettled, LateAnswers, Lateness, InTime, Bus, Cpu, Module, BeginsPart, MayHaveHeldFrame, Remark, SaysMessage, SpeaksOfLoss, event_of_remark, IsNoBreach}
 use Rattle.fio_ends.proofs.LateRules.{Holds, MayBeAt, Takes, TakesInTime, below_in_time, explained}
 
 -- the place of a log is one of which this is proved

@@ -1,6 +1,5 @@
 -- What is known of the judge that leaves late answers out, along a right link: of its checker and of what it keeps of the answers.
-use Rattle.fio_ends.proofs.Names.{◌≡◌, ◌+◌, ◌≤◌, ℕ, Bool, true, false, List, Option, Some, None, refl, if◌then◌else◌, Breach, Checker, Facts, HasPoll, LogPlace, Nothing, Observation, RuleLimits, SentFrame, Skips, ToCommand, ToPoll, checker_below_breach, checker_below_lines, checker_with, found_by, MadeBlock, next_round, no_facts, number_of, passes_over, facts_with, breach_of, is_some, BLOCK_ANSWER, Settings, Machine, blocks_of, life_of}
-use Rattle.fio_check.specs.Checkers.{checker_anywhere}
+use Rattle.fio_ends.proofs.Names.{◌≡◌, ◌+◌, ◌≤◌, ℕ, Bool, true, false, List, Option, Some, None, refl, if◌then◌else◌, Breach, Checker, Facts, HasPoll, LogPlace, Nothing, Observation, RuleLimits, SentFrame, Skips, ToCommand, ToPoll, checker_below_breach, checker_below_lines, checker_with, found_by, MadeBlock, next_round, no_facts, number_of, passes_over, facts_with, breach_of, is_some, BLOCK_ANSWER, Settings, Machine, blocks_of, life_of, checker_anywhere}
 use Rattle.fio_ends.proofs.Following.{TookBlock}
 use Rattle.fio_ends.proofs.LateJudges.{IsKnownLost}
 use Rattle.fio_ends.proofs.LateRules.{MayBeLate}

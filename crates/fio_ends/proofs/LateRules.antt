@@ -1,22 +1,8 @@
 -- What the judge of a link does with a frame where late answers are left out, by its checker and by what is kept of the answers.
-use Rattle.fio_ends.proofs.Names.{◌≡◌, ◌∙◌, ◌⊎◌, ℕ, Bool, true, false, List, [], ◌∷◌, Option, Some, None, refl, ap, sym, subst, arith, if◌then◌else◌, is_some, not, option_map, Breach, Checker, ContentRule, Excused, FrameOutcome, Judging, Kept, Load, LogPlace, NotJudged, Observation, Restarted, Rule, RuleLimits, checker_below_breach, checker_below_lines, checker_with, found_by, find, found_in_frame, content_here, is_set_back, is_unheard, judging_at, judging_below_outcome, judging_passed, judging_taken, judging_with, may_be_anew, number_polled, observation_in, outcome_anew, outcome_found, outcome_in, outcome_judged, outcome_set_back, passes_over, stamp_in, unjudged_by, breach_of, breaks_within, first_broken_within, Facts}
-use Rattle.fio_check.proofs.Excuses.{excuses_what_is_shown}
-use Rattle.fio_check.specs.Checkers.{checker_within, due_in}
-use Rattle.fio_check.specs.LateAnswers.{late_with, lateness_of}
-use Rattle.fio_check.specs.LinkJudges.{is_at_cpu, outcome_of_content}
-use Rattle.fio_check.specs.LogJudges.{has_content, is_excused_late, is_rule_of_late, judging_in_time, outcome_in_time, outcome_without_content}
-use Rattle.fio_check.specs.Rules.{rules}
-use Rattle.fio_check.specs.declared.content.ContentBreach.{ContentBreach}
-use Rattle.fio_check.specs.declared.late_answers.LateAnswers.{LateAnswers}
-use Rattle.fio_check.specs.declared.late_answers.Lateness.TheVariants.{InTime, LateButTaken}
+use Rattle.fio_ends.proofs.Names.{◌≡◌, ◌∙◌, ◌⊎◌, ℕ, Bool, true, false, List, [], ◌∷◌, Option, Some, None, refl, ap, sym, subst, arith, if◌then◌else◌, is_some, not, option_map, Breach, Checker, ContentRule, Excused, FrameOutcome, Judging, Kept, Load, LogPlace, NotJudged, Observation, Restarted, Rule, RuleLimits, checker_below_breach, checker_below_lines, checker_with, found_by, find, found_in_frame, content_here, is_set_back, is_unheard, judging_at, judging_below_outcome, judging_passed, judging_taken, judging_with, may_be_anew, number_polled, observation_in, outcome_anew, outcome_found, outcome_in, outcome_judged, outcome_set_back, passes_over, stamp_in, unjudged_by, breach_of, breaks_within, first_broken_within, Facts, excuses_what_is_shown, checker_within, due_in, late_with, lateness_of, is_at_cpu, outcome_of_content, has_content, is_excused_late, is_rule_of_late, judging_in_time, outcome_in_time, outcome_without_content, rules, ContentBreach, LateAnswers, InTime, LateButTaken, LateAbove, Link, Unheard, BrokenContent, Bus, Cpu, Module, Unjudged, IsNoBreach}
 use Rattle.fio_check.specs.declared.late_answers.Lateness.TheVariants.{Late as LateOne}
-use Rattle.fio_check.specs.declared.log_judge.LogOutcome.TheVariants.{LateAbove, Link}
-use Rattle.fio_check.specs.declared.outcome.Excuse.TheVariants.{Unheard}
-use Rattle.fio_check.specs.declared.outcome.FrameOutcome.TheVariants.{Broken, BrokenContent}
-use Rattle.fio_check.specs.declared.outcome.LogPlace.TheVariants.{Bus, Cpu, Module}
-use Rattle.fio_check.specs.declared.outcome.Unjudged.{Unjudged}
+use Rattle.fio_check.specs.declared.outcome.FrameOutcome.TheVariants.{Broken}
 use Rattle.fio_check.specs.declared.rules.Rule.TheVariants as tried
-use Rattle.fio_ends.specs.LateLogs.{IsNoBreach}
 
 -- ---- what is known of a judge
 

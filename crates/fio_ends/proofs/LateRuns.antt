@@ -1,18 +1,11 @@
 -- The judge that leaves late answers out finds no breach in the log of a right CPU's end, along a run whose frames may be late.
-use Rattle.fio_ends.proofs.Names.{◌≡◌, ◌∙◌, ◌⊎◌, ◌+◌, ◌≤◌, inl, inr, ℕ, Bool, true, false, List, [], ◌∷◌, ◌++◌, map, Option, Some, None, refl, ap, sym, subst, arith, append-nil, if◌then◌else◌, option_map, same_Some, slice_get, AllByRecursion, Answer, AreInRange, Block, Checker, Command, CpuFrame, Event, HaveNoRestart, IsKept, IsNotRestart, IsWithinRanges, Leads, Machine, RuleLimits, SentFrame, Settings, SuitModule, after, after_delivered_block, after_delivery, after_delivery_to_cpu, after_delivery_to_module, answer_frames, answer_if, answer_octets, answer_of_sending, answer_type_to, block_in, command_in, frame_heard, frames_at, get_after_push, in_order, kept, kept_all, life_of, observation_in, poll_in, polls_with, refusal, reply_to, said, start, next_round, ◌==◌, number_of, after_taken, HasPoll, blocks_of}
+use Rattle.fio_ends.proofs.Names.{◌≡◌, ◌∙◌, ◌⊎◌, ◌+◌, ◌≤◌, inl, inr, ℕ, Bool, true, false, List, [], ◌∷◌, ◌++◌, map, Option, Some, None, refl, ap, sym, subst, arith, append-nil, if◌then◌else◌, option_map, same_Some, slice_get, AllByRecursion, Answer, AreInRange, Block, Checker, Command, CpuFrame, Event, HaveNoRestart, IsKept, IsNotRestart, IsWithinRanges, Leads, Machine, RuleLimits, SentFrame, Settings, SuitModule, after, after_delivered_block, after_delivery, after_delivery_to_cpu, after_delivery_to_module, answer_frames, answer_if, answer_octets, answer_of_sending, answer_type_to, block_in, command_in, frame_heard, frames_at, get_after_push, in_order, kept, kept_all, life_of, observation_in, poll_in, polls_with, refusal, reply_to, said, start, next_round, ◌==◌, number_of, after_taken, HasPoll, blocks_of, answered, late_above, LogEvent, LogJudging, log_starting, log_with, log_with_event, outcome_of_event, outcomes_in_log, LateAnswers, LogOutcome, LogPlace, Cpu, BeginsPart, MayHaveHeldFrame, Remark, Remarked, SaysMessage, SeenStep, SpeaksOfLoss, Unseen, event_of_remark, events_seen, found_saying, log_seen, IsInLog, IsNoBreach}
 use Rattle.fio_message.specs.declared.commands.Command.TheVariants as commands
 use Rattle.fio_link.specs.declared.event.Event.TheVariants as events
-use Rattle.fio_link.proofs.CpuOrder.{answered}
-use Rattle.fio_check.specs.LateAnswers.{late_above}
-use Rattle.fio_check.specs.LogJudges.{LogEvent, LogJudging, log_starting, log_with, log_with_event, outcome_of_event, outcomes_in_log}
-use Rattle.fio_check.specs.declared.late_answers.LateAnswers.{LateAnswers}
-use Rattle.fio_check.specs.declared.log_judge.LogOutcome.{LogOutcome}
 use Rattle.fio_check.specs.declared.log_judge.LogStart.TheVariants.{LateAnswers as StartLate}
 use Rattle.fio_check.specs.declared.observation.Observation.TheVariants as seen
-use Rattle.fio_check.specs.declared.outcome.LogPlace.{LogPlace}
-use Rattle.fio_check.specs.declared.outcome.LogPlace.TheVariants.{Cpu}
-use Rattle.fio_ends.specs.EventLogs.{BeginsPart, MayHaveHeldFrame, Remark, Remarked, SaysMessage, Seen, SeenStep, SpeaksOfLoss, Unseen, event_of_remark, events_seen, found_saying, log_seen}
-use Rattle.fio_ends.specs.LateLogs.{IsInLog, IsNoBreach, LateAnswersBreakNoRule}
+use Rattle.fio_ends.specs.EventLogs.{Seen}
+use Rattle.fio_ends.specs.LateLogs.{LateAnswersBreakNoRule}
 use Rattle.fio_ends.proofs.BlocksOfLives.{blocks_stay}
 use Rattle.fio_ends.proofs.Heard.{heard_as}
 use Rattle.fio_ends.proofs.LateCommands.{sent_other, sent_poll}

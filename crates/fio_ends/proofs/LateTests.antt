@@ -1,10 +1,5 @@
 -- How late an answer is, and what a checker knows that takes it or passes it over.
-use Rattle.fio_ends.proofs.Names.{◌≡◌, ◌∙◌, ◌+◌, ◌==◌, ℕ, Bool, true, false, Option, Some, None, refl, ap, arith, if◌then◌else◌, Facts, Nothing, Skips, ToCommand, ToPoll, is_some_and, ◌≢◌, ◌%◌, ◌<◌, ◌&&◌, ◌||◌, not, nat_tests, BLOCK_ANSWER}
-use Rattle.fio_check.specs.Checkers.{skips_frame}
-use Rattle.fio_check.specs.LateAnswers.{awaits, lateness_below, unawaited_block}
-use Rattle.fio_check.specs.declared.late_answers.LateAnswers.{LateAnswers}
-use Rattle.fio_check.specs.declared.late_answers.Lateness.{Lateness}
-use Rattle.fio_check.specs.declared.late_answers.Lateness.TheVariants.{InTime, Late}
+use Rattle.fio_ends.proofs.Names.{◌≡◌, ◌∙◌, ◌+◌, ◌==◌, ℕ, Bool, true, false, Option, Some, None, refl, ap, arith, if◌then◌else◌, Facts, Nothing, Skips, ToCommand, ToPoll, is_some_and, ◌≢◌, ◌%◌, ◌<◌, ◌&&◌, ◌||◌, not, nat_tests, BLOCK_ANSWER, skips_frame, awaits, lateness_below, unawaited_block, LateAnswers, Lateness, InTime, Late}
 use Rattle.fio_ends.proofs.LateKnown.{AgreesLate, KnowsFacts}
 
 -- ---- what is known

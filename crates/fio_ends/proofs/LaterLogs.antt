@@ -1,11 +1,6 @@
 -- A log that begins at any event of a prompt run: what it has from its first command on is a log that begins there.
-use Rattle.fio_ends.proofs.Names.{◌≡◌, ◌∙◌, ◌+◌, ◌-◌, ◌<◌, ◌≤◌, inl, inr, ℕ, true, false, List, [], ◌∷◌, ◌++◌, length, Option, Some, None, refl, ap, sym, subst, arith, append_assoc, if◌then◌else◌, Settings, AreInRange, no_facts, standard_rule_limits, TranscriptLine, Event, Machine, SentFrame, start, after, Leads, item_numbered, kept, CpuFrame, frame_heard, cpu_frame_on, frames_from, HasNoBreach, HaveFrames, IsGood, IsPromptRun, cases_lt, events_from_command, from_first_command, machine_at_command}
-use Rattle.fio_check.specs.Checkers.{checker_anywhere, found_from}
-use Rattle.fio_check.proofs.Checkers.{begins_anywhere}
-use Rattle.fio_check.proofs.FirstCommands.{below_heard}
+use Rattle.fio_ends.proofs.Names.{◌≡◌, ◌∙◌, ◌+◌, ◌-◌, ◌<◌, ◌≤◌, inl, inr, ℕ, true, false, List, [], ◌∷◌, ◌++◌, length, Option, Some, None, refl, ap, sym, subst, arith, append_assoc, if◌then◌else◌, Settings, AreInRange, no_facts, standard_rule_limits, TranscriptLine, Event, Machine, SentFrame, start, after, Leads, item_numbered, kept, CpuFrame, frame_heard, cpu_frame_on, frames_from, HasNoBreach, HaveFrames, IsGood, IsPromptRun, cases_lt, events_from_command, from_first_command, machine_at_command, checker_anywhere, found_from, begins_anywhere, below_heard, leads-append, FromCommand, HasNoBreachAnywhere, NeverAccusesLater}
 use Rattle.fio_link.specs.declared.event.Event.TheVariants as events
-use Rattle.fio_link.proofs.Grown.{leads-append}
-use Rattle.fio_ends.specs.PromptRuns.{FromCommand, HasNoBreachAnywhere, NeverAccusesLater}
 use Rattle.fio_ends.proofs.Following.{follows-start}
 use Rattle.fio_ends.proofs.GoodLines.{KeepRules, good_if_none, nothing_found}
 use Rattle.fio_ends.proofs.PromptRuns.{BeginsWithCommand, later_keep, reaches}

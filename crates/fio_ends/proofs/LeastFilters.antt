@@ -1,8 +1,6 @@
 -- The least filters that can be in force for the changes of an input that are still to be recorded.
-use Rattle.fio_ends.proofs.Names.{◌≡◌, ◌∙◌, ◌+◌, ◌-◌, ◌<◌, ◌≤◌, inl, inr, ℕ, Bool, List, [], ◌∷◌, ◌++◌, length, Option, Some, None, refl, ap, sym, subst, arith, append-nil, if◌then◌else◌, slice_get, slice_get_within, AllByRecursion, same_Some, Command, command_in, InputItem, ArrayVec, Life, Occurrence, Scanned, LineSynced, Raised, Commanded, life_after_command, log_of, log_of-with_command, Transition, FilterPair, SentFrame, get_after_push, get_in_front, IsOfScan, Setting, cases_lt, filter_in_force, get_in_back, item_for, items_sent, last_item_of, of_scan, setting_by}
+use Rattle.fio_ends.proofs.Names.{◌≡◌, ◌∙◌, ◌+◌, ◌-◌, ◌<◌, ◌≤◌, inl, inr, ℕ, Bool, List, [], ◌∷◌, ◌++◌, length, Option, Some, None, refl, ap, sym, subst, arith, append-nil, if◌then◌else◌, slice_get, slice_get_within, AllByRecursion, same_Some, Command, command_in, InputItem, ArrayVec, Life, Occurrence, Scanned, LineSynced, Raised, Commanded, life_after_command, log_of, log_of-with_command, Transition, FilterPair, SentFrame, get_after_push, get_in_front, IsOfScan, Setting, cases_lt, filter_in_force, get_in_back, item_for, items_sent, last_item_of, of_scan, setting_by, transitions_below, least_with, one_sample}
 use Rattle.fio_message.specs.declared.commands.Command.TheVariants as commands
-use Rattle.fio_module.specs.Log.{transitions_below}
-use Rattle.fio_check.specs.ContentAbove.{least_with, one_sample}
 use Rattle.fio_ends.proofs.FirstPolls.{LeavesInput}
 use Rattle.fio_ends.proofs.Following.{GoesOn, IsNoCommand, goes_on-more}
 use Rattle.fio_ends.proofs.Lives.{logged_since}

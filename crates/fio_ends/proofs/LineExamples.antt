@@ -1,6 +1,6 @@
 -- A worked run over lines, by computation: noise, a frame whole, one struck, one sent again, octets lost, an answer that comes
 -- twice.
-use Rattle.fio_ends.proofs.Names.{◌≡◌, ◌∙◌, ◌-◌, ◌^◌, ◌≤◌, inl, ℕ, true, false, List, [], ◌∷◌, ◌++◌, Some, None, nat_tests, ◌==◌, refl, ap, sym, subst, arith, Polling, Event, Arrives, AtCpu, AtModule, EndOf, Entry, FLAG, Framing, Happens, IsStruck, LeadOverLines, Loss, MayFollow, Octet, Scan, Send, ToCpu, ToModule, Whole, WireEvent, WiredEnds, after_line_event, ends_at_start, events_on_wire, frame_of, part_brought, sent, standard_settings, stuffed}
+use Rattle.fio_ends.proofs.Names.{◌≡◌, ◌∙◌, ◌-◌, ◌^◌, ◌≤◌, inl, ℕ, true, false, List, [], ◌∷◌, ◌++◌, Some, None, nat_tests, ◌==◌, refl, ap, sym, subst, arith, Polling, Event, Arrives, AtCpu, AtModule, EndOf, Entry, FLAG, Framing, Happens, IsStruck, LeadOverLines, Loss, MayFollow, Octet, Scan, Send, ToCpu, ToModule, Whole, WireEvent, WiredEnds, after_line_event, ends_at_start, events_on_wire, frame_of, part_brought, sent, standard_settings, stuffed, LinesBringRecords}
 use Rattle.fio_message.specs.declared.commands.Command.TheVariants as commands
 use Rattle.fio_message.specs.Bits.{is_set}
 use Rattle.fio_message.specs.Decoding.{message_in}
@@ -11,7 +11,6 @@ use Rattle.fio_wire.specs.Checks.{divided, with_octet}
 use Rattle.fio_wire.specs.Octets as wire
 use Rattle.fio_module.specs.Life as lives
 use Rattle.fio_ends.proofs.LinePremises.{at_module, at_cpu, frame_comes, struck_comes}
-use Rattle.fio_ends.specs.LineRuns.{LinesBringRecords}
 
 abbrev framing : Framing
 framing = record { address = 20; control = 131; own = record { address = 20; control = 131 } }
@@ -158,9 +157,7 @@ leads_2 = follows ends_1 configured (frame_comes at_module (standard_settings 2)
 
 leads_3 : Follow ends_2 polled
 unfolding message_in is_set wide_time_of transitions_below divided with_octet
-leads_3 =
-    let sent_poll = done ends_2 (Happens (Scan zero_low) ∷ Happens Poll ∷ []) in
-    (tt, (tt, follows sent_poll (part_brought AtModule struck (Arrives (Octet FLAG))) (struck_comes at_module (standard_settings 2) framing sent_poll struck refl is_struck)))
+leads_3 = grind (arith, nat_tests, follows, part_brought, struck_comes, at_module, standard_settings, is_struck)
 
 leads_4 : Follow ends_3 polled_again
 unfolding message_in is_set wide_time_of transitions_below divided with_octet

@@ -1,6 +1,5 @@
 -- One line of octets follows the frames of the link machine.
-use Rattle.fio_ends.proofs.Names.{◌≡◌, ◌∙◌, ◌≤◌, ℕ, zero, suc, List, [], ◌∷◌, ◌++◌, append-nil, length, Option, Some, None, slice_get, refl, ap, sym, subst, arith, option_map, nat_tests, same_Some, slice_get_within, AllByRecursion, Answer, answer_octets, SentFrame, Arrives, ComesWhole, EndOf, FLAG, Framing, IsFraming, Loss, MayBring, Octet, WireLine, answer_frames, delivery_refusal, item_numbered, line_after, map_push, message_heard, sent, slice_get-map, with_answer_written, with_written}
-use Rattle.fio_ends.specs.LineRuns.{written_of}
+use Rattle.fio_ends.proofs.Names.{◌≡◌, ◌∙◌, ◌≤◌, ℕ, zero, suc, List, [], ◌∷◌, ◌++◌, append-nil, length, Option, Some, None, slice_get, refl, ap, sym, subst, arith, option_map, nat_tests, same_Some, slice_get_within, AllByRecursion, Answer, answer_octets, SentFrame, Arrives, ComesWhole, EndOf, FLAG, Framing, IsFraming, Loss, MayBring, Octet, WireLine, answer_frames, delivery_refusal, item_numbered, line_after, map_push, message_heard, sent, slice_get-map, with_answer_written, with_written, written_of}
 use Rattle.fio_ends.proofs.LineMessages.{IsMessage}
 use Rattle.fio_ends.proofs.LineParts.{IsReading, octet_heard, whole_heard, read_flag, read_loss}
 

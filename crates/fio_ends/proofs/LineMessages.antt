@@ -1,15 +1,6 @@
 -- What the ends write is a message of octets that a frame can hold.
-use Rattle.fio_ends.proofs.Names.{◌≡◌, ◌^◌, ◌<◌, ◌≤◌, ℕ, Bool, true, false, List, [], ◌∷◌, ◌++◌, length, length-take, take, drop, Option, Some, None, refl, subst, arith, option_map, if◌then◌else◌, same_Some, AllByRecursion, Command, Answer, command_in, command_octets, answer_octets, filter_events, IsCommand, Life, Commanded, life_of, log_of, entry_of, newest_poll, is_new, newest_end, start_after, count_from, Settings, AreInRange, answer_to, History, INPUTS, IsEntry, IsOctet, Sending, answer_if, answer_of_sending, block_status-fits, counter_of, error_status, first_sending, input_state, latest_sending, length-map, raw_levels, repeat_of, reply_to, set_before_status, to_be_bytes, w32, word_of-fits}
+use Rattle.fio_ends.proofs.Names.{◌≡◌, ◌^◌, ◌<◌, ◌≤◌, ℕ, Bool, true, false, List, [], ◌∷◌, ◌++◌, length, length-take, take, drop, Option, Some, None, refl, subst, arith, option_map, if◌then◌else◌, same_Some, AllByRecursion, Command, Answer, command_in, command_octets, answer_octets, filter_events, IsCommand, Life, Commanded, life_of, log_of, entry_of, newest_poll, is_new, newest_end, start_after, count_from, Settings, AreInRange, answer_to, History, INPUTS, IsEntry, IsOctet, Sending, answer_if, answer_of_sending, block_status-fits, counter_of, error_status, first_sending, input_state, latest_sending, length-map, raw_levels, repeat_of, reply_to, set_before_status, to_be_bytes, w32, word_of-fits, IsOctets, IsFrameLength, inputs_octets, IsOctets-append, IsOctets-be32, IsOctets-le64, command_spelled, command_again, answer_again, word_of, part-fits, answer_fits, sendings_answer_polls, sent_number}
 use Rattle.fio_message.specs.declared.commands.Command.TheVariants as commands
-use Rattle.fio_message.specs.Octets.{IsOctets, IsFrameLength, inputs_octets}
-use Rattle.fio_message.proofs.Numbers.{IsOctets-append, IsOctets-be32, IsOctets-le64}
-use Rattle.fio_message.proofs.MessageLaws.{command_spelled}
-use Rattle.fio_message.proofs.CommandLaws.{command_again}
-use Rattle.fio_message.proofs.AnswerLaws.{answer_again}
-use Rattle.fio_module.specs.Flags.{word_of}
-use Rattle.fio_module.proofs.EntryRanges.{part-fits}
-use Rattle.fio_module.proofs.LongestAnswers.{answer_fits}
-use Rattle.fio_module.proofs.SendingLaws.{sendings_answer_polls, sent_number}
 
 -- octets that a frame can hold as its message
 abbrev pub IsMessage : List ℕ → Type 0

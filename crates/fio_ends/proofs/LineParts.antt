@@ -1,16 +1,9 @@
 -- What a decoder hears of a line, octet by octet.
-use Rattle.fio_ends.proofs.Names.{◌≡◌, ◌≢◌, ◌∙◌, drop, inl, inr, ℕ, Bool, true, false, List, [], ◌∷◌, ◌++◌, Option, Some, None, refl, ap, sym, subst, append-nil, append_assoc, if◌then◌else◌, option_map, eqb_tells, Arrives, ComesWhole, FLAG, Framing, HasNoFlag, IsFraming, IsOctet, IsStruck, MayBring, Octet, Whole, WireLine, frame_of, message_heard, no_flag, part_after, sent, stuffed, arith}
-use Rattle.std.proofs.lemmas.Bool.{false≢true}
-use Rattle.std.proofs.lemmas.List.{same_from_push}
-use Rattle.fio_wire.specs.declared.heard.WireHeard.{WireHeard}
-use Rattle.fio_wire.specs.declared.heard.WireHeard.TheVariants.{Nothing, Message, Other, Damaged}
-use Rattle.fio_wire.specs.Frames.{Said, Frame, Damage, wire_heard, is_own, message_of_frame, with_check}
+use Rattle.fio_ends.proofs.Names.{◌≡◌, ◌≢◌, ◌∙◌, drop, inl, inr, ℕ, Bool, true, false, List, [], ◌∷◌, ◌++◌, Option, Some, None, refl, ap, sym, subst, append-nil, append_assoc, if◌then◌else◌, option_map, eqb_tells, Arrives, ComesWhole, FLAG, Framing, HasNoFlag, IsFraming, IsOctet, IsStruck, MayBring, Octet, Whole, WireLine, frame_of, message_heard, no_flag, part_after, sent, stuffed, arith, false≢true, same_from_push, WireHeard, Message, Other, Damaged, Said, Damage, wire_heard, is_own, message_of_frame, Phase, Hunting, Within, Escaped, Reading, begun, ended_by, ending, fresh, lost, next, said_in, said_of, says, Struck, part_said, arrive, message_again, sent_frame, IsNoise, message_if}
+use Rattle.fio_wire.specs.declared.heard.WireHeard.TheVariants.{Nothing}
+use Rattle.fio_wire.specs.Frames.{Frame}
 use Rattle.fio_wire.specs.Frames as frames
-use Rattle.fio_wire.specs.Octets.{Phase, Hunting, Within, Escaped, Lost, Reading, begun, ended_by, ending, fresh, lost, next, said_in, said_of, says}
-use Rattle.fio_wire.specs.Laws.{Struck}
-use Rattle.fio_wire.proofs.Lines.{part_said}
-use Rattle.fio_wire.proofs.Sent.{arrive, message_again, sent_frame}
-use Rattle.fio_ends.specs.Lines.{IsNoise, message_if}
+use Rattle.fio_wire.specs.Octets.{Lost}
 use Rattle.fio_ends.proofs.LineMessages.{IsMessage}
 
 -- ---- What is known of lines

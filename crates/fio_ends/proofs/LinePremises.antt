@@ -1,9 +1,6 @@
 -- What a line may bring leaves open that frames come, whole and struck.
-use Rattle.fio_ends.proofs.Names.{◌≡◌, ◌∙◌, ◌≤◌, ℕ, List, [], ◌∷◌, ◌++◌, Option, Some, None, option_map, refl, ap, sym, subst, arith, append-nil, append_assoc, same_Some, if◌then◌else◌, Settings, Arrives, AtCpu, AtModule, EndOf, FLAG, Framing, HasNoFlag, IsStruck, MayBring, MayFollow, Octet, WireEvent, WireLine, WiredEnds, after_line_event, after_message, after_receipt, frame_of, item_numbered, line_after, no_flag, part_after, part_brought, sent, stuffed}
-use Rattle.fio_wire.proofs.Sent.{free_of_flags}
-use Rattle.fio_ends.specs.Lines.{Brought, MayCome}
+use Rattle.fio_ends.proofs.Names.{◌≡◌, ◌∙◌, ◌≤◌, ℕ, List, [], ◌∷◌, ◌++◌, Option, Some, None, option_map, refl, ap, sym, subst, arith, append-nil, append_assoc, same_Some, if◌then◌else◌, Settings, Arrives, AtCpu, AtModule, EndOf, FLAG, Framing, HasNoFlag, IsStruck, MayBring, MayFollow, Octet, WireEvent, WireLine, WiredEnds, after_line_event, after_message, after_receipt, frame_of, item_numbered, line_after, no_flag, part_after, part_brought, sent, stuffed, free_of_flags, Brought, MayCome, EachFrameMayCome, EachStruckFrameMayCome}
 use Rattle.fio_ends.proofs.LineParts.{struck_noise}
-use Rattle.fio_ends.specs.LineRuns.{EachFrameMayCome, EachStruckFrameMayCome}
 
 -- a direction: what its events bring, and the line that they change
 pub record IsDirection (line_of : WiredEnds → WireLine) (at : Brought → WireEvent) : Type 0 where

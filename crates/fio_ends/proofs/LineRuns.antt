@@ -1,13 +1,8 @@
 -- Both ends over two lines follow the link machine, event by event.
-use Rattle.fio_ends.proofs.Names.{◌≡◌, ◌+◌, ◌%◌, ◌<◌, ◌==◌, ℕ, Bool, true, false, List, [], ◌∷◌, ◌++◌, Option, Some, None, refl, ap, sym, subst, arith, if◌then◌else◌, Command, Answer, block_in, command_octets, IsCommand, Settings, AreInRange, Polling, after_hearing, Event, Machine, start, number_of, after, refusal, Leads, Arrives, AtCpu, AtModule, Block, EndOf, FLAG, Framing, Happens, History, IsFraming, LeadOverLines, LineSync, Loss, Octet, Raise, Restart, Scan, Send, ToCpu, ToModule, WireEvent, WireLine, WiredEnds, after_delivered_block, after_delivery_to_cpu, after_delivery_to_module, after_line_event, after_message, after_receipt, after_sending, answer_frames, ends_at_start, events_on_wire, items_of_block, line_after, message_heard, number_of-fits, number_of-next, polling_of, reply_to, runs_are_sound, with_answer_written, with_written}
+use Rattle.fio_ends.proofs.Names.{◌≡◌, ◌+◌, ◌%◌, ◌<◌, ◌==◌, ℕ, Bool, true, false, List, [], ◌∷◌, ◌++◌, Option, Some, None, refl, ap, sym, subst, arith, if◌then◌else◌, Command, Answer, block_in, command_octets, IsCommand, Settings, AreInRange, Polling, after_hearing, Event, Machine, start, number_of, after, refusal, Leads, Arrives, AtCpu, AtModule, Block, EndOf, FLAG, Framing, Happens, History, IsFraming, LeadOverLines, LineSync, Loss, Octet, Raise, Restart, Scan, Send, ToCpu, ToModule, WireEvent, WireLine, WiredEnds, after_delivered_block, after_delivery_to_cpu, after_delivery_to_module, after_line_event, after_message, after_receipt, after_sending, answer_frames, ends_at_start, events_on_wire, items_of_block, line_after, message_heard, number_of-fits, number_of-next, polling_of, reply_to, runs_are_sound, with_answer_written, with_written, Headline, IsRun, headline, MayCome, MayHappen, after_happening, HoldsOverLines, LinesAreRuns, HeadlineOverLines}
 use Rattle.fio_message.specs.declared.commands.Command.TheVariants as commands
 use Rattle.fio_module.specs.Life as lives
 use Rattle.fio_link.specs.declared.event.Event.TheVariants.{Poll}
-use Rattle.fio_link.specs.Headline.{Headline}
-use Rattle.fio_link.specs.Link.{IsRun}
-use Rattle.fio_link.proofs.Promises.{headline}
-use Rattle.fio_ends.specs.Lines.{MayCome, MayHappen, after_happening}
-use Rattle.fio_ends.specs.LineRuns.{HoldsOverLines, LinesAreRuns, HeadlineOverLines}
 use Rattle.fio_ends.proofs.LineMessages.{command_is_message, reply_is_message}
 use Rattle.fio_ends.proofs.LineFrames.{IsLine, Ended, line_written, line_answered, line_octet, line_lost, line_ended}
 

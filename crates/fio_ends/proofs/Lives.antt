@@ -1,8 +1,6 @@
 -- A life and those that go on from it: what stays, and what is since.
-use Rattle.fio_ends.proofs.Names.{◌≡◌, ◌∙◌, ◌+◌, ◌-◌, ◌≤◌, inl, inr, ℕ, Bool, true, false, List, [], ◌∷◌, ◌++◌, length, Some, refl, ap, sym, arith, append-nil, append_assoc, if◌then◌else◌, slice_get, slice_get_within, AllByRecursion, LoadCounter, Poll, Command, Settings, Life, Occurrence, Scanned, LineSynced, Raised, Commanded, counter_events, loads_of, scans_of, Transition, log_of, MadeBlock, newest_poll, is_new, blocks_of, next_block, get_in_front, get_after_push, IsOfScan, cases_lt, get_in_back, later_log, of_scan, ticks_in}
-use Rattle.fio_input.specs.Counter.{AskLoad, CounterEvent, LineSync, Tick}
-use Rattle.fio_input.proofs.Ticks.{loads_in-append}
-use Rattle.fio_module.specs.Log.{transitions_below}
+use Rattle.fio_ends.proofs.Names.{◌≡◌, ◌∙◌, ◌+◌, ◌-◌, ◌≤◌, inl, inr, ℕ, Bool, true, false, List, [], ◌∷◌, ◌++◌, length, Some, refl, ap, sym, arith, append-nil, append_assoc, if◌then◌else◌, slice_get, slice_get_within, AllByRecursion, LoadCounter, Poll, Command, Settings, Life, Occurrence, Scanned, LineSynced, Raised, Commanded, counter_events, loads_of, scans_of, Transition, log_of, MadeBlock, newest_poll, is_new, blocks_of, next_block, get_in_front, get_after_push, IsOfScan, cases_lt, get_in_back, later_log, of_scan, ticks_in, AskLoad, CounterEvent, Tick, loads_in-append, transitions_below}
+use Rattle.fio_input.specs.Counter.{LineSync}
 use Rattle.fio_ends.proofs.Following.{GoesOn, IsNoCommand, IsSince}
 
 -- ---- the counter

@@ -1,39 +1,13 @@
 -- The maker's answers in a log: the judge accuses nobody by one, and below the next command it is as it was without.
-use Rattle.fio_ends.proofs.Names.{◌≡◌, ◌∙◌, ◌+◌, ℕ, Bool, true, false, not, List, [], ◌∷◌, Option, Some, None, refl, ap, ap₂, sym, subst, AllByRecursion, ContentKept, Facts, facts_with, RuleLimits, answer_in, command_in, answer_octets, ContentFacts, content_with, Heard, Sent}
-use Rattle.std.specs.Prelude.{◌&&◌, nat_lt, if◌then◌else◌}
-use Rattle.std.proofs.Math.Path.{fun_ext}
-use Rattle.fio_message.proofs.MessageLaws.{answer_back, command_back}
-use Rattle.fio_message.specs.Answers.{IsAnswer, identity_answer, other_answer_code}
-use Rattle.fio_message.specs.Commands.{IsCommand, command_octets, other_command_code}
-use Rattle.fio_message.specs.declared.types.TheConstants.{ANSWER}
-use Rattle.fio_message.specs.declared.answers.OtherAnswer.{OtherAnswer}
+use Rattle.fio_ends.proofs.Names.{◌≡◌, ◌∙◌, ◌+◌, ℕ, Bool, true, false, not, List, [], ◌∷◌, Option, Some, None, refl, ap, ap₂, sym, subst, AllByRecursion, ContentKept, Facts, facts_with, RuleLimits, answer_in, command_in, answer_octets, ContentFacts, content_with, Heard, Sent, nat_lt, fun_ext, answer_back, command_back, IsAnswer, identity_answer, other_answer_code, IsCommand, command_octets, other_command_code, ANSWER, OtherAnswer, Command, OtherCommand, ComplexOutputs, ControllerId, TrackInputs, ContentChecking, checking_with, found_in_frame, input_with_item, unnamed, InputAbove, is_judged, rule_broken_by, item_for, breach_of, checker_with, found_by, number_with_command, Frame, Judging, LogLine, Lost, any_stamp_in, is_asked_again, is_at_cpu, judging_below_outcome, judging_kept, judging_lost, judging_passed, judging_with, loads_below, outcome_found, outcome_in, outcomes_of, place_lost, observation_of, Breach, Load, Unheard, FrameOutcome, BrokenContent, Excused, Kept, NotJudged, Restarted, InputItem, Skips, Nothing, ToCommand, ToPoll, LogPlace, taking, makers_answer, Answered, AnsweredLine, Identified, Plain, answer_kind, begin_heard, lines_with, AccusesNeither, nat_tests, arith}
+use Rattle.std.specs.Prelude.{◌&&◌, if◌then◌else◌}
 use Rattle.fio_message.specs.declared.answers.OtherAnswer.TheVariants as kinds
-use Rattle.fio_message.specs.declared.commands.Command.{Command}
 use Rattle.fio_message.specs.declared.commands.Command.TheVariants as commands
-use Rattle.fio_message.specs.declared.commands.OtherCommand.{OtherCommand}
-use Rattle.fio_message.specs.declared.commands.OtherCommand.TheVariants.{ComplexOutputs, ControllerId, TrackInputs}
-use Rattle.fio_check.specs.ContentCheckers.{ContentChecking, checking_with, found_in_frame}
-use Rattle.fio_check.specs.ContentFacts.{input_with_item, unnamed}
-use Rattle.fio_check.specs.ContentKnown.{InputAbove}
-use Rattle.fio_check.specs.ContentRules.{is_excused, is_judged, rule_broken_by}
-use Rattle.fio_check.specs.ContentSaid.{item_for}
-use Rattle.fio_check.specs.Checkers.{breach_of, checker_with, found_by}
-use Rattle.fio_check.specs.ContentEvents.{number_with_command}
-use Rattle.fio_check.specs.LinkJudges.{Frame, Judging, LogLine, Lost, any_stamp_in, is_asked_again, is_at_cpu, judging_below_outcome, judging_kept, judging_lost, judging_passed, judging_with, loads_below, outcome_found, outcome_in, outcomes_of, place_lost}
-use Rattle.fio_check.specs.Observations.{observation_of}
-use Rattle.fio_check.specs.declared.checker.Breach.{Breach}
-use Rattle.fio_check.specs.declared.outcome.Excuse.TheVariants.{Load, Unheard}
-use Rattle.fio_check.specs.declared.outcome.FrameOutcome.{FrameOutcome}
-use Rattle.fio_check.specs.declared.outcome.FrameOutcome.TheVariants.{Broken, BrokenContent, Excused, Kept, NotJudged, Restarted}
-use Rattle.fio_message.specs.declared.fields.InputItem.{InputItem}
+use Rattle.fio_check.specs.ContentRules.{is_excused}
+use Rattle.fio_check.specs.declared.outcome.FrameOutcome.TheVariants.{Broken}
 use Rattle.fio_check.specs.declared.observation.Observation.TheVariants as seen
-use Rattle.fio_check.specs.declared.checker.Skips.{Skips}
-use Rattle.fio_check.specs.declared.checker.Skips.TheVariants.{Nothing, ToCommand, ToPoll}
-use Rattle.fio_check.specs.declared.outcome.LogPlace.{LogPlace}
-use Rattle.fio_check.proofs.Checkers.{taking}
-use Rattle.fio_module.specs.Makers.{makers_answer}
-use Rattle.fio_ends.specs.AnsweredLogs.{Answered, AnsweredLine, AnswersAccuseNone, Identified, JudgeAccusesNoMaker, Plain, answer_kind, begin_heard, lines_with}
-use Rattle.fio_ends.specs.LinkLogs.{AccusesNeither, JudgeAccusesNone, judging_at_start}
+use Rattle.fio_ends.specs.AnsweredLogs.{AnswersAccuseNone, JudgeAccusesNoMaker}
+use Rattle.fio_ends.specs.LinkLogs.{JudgeAccusesNone}
 use Rattle.fio_ends.proofs.JudgeSteps.{Judged, passed}
 use Rattle.fio_ends.proofs.JudgeSteps.{kept as judged}
 use Rattle.fio_ends.proofs.JudgedLogs.{judge_accuses_none}
@@ -345,7 +319,4 @@ answers_accuse_none judging (Identified at id answer ∷ lines) given all = (
 
 pub judge_accuses_no_maker : JudgeAccusesNoMaker
 unfolding JudgeAccusesNoMaker AnswersAccuseNone JudgeAccusesNone
-judge_accuses_no_maker begun settings limits first before steps machine last log lines given without =
-    answers_accuse_none (judging_at_start begun limits) lines given
-    (subst (λ all. AllByRecursion AccusesNeither (outcomes_of (judging_at_start begun limits) all)) (sym without)
-    (judge_accuses_none begun settings limits first before steps machine last log))
+judge_accuses_no_maker begun settings limits first before steps machine last log lines given without = grind (arith, nat_tests, answers_accuse_none, judge_accuses_none)

@@ -1,16 +1,11 @@
 -- A good transcript is that of its poller.
-use Rattle.fio_ends.proofs.Names.{◌≡◌, ◌∙◌, ◌+◌, ◌%◌, ◌<◌, ◌≤◌, ℕ, zero, suc, Bool, true, false, List, [], ◌∷◌, ◌++◌, length, take, Option, Some, None, refl, ap, sym, subst, arith, if◌then◌else◌, ◌==◌, not, option_map, slice_get, option_map_or, nat_tests, fold-append, same_Some, slice_get_within, Answer, Command, answer_in, answered_block, command_in, after_hearing, Polling, items_of_block, facts_at, facts_with, number_due, number_polled, TranscriptLine, observation_in, observation_of, observation_on, first_broken, rule_broken, standard_rule_limits, Facts, Observation, Good, facts_next, seen_at, take_one_more, block_on, poller_with, poller_of, answer_from, decoded_answer, heard_as}
+use Rattle.fio_ends.proofs.Names.{◌≡◌, ◌∙◌, ◌+◌, ◌%◌, ◌<◌, ◌≤◌, ℕ, zero, suc, Bool, true, false, List, [], ◌∷◌, ◌++◌, length, take, Option, Some, None, refl, ap, sym, subst, arith, if◌then◌else◌, ◌==◌, not, option_map, slice_get, option_map_or, nat_tests, fold-append, same_Some, slice_get_within, Answer, Command, answer_in, answered_block, command_in, after_hearing, Polling, items_of_block, facts_at, facts_with, number_due, number_polled, TranscriptLine, observation_in, observation_of, observation_on, first_broken, rule_broken, standard_rule_limits, Facts, Observation, Good, facts_next, seen_at, take_one_more, block_on, poller_with, poller_of, answer_from, decoded_answer, heard_as, Stale, IsVerdict, KeepsRulesAbove, verdict_is, some_block, poller_at, IsTaken, IsOfPoller, GoodIsOfPoller}
 use Rattle.fio_message.specs.declared.answers.Answer.TheVariants as answers
 use Rattle.fio_message.specs.declared.commands.Command.TheVariants as commands
 use Rattle.fio_message.specs.declared.commands.OtherCommand.TheVariants as other_commands
 use Rattle.fio_message.specs.Blocks.{Block as BlockOf}
-use Rattle.fio_cpu.specs.declared.poller.Heard.TheVariants.{Stale}
 use Rattle.fio_check.specs.declared.rules.Rule.TheVariants as tried
-use Rattle.fio_check.specs.Verdicts.{IsVerdict, KeepsRulesAbove}
 use Rattle.fio_check.specs.declared.observation.Observation.TheVariants.{Poll, Command as CommandSeen, Block}
-use Rattle.fio_check.proofs.Verdicts.{verdict_is}
-use Rattle.fio_link.proofs.Places.{some_block}
-use Rattle.fio_ends.specs.Pollers.{poller_at, IsTaken, IsOfPoller, GoodIsOfPoller}
 use Rattle.fio_ends.proofs.Rules.{KeepsRules, rules_kept}
 
 -- ---- one line

@@ -1,8 +1,7 @@
 -- In the transcript of a prompt run a checker finds nothing.
-use Rattle.fio_ends.proofs.Names.{◌≡◌, arith, ℕ, List, [], ◌∷◌, ◌++◌, None, refl, sym, subst, AllByRecursion, Settings, AreInRange, facts_with, no_facts, standard_rule_limits, Facts, RuleLimits, Event, Machine, start, refusal, after, Leads, IsNotRestart, HaveNoRestart, IsKept, kept_all, kept, CpuFrame, frames_at, frames_from, due_after, IsPrompt, ArePrompt, IsWithinRanges, Life, Scanned, LineSynced, Raised, SuitModule, HasNoBreach, IsGood}
+use Rattle.fio_ends.proofs.Names.{◌≡◌, arith, ℕ, List, [], ◌∷◌, ◌++◌, None, refl, sym, subst, AllByRecursion, Settings, AreInRange, facts_with, no_facts, standard_rule_limits, Facts, RuleLimits, Event, Machine, start, refusal, after, Leads, IsNotRestart, HaveNoRestart, IsKept, kept_all, kept, CpuFrame, frames_at, frames_from, due_after, IsPrompt, ArePrompt, IsWithinRanges, Life, Scanned, LineSynced, Raised, SuitModule, HasNoBreach, IsGood, NeverAccuses}
 use Rattle.fio_module.specs.Life as module_events
 use Rattle.fio_link.specs.declared.event.Event.TheVariants as events
-use Rattle.fio_ends.specs.PromptRuns.{NeverAccuses}
 use Rattle.fio_ends.proofs.GoodLines.{KeepRules, good_if_none, nothing_found, said_by}
 use Rattle.fio_ends.proofs.Following.{Follows, Keeps, facts_below, from_after, follows-history, follows-start, may_begin, may_send}
 use Rattle.fio_ends.proofs.Sends.{sends-poll, sends-other}

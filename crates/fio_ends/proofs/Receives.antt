@@ -1,9 +1,6 @@
 -- The module receives a frame, and may answer it.
-use Rattle.fio_ends.proofs.Names.{◌≡◌, ◌∙◌, ◌+◌, ◌<◌, ◌≤◌, inl, inr, ℕ, Bool, true, false, List, ◌++◌, length, Option, Some, None, refl, ap, sym, subst, arith, append-nil, if◌then◌else◌, ◌==◌, option_map, slice_get, nat_tests, eqb_tells, same_Some, slice_get_within, Answer, Command, answer_octets, command_in, poll_in, Settings, AreInRange, Life, life_of, newest_poll, is_new, answer_to, Facts, ToModule, SentFrame, Machine, number_of, after_delivery_to_module, refusal, after, next_round, get_push, number_of-fits, next_fits, after_delivery, IsKept, due_after, life_after_command, Commanded, [], Sending, again_carries, answer_frames, answer_if, answer_of_sending, carried_back, first_carries, first_sending, polls_with, repeat_of, reply_to, said}
+use Rattle.fio_ends.proofs.Names.{◌≡◌, ◌∙◌, ◌+◌, ◌<◌, ◌≤◌, inl, inr, ℕ, Bool, true, false, List, ◌++◌, length, Option, Some, None, refl, ap, sym, subst, arith, append-nil, if◌then◌else◌, ◌==◌, option_map, slice_get, nat_tests, eqb_tells, same_Some, slice_get_within, Answer, Command, answer_octets, command_in, poll_in, Settings, AreInRange, Life, life_of, newest_poll, is_new, answer_to, Facts, ToModule, SentFrame, Machine, number_of, after_delivery_to_module, refusal, after, next_round, get_last, number_of-fits, next_fits, after_delivery, IsKept, due_after, life_after_command, Commanded, [], Sending, again_carries, answer_frames, answer_if, answer_of_sending, carried_back, first_carries, first_sending, polls_with, repeat_of, reply_to, said, same_number, said_again, latest_sent, newest_fits, sending_if, continues}
 use Rattle.fio_message.specs.declared.commands.Command.TheVariants as commands
-use Rattle.fio_link.proofs.Received.{same_number, said_again, latest_sent, newest_fits}
-use Rattle.fio_link.proofs.Kept.{sending_if}
-use Rattle.fio_link.proofs.OneLife.{continues}
 use Rattle.fio_ends.proofs.BlocksOfLives.{blocks_stay}
 use Rattle.fio_ends.proofs.Heard.{heard_as}
 use Rattle.fio_ends.proofs.Following.{AreBefore, IsBlockFor, Answers, Stage, Follows, GoesOn, goes_on-more}
@@ -33,7 +30,7 @@ reply_frame frames None round frame at =
     absurd (omega (arith, slice_get_within frames (length frames) frame none))
 reply_frame frames (Some answer) round frame at =
     let pushed : SentFrame = record { octets = answer_octets answer; round = round } in
-    let same : pushed ≡ frame = same_Some _ _ (sym (get_push frames pushed) ∙ at) in
+    let same : pushed ≡ frame = same_Some _ _ (sym (get_last frames pushed) ∙ at) in
     (answer, refl, ap (λ (s : SentFrame). s.octets) same)
 
 module _ (settings : Settings) (range : AreInRange settings) (first : ℕ) (machine : Machine)

@@ -1,9 +1,7 @@
 -- Where a module is started anew, time after time, the judge of a link accuses nobody, and says once at most for each life that it
 -- was restarted.
-use Rattle.std.proofs.lemmas.List.Elements.{filter-append}
-use Rattle.fio_ends.proofs.Names.{length-append, append_assoc, ◌%◌, ◌≡◌, ◌∙◌, ◌+◌, same_Some, ◌≤◌, inl, inr, ℕ, suc, true, false, List, [], ◌∷◌, ◌++◌, length, Some, None, refl, ap, ap₂, sym, subst, arith, AllByRecursion, life_of, loads_of, Settings, AreInRange, no_facts, Facts, RuleLimits, Machine, start, number_of, number_of-fits, kept, SuitModule, AccusesNeither, Checker, FrameOutcome, HaveRestarts, IsRestarted, JudgesOn, Judging, LogLine, LogStep, LoggedLife, Nothing, events_of, filter, is_restart, judging_anywhere, judging_below, judging_with_line, log_from, outcomes_of, taking}
-use Rattle.fio_check.specs.LinkJudges.{outcome_on}
-use Rattle.fio_ends.specs.RestartedLogs.{AreRestarted, JudgeFindsRestarts, JudgeFindsRestartsAnywhere, lines_of_lives}
+use Rattle.fio_ends.proofs.Names.{length-append, append_assoc, ◌%◌, ◌≡◌, ◌∙◌, ◌+◌, same_Some, ◌≤◌, inl, inr, ℕ, suc, true, false, List, [], ◌∷◌, ◌++◌, length, Some, None, refl, ap, ap₂, sym, subst, arith, AllByRecursion, life_of, loads_of, Settings, AreInRange, no_facts, Facts, RuleLimits, Machine, start, number_of, number_of-fits, kept, SuitModule, AccusesNeither, Checker, FrameOutcome, HaveRestarts, IsRestarted, JudgesOn, Judging, LogLine, LogStep, LoggedLife, Nothing, events_of, filter, is_restart, judging_anywhere, judging_below, judging_with_line, log_from, outcomes_of, taking, filter-append, outcome_on, AreRestarted, lines_of_lives, nat_tests}
+use Rattle.fio_ends.specs.RestartedLogs.{JudgeFindsRestarts, JudgeFindsRestartsAnywhere}
 use Rattle.fio_ends.proofs.AllRules.{again_known, agrees_again, kept_again}
 use Rattle.fio_ends.proofs.BegunAgain.{asks_begun}
 use Rattle.fio_ends.proofs.ClockKept.{clock_above}
@@ -24,16 +22,7 @@ abbrev facts_anew : ℕ → Facts
 facts_anew number = record no_facts { polled = Some (number + 255); answered = true; advanced = true }
 
 follows_anew : (settings : Settings) (first : ℕ) → Follows settings first [] start 0 (facts_anew (number_of first 0))
-follows_anew settings first = record {
-  number = λ n is.
-      (let fits = number_of-fits first 0 in
-      let due : (number_of first 0 + 255 + 1) % 256 ≡ n = same_Some _ _ is in
-      omega (arith, fits, due));
-  answered = λ is. record { sent = λ place n r low has. absurd (omega (arith, low)); received = omega arith };
-  more = λ m is. absurd (cc is);
-  now = record { more = []; is = refl };
-  stage = inl (record { all = refl; past = omega arith });
-}
+follows_anew settings first = grind (arith, nat_tests, number_of-fits, number_of, same_Some, inl)
 
 -- a life, below whatever a judge took
 one_life : (settings : Settings) (limits : RuleLimits) (first : ℕ) (steps : List LogStep) (last : Machine) (judging : Judging) (range : AreInRange settings) (suit : SuitModule settings limits)
@@ -48,7 +37,16 @@ one_life settings limits first steps last judging range suit life j =
     let known : IsKnown settings first start now start =
     record { is_kept = kept settings range first [] start refl tt; begun = goes_on-same now now refl; rounds = omega arith; now = goes_on-same now now refl } in
     let again = agrees_again settings range first start false None start 0 in
-    between settings range first limits suit judging.latest steps last life.logged (clock_above false) state_above (stamps_above settings range first start) 0 now (facts_anew (number_of first 0)) (record { number = Some (number_of first 0); facts = (kept_again 0).facts }) start 0 judging
+    between settings range first limits suit judging.latest steps last life.logged
+    (record {
+      times = record { clock = clock_above false; state = state_above; sent = 0 };
+      stamps = stamps_above settings range first start;
+      from = now;
+      facts = facts_anew (number_of first 0);
+      kept = record { number = Some (number_of first 0); facts = (kept_again 0).facts };
+      machine = start;
+      due = 0;
+    }) judging
     (record {
       known = known;
       follows = follows_anew settings first;

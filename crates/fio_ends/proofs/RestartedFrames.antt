@@ -1,12 +1,9 @@
 -- The frames of a module that was started anew, as a judge of a link sees them that does not know it.
-use Rattle.fio_ends.proofs.Names.{◌≡◌, ◌∙◌, ◌==◌, ◌⊎◌, inl, inr, ◌&&◌, not, ℕ, Bool, true, false, List, length, Option, Some, None, refl, ap, sym, arith, if◌then◌else◌, is_some, option_and_then, nat_tests, number_due, facts_with, ◌+◌, ◌≤◌, Answer, says_again, Facts, RuleLimits, first_broken_within, is_some_and, observation_in, observation_of, Watchdog, BLOCK_ANSWER, Breach, ContentRule, Excused, FrameOutcome, Judging, Load, LogPlace, Observation, Restarted, any_stamp_in, any_stamp_of, breach_of, breaks_within, content_here, found_by, found_in_frame, is_absent, is_before, is_set_back, judging_below_outcome, list_any, loads_below, may_be_anew, nat_le, nat_lt, outcome_anew, outcome_in, outcome_set_back, passes_over, place_lost, polls_below, stamp_of}
+use Rattle.fio_ends.proofs.Names.{◌≡◌, ◌∙◌, ◌==◌, ◌⊎◌, inl, inr, ◌&&◌, not, ℕ, Bool, true, false, List, length, Option, Some, None, refl, ap, sym, arith, if◌then◌else◌, is_some, option_and_then, nat_tests, number_due, facts_with, ◌+◌, ◌≤◌, Answer, says_again, Facts, RuleLimits, first_broken_within, is_some_and, observation_in, observation_of, Watchdog, BLOCK_ANSWER, Breach, ContentRule, Excused, FrameOutcome, Judging, Load, LogPlace, Observation, Restarted, any_stamp_in, any_stamp_of, breach_of, breaks_within, content_here, found_by, found_in_frame, is_absent, is_before, is_set_back, judging_below_outcome, list_any, loads_below, may_be_anew, nat_le, nat_lt, outcome_anew, outcome_in, outcome_set_back, passes_over, place_lost, polls_below, stamp_of, may_answer_anew, outcome_of_content, ContentBreach, says_out_of_sequence}
 use Rattle.std.specs.Prelude.{◌||◌}
 use Rattle.fio_message.specs.declared.answers.Answer.TheVariants as answers
-use Rattle.fio_check.specs.LinkJudges.{may_answer_anew, outcome_of_content}
-use Rattle.fio_check.specs.declared.content.ContentBreach.{ContentBreach}
 use Rattle.fio_check.specs.declared.observation.Observation.TheVariants as seen
 use Rattle.fio_check.specs.declared.rules.Rule.TheVariants as tried
-use Rattle.fio_message.specs.Status.{says_out_of_sequence}
 use Rattle.fio_ends.proofs.Rules.{KeepsRules}
 use Rattle.fio_ends.proofs.AnewFrames.{never}
 

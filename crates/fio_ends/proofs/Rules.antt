@@ -1,7 +1,5 @@
 -- No first rule is broken exactly if none is.
-use Rattle.fio_ends.proofs.Names.{◌≡◌, ◌∙◌, ◌-◌, slice_get, Bool, true, false, List, [], ◌∷◌, Some, None, refl, ap, if◌then◌else◌, AllByRecursion, first_broken, first_broken_within, standard_rule_limits, Facts, RuleLimits, Observation, each-at, Rule, breaks_within, find}
-use Rattle.fio_check.specs.Rules.{rule_number, rules}
-use Rattle.fio_check.specs.declared.rules.Rule.TheVariants.{Readable}
+use Rattle.fio_ends.proofs.Names.{◌≡◌, ◌∙◌, ◌-◌, slice_get, Bool, true, false, List, [], ◌∷◌, Some, None, refl, ap, if◌then◌else◌, AllByRecursion, first_broken, first_broken_within, standard_rule_limits, Facts, RuleLimits, Observation, each-at, Rule, breaks_within, find, rule_number, rules, Readable}
 
 -- none of these rules is broken
 abbrev KeepsEachOf : (Rule → Bool) → List Rule → Type 0

@@ -1,10 +1,9 @@
 -- The poller of a prompt run's transcript is the run's own.
-use Rattle.fio_ends.proofs.Names.{◌≡◌, ◌∙◌, ◌+◌, ◌<◌, ◌⊎◌, inl, inr, ℕ, true, false, List, [], ◌∷◌, ◌++◌, map, Option, Some, None, refl, ap, sym, subst, arith, fold, slice_get, AllByRecursion, same_Some, Command, command_octets, IsCommand, answer_in, block_in, Settings, AreInRange, after_hearing, Polling, facts_with, no_facts, number_polled, TranscriptLine, answer_type_to, names_absent, observation_in, observation_on, Facts, Observation, Event, Machine, SentFrame, start, number_of, item_numbered, after_delivered_block, after_delivery_to_cpu, after_delivery_to_module, refusal, sending_refusal, after_sending, after, Leads, IsNotRestart, HaveNoRestart, number_of-fits, after_delivery, IsKept, kept_all, kept, block_on, poller_with, poller_of, CpuFrame, frame_heard, cpu_frame_on, frames_at, frames_from, due_after, IsPrompt, ArePrompt, IsWithinRanges, Life, life_of, answer_from, answered_block, polling_of}
+use Rattle.fio_ends.proofs.Names.{◌≡◌, ◌∙◌, ◌+◌, ◌<◌, ◌⊎◌, inl, inr, ℕ, true, false, List, [], ◌∷◌, ◌++◌, map, Option, Some, None, refl, ap, sym, subst, arith, fold, slice_get, AllByRecursion, same_Some, Command, command_octets, IsCommand, answer_in, block_in, Settings, AreInRange, after_hearing, Polling, facts_with, no_facts, number_polled, TranscriptLine, answer_type_to, names_absent, observation_in, observation_on, Facts, Observation, Event, Machine, SentFrame, start, number_of, item_numbered, after_delivered_block, after_delivery_to_cpu, after_delivery_to_module, refusal, sending_refusal, after_sending, after, Leads, IsNotRestart, HaveNoRestart, number_of-fits, after_delivery, IsKept, kept_all, kept, block_on, poller_with, poller_of, CpuFrame, frame_heard, cpu_frame_on, frames_at, frames_from, due_after, IsPrompt, ArePrompt, IsWithinRanges, Life, life_of, answer_from, answered_block, polling_of, HasRunsPoller, KeepsRecord}
 use Rattle.fio_message.specs.declared.commands.Command.TheVariants as commands
 use Rattle.fio_message.specs.Blocks.{Block as BlockOf}
 use Rattle.fio_check.specs.declared.observation.Observation.TheVariants as seen
 use Rattle.fio_link.specs.declared.event.Event.TheVariants as events
-use Rattle.fio_ends.specs.RunRecords.{HasRunsPoller, KeepsRecord}
 use Rattle.fio_ends.proofs.Pollers.{poller_by, poller_by-is}
 use Rattle.fio_ends.proofs.GoodLines.{said_by}
 use Rattle.fio_ends.proofs.Heard.{IsHeardAs}

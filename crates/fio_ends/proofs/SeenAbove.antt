@@ -1,12 +1,6 @@
 -- What a log of a right link says above a line, and what the judge of a log keeps of it.
-use Rattle.fio_ends.proofs.Names.{◌≡◌, ◌∙◌, ◌&&◌, not, arith, Checker, checker_below_lines, Skips, Nothing, ToCommand, ToPoll, Observation, ◌⊎◌, ◌||◌, inl, inr, ℕ, Bool, true, false, [], ◌∷◌, Option, Some, None, refl, ap, sym, if◌then◌else◌, CpuFrame, observation_in, Event, Judging, Machine, frame_heard, frames_at, is_command, item_numbered}
-use Rattle.fio_check.specs.LinkJudges.{judging_below}
-use Rattle.fio_check.specs.LogJudges.{judges_each}
-use Rattle.fio_check.specs.LogLaws.{Around, around_frame, around_said, around_with, mark_if}
+use Rattle.fio_ends.proofs.Names.{◌≡◌, ◌∙◌, ◌&&◌, not, arith, Checker, checker_below_lines, Observation, ◌⊎◌, ◌||◌, inl, inr, ℕ, Bool, true, false, [], ◌∷◌, Option, Some, None, refl, ap, CpuFrame, observation_in, Event, Judging, Machine, frame_heard, frames_at, is_command, item_numbered, judging_below, judges_each, Around, around_frame, around_said, around_with, mark_if, SentFrame, SeenAbove, below_frames, found_saying, lost_if, below_command, nat_tests}
 use Rattle.fio_link.specs.declared.event.Event.TheVariants as happen
-use Rattle.fio_link.specs.Link.{SentFrame}
-use Rattle.fio_ends.specs.EventLogs.{SeenAbove, below_frames, found_saying, lost_if}
-use Rattle.fio_ends.specs.LinkLogs.{below_command}
 
 -- ---- an event has one frame at most
 
@@ -33,12 +27,7 @@ abbrev pub Stays : SeenAbove → Option ℕ → Type 0
 Stays above now = (now ≡ above.begins) ⊎ ((now ≡ Some 1) × (above.warned ≡ true))
 
 pub stays_framed : (event : Event) (above : SeenAbove) (frame : CpuFrame) (now : Option ℕ) → Stays above now → Stays (below_frames event above (frame ∷ [])) (below_command event now)
-stays_framed event above frame now stays = by (is_command event) stays
-  where
-    by : (command : Bool) → Stays above now
-        → ((if command then None else now) ≡ (if command then None else above.begins)) ⊎ (((if command then None else now) ≡ Some 1) × (above.warned ≡ true))
-    by true stays = inl refl
-    by false stays = stays
+stays_framed event above frame now stays = grind (arith, nat_tests, is_command, inl)
 
 pub stays_lost : (above : SeenAbove) (now : Option ℕ) → above.begins ≡ Some 1 → Stays above now → Stays (lost_if true above) now
 stays_lost above now begins stays = elim stays [ inl same ↦ inl (same ∙ begins) | inr one ↦ inr one ]
@@ -69,22 +58,11 @@ warned_said around said from_cpu = grind arith
 
 pub agrees_framed : (begun : Bool) (above : SeenAbove) (around : Around) (judging next : Judging) (event : Event) (said : Option Bool) (frame : CpuFrame)
     → Agrees begun above around judging → Agrees begun (below_frames event above (frame ∷ [])) (around_with around (found_saying said frame)) next
-agrees_framed begun above around judging next event said frame agrees =
-    let observation = observation_in frame.from_cpu frame.octets in record {
-      framed = framed_said (around_frame around observation) said frame.from_cpu ∙ framed_by around observation;
-      warned = λ is. agrees.warned (warned_by around observation (sym (warned_said (around_frame around observation) said frame.from_cpu) ∙ is));
-      each = λ none. absurd (cc none);
-      begins = λ none. absurd (cc none);
-    }
+agrees_framed begun above around judging next event said frame agrees = grind (arith, nat_tests, observation_in, framed_said, framed_by, warned_by, warned_said)
 
 -- below a mark a checker does not judge each frame
 each_lost : (checker : Checker) → judges_each (checker_below_lines checker checker.skips).skips ≡ false
-each_lost checker = by checker.skips refl
-  where
-    by : (skips : Skips) → checker.skips ≡ skips → judges_each (checker_below_lines checker skips).skips ≡ false
-    by Nothing is = refl
-    by ToCommand is = rw is refl
-    by ToPoll is = refl
+each_lost checker = grind (arith, nat_tests, checker_below_lines)
 
 not_lost : (begun : Bool) → false ≡ (begun && false)
 not_lost true = refl

@@ -1,8 +1,7 @@
 -- The states of the inputs that the module answered after a life: what is known now of the changes that are still to be recorded
 -- was so then.
-use Rattle.fio_ends.proofs.Names.{◌≡◌, ◌≢◌, ◌+◌, ◌<◌, ◌≤◌, ◌&&◌, inl, inr, ℕ, Bool, true, false, not, List, [], ◌∷◌, ◌++◌, length, drop, length-append, Option, Some, None, refl, ap, subst, arith, if◌then◌else◌, slice_get, AllByRecursion, same_Some, Life, Occurrence, Scanned, LineSynced, Raised, Commanded, Transition, log_of, drop-append-le, each-front, later_log}
+use Rattle.fio_ends.proofs.Names.{◌≡◌, ◌≢◌, ◌+◌, ◌<◌, ◌≤◌, ◌&&◌, inl, inr, ℕ, Bool, true, false, not, List, [], ◌∷◌, ◌++◌, length, drop, length-append, Option, Some, None, refl, ap, subst, arith, if◌then◌else◌, slice_get, AllByRecursion, same_Some, Life, Occurrence, Scanned, LineSynced, Raised, Commanded, Transition, log_of, drop-append-le, each-front, later_log, transitions_below}
 use Rattle.fio_message.specs.declared.commands.Command.TheVariants as commands
-use Rattle.fio_module.specs.Log.{transitions_below}
 use Rattle.fio_ends.proofs.Alternating.{Alternate, alternate-same, alternate-split, scan_below}
 use Rattle.fio_ends.proofs.Following.{IsNoCommand}
 use Rattle.fio_ends.proofs.Watching.{IsSilent, IsWatched, NoneHidden, none_hidden-further, opened-entry, state_of, watched-other}

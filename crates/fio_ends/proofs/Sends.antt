@@ -1,7 +1,6 @@
 -- The CPU's end sends a command: its line breaks no rule.
-use Rattle.fio_ends.proofs.Names.{◌≡◌, ◌∙◌, ◌+◌, ◌%◌, ◌<◌, inl, inr, ℕ, Bool, true, false, List, [], ◌∷◌, ◌++◌, length, Option, Some, None, refl, ap, sym, subst, arith, length-append, if◌then◌else◌, ◌==◌, not, option_map, option_map_or, nat_tests, same_Some, slice_get_within, Command, command_octets, IsCommand, command_in, poll_in, Settings, facts_with, number_due, answer_type_to, names_absent, observation_in, observation_of, first_broken_within, Facts, RuleLimits, Observation, SentFrame, Machine, number_of, sending_refusal, after_sending, get_after_push, get_push, number_of-fits, none_more, CpuFrame, life_of, no_poll_in, observation_of_command}
+use Rattle.fio_ends.proofs.Names.{◌≡◌, ◌∙◌, ◌+◌, ◌%◌, ◌<◌, inl, inr, ℕ, Bool, true, false, List, [], ◌∷◌, ◌++◌, length, Option, Some, None, refl, ap, sym, subst, arith, length-append, if◌then◌else◌, ◌==◌, not, option_map, option_map_or, nat_tests, same_Some, slice_get_within, Command, command_octets, IsCommand, command_in, poll_in, Settings, facts_with, number_due, answer_type_to, names_absent, observation_in, observation_of, first_broken_within, Facts, RuleLimits, Observation, SentFrame, Machine, number_of, sending_refusal, after_sending, get_after_push, get_last, number_of-fits, none_more, CpuFrame, life_of, no_poll_in, observation_of_command, command_back}
 use Rattle.fio_message.specs.declared.commands.Command.TheVariants as commands
-use Rattle.fio_message.proofs.MessageLaws.{command_back}
 use Rattle.fio_check.specs.declared.rules.Rule.TheVariants as tried
 use Rattle.fio_check.specs.declared.observation.Observation.TheVariants as seen
 use Rattle.fio_ends.proofs.Rules.{KeepsRules, no_rule_broken}
@@ -91,7 +90,7 @@ module _ (settings : Settings) (first : ℕ) (machine : Machine) (facts : Facts)
           place = length frames;
           frame = frame_of command;
           sent_last = length-append frames (frame_of command ∷ []);
-          at_place = get_push frames (frame_of command);
+          at_place = get_last frames (frame_of command);
           spells = read_back command within;
           passed = f.sent;
           none_due = refl;

@@ -1,7 +1,6 @@
 -- An item of an input that was taken is the one that the module has.
-use Rattle.fio_ends.proofs.Names.{◌≡◌, ◌∙◌, ◌+◌, ◌<◌, ◌≤◌, inl, inr, ℕ, Bool, true, false, List, [], ◌∷◌, ◌++◌, length, Option, Some, None, refl, ap, sym, subst, arith, if◌then◌else◌, option_map, is_some, InputAbove, slice_get, slice_get_within, AllByRecursion, same_Some, Command, command_in, InputItem, ArrayVec, Life, Occurrence, Commanded, life_after_command, filter_events, all_present, input_setting, SentFrame, get_after_push, SentItem, Setting, filter_in_force, input_with_item, item_for, items_sent, last_item_of, unnamed}
+use Rattle.fio_ends.proofs.Names.{◌≡◌, ◌∙◌, ◌+◌, ◌<◌, ◌≤◌, inl, inr, ℕ, Bool, true, false, List, [], ◌∷◌, ◌++◌, length, Option, Some, None, refl, ap, sym, subst, arith, if◌then◌else◌, option_map, is_some, InputAbove, slice_get, slice_get_within, AllByRecursion, same_Some, Command, command_in, InputItem, ArrayVec, Life, Occurrence, Commanded, life_after_command, filter_events, all_present, input_setting, SentFrame, get_after_push, SentItem, Setting, filter_in_force, input_with_item, item_for, items_sent, last_item_of, unnamed, item_kept}
 use Rattle.fio_message.specs.declared.commands.Command.TheVariants as commands
-use Rattle.fio_check.specs.ContentSaid.{item_kept}
 use Rattle.fio_ends.proofs.ContentFrame.{last_of}
 use Rattle.fio_ends.proofs.FirstPolls.{NamesNot, NoneNames}
 use Rattle.fio_ends.proofs.Following.{IsNoCommand, IsSentLast, IsSince}

@@ -1,8 +1,6 @@
 -- A block that is sent again was made at a poll for it, and what was received since has no item of an input of which none was sent
 -- since the first of these polls. So, if it has no C, it settles the input as a clear block does.
-use Rattle.fio_ends.proofs.Names.{◌≡◌, ◌∙◌, ◌<◌, ◌≤◌, ◌&&◌, ◌⊎◌, inl, inr, ℕ, Bool, true, false, not, List, [], ◌∷◌, ◌++◌, length, length-append, refl, ap, sym, subst, arith, slice_get_within, AllByRecursion, append_assoc, Block, Settings, AreInRange, Life, Occurrence, life_of, log_of, scans_of, MadeBlock, next_block, blocks_in, ContentFacts, Machine, blocks_without_more_take_all, each-front, later_log}
-use Rattle.std.proofs.lemmas.List.{append_cancel_right}
-use Rattle.fio_module.proofs.ListParts.{each-back}
+use Rattle.fio_ends.proofs.Names.{◌≡◌, ◌∙◌, ◌<◌, ◌≤◌, ◌&&◌, ◌⊎◌, inl, inr, ℕ, Bool, true, false, not, List, [], ◌∷◌, ◌++◌, length, length-append, refl, ap, sym, subst, arith, slice_get_within, AllByRecursion, append_assoc, Block, Settings, AreInRange, Life, Occurrence, life_of, log_of, scans_of, MadeBlock, next_block, blocks_in, ContentFacts, Machine, blocks_without_more_take_all, each-front, later_log, append_cancel_right, each-back}
 use Rattle.fio_ends.proofs.ContentSteps.{IsKnown, PollsKnown, Takes}
 use Rattle.fio_ends.proofs.Following.{GoesOn}
 use Rattle.fio_ends.proofs.FirstPolls.{HasFirstPoll, IsBelow, LeavesInput}

@@ -1,5 +1,5 @@
 -- A worked run of two stations over lines that carry the same to all, by computation: each is configured and polled, and answers.
-use Rattle.fio_ends.proofs.Names.{◌≡◌, ◌∙◌, ◌-◌, ◌^◌, ◌<◌, ◌≤◌, ℕ, false, List, [], ◌∷◌, ◌++◌, Some, None, refl, ap, sym, subst, arith, Polling, Event, Entry, FLAG, Octet, Scan, Send, frame_of, stuffed}
+use Rattle.fio_ends.proofs.Names.{◌≡◌, ◌∙◌, ◌-◌, ◌^◌, ◌<◌, ◌≤◌, ℕ, false, List, [], ◌∷◌, ◌++◌, Some, None, refl, ap, sym, subst, arith, Polling, Event, Entry, FLAG, Octet, Scan, Send, frame_of, stuffed, MayHappen, BusEnds, after_bus_event, bus_at_start, bus_of, ArrivesAtAll, AtDecoders, AtModules, EndOfFrame, HappensAt, LeadOverShared, SharedEvent, SharedLinesBringRecords, at_each, part_to_all, nat_tests}
 use Rattle.fio_message.specs.declared.commands.Command.TheVariants as commands
 use Rattle.fio_message.specs.Bits.{is_set}
 use Rattle.fio_message.specs.Decoding.{message_in}
@@ -7,10 +7,6 @@ use Rattle.fio_input.specs.Widening.{wide_time_of}
 use Rattle.fio_module.specs.Log.{transitions_below}
 use Rattle.fio_link.specs.declared.event.Event.TheVariants.{Poll}
 use Rattle.fio_wire.specs.Checks.{divided, with_octet}
-use Rattle.fio_ends.specs.Lines.{MayHappen}
-use Rattle.fio_ends.specs.Bus.{BusEnds, after_bus_event, bus_at_start}
-use Rattle.fio_ends.specs.BusRuns.{bus_of}
-use Rattle.fio_ends.specs.SharedLines.{ArrivesAtAll, AtDecoders, AtModules, EndOfFrame, HappensAt, LeadOverShared, SharedEvent, SharedLinesBringRecords, at_each, part_to_all}
 use Rattle.fio_ends.proofs.SharedLines.{frames_to_all_decoders, frames_to_all_modules}
 
 -- the ends after these events
@@ -122,10 +118,7 @@ in_ranges : MayHappen opened
 in_ranges = grind arith
 
 leads_1 : Follow (bus_at_start (bus_of 2)) sent_first
-leads_1 = (
-  (λ flag station there part is. no_part part _ is),
-  ((λ flag station there part is. no_part part _ is), (in_ranges, (in_ranges, refl))),
-)
+leads_1 = grind (arith, nat_tests, no_part, in_ranges)
 
 leads_2 : Follow ends_1 (to_modules 0 1 configuration)
 unfolding message_in is_set wide_time_of transitions_below divided with_octet

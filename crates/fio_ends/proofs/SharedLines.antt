@@ -1,9 +1,6 @@
 -- Lines that carry the same to all make a bus.
-use Rattle.fio_ends.proofs.Names.{◌≡◌, ◌∙◌, ◌<◌, inl, inr, ℕ, Bool, true, false, List, [], ◌∷◌, ◌++◌, map, Option, Some, None, refl, sym, subst, same_Some, if◌then◌else◌, ◌==◌, eqb_tells, Event, Arrives, AtCpu, AtModule, ComesWhole, EndOf, FLAG, Happens, HasNoFlag, LeadOverLines, Loss, Octet, WireLine, WiredEnds, frame_of, item_numbered, part_brought, stuffed}
-use Rattle.fio_wire.proofs.Sent.{free_of_flags}
-use Rattle.fio_ends.specs.Lines.{MayHappen}
-use Rattle.fio_ends.specs.Bus.{Bus, BusEnds, LeadOnBus, MayBringTo, MayComeAt, after_bus_event, bus_at_start}
-use Rattle.fio_ends.specs.SharedLines.{ArrivesAtAll, AtDecoders, AtModules, BroughtToAll, EachFrameMayComeToAll, EndOfFrame, HappensAt, HeadlineOverSharedLines, LeadOverShared, MayBringToAll, MayComeToAll, SharedEvent, SharedLinesAreABus, at_each, brought_to, part_to_all}
+use Rattle.fio_ends.proofs.Names.{◌≡◌, ◌∙◌, ◌<◌, inl, inr, ℕ, Bool, true, false, List, [], ◌∷◌, ◌++◌, map, Option, Some, None, refl, sym, subst, same_Some, if◌then◌else◌, ◌==◌, eqb_tells, Event, Arrives, AtCpu, AtModule, ComesWhole, EndOf, FLAG, Happens, HasNoFlag, LeadOverLines, Loss, Octet, WireLine, WiredEnds, frame_of, item_numbered, part_brought, stuffed, free_of_flags, MayHappen, BusEnds, LeadOnBus, MayBringTo, MayComeAt, after_bus_event, bus_at_start, ArrivesAtAll, AtDecoders, AtModules, BroughtToAll, EachFrameMayComeToAll, EndOfFrame, HappensAt, HeadlineOverSharedLines, LeadOverShared, MayBringToAll, MayComeToAll, SharedEvent, SharedLinesAreABus, at_each, brought_to, part_to_all}
+use Rattle.fio_ends.specs.Bus.{Bus}
 use Rattle.fio_ends.proofs.LinePremises.{frames_to_cpu, frames_to_module}
 use Rattle.fio_ends.proofs.BusStations.{headline_at_stations}
 use Rattle.fio_ends.proofs.SharedParts.{IsNoneOr, IsShared, shared_by_decoders, shared_by_modules}

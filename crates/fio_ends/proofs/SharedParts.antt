@@ -1,9 +1,6 @@
 -- What the receivers of a line that carries the same to all have of the present part: the same octets, or nothing.
-use Rattle.fio_ends.proofs.Names.{◌≡◌, ◌∙◌, ◌⊎◌, inl, inr, ℕ, Bool, true, false, List, [], ◌∷◌, ◌++◌, Option, Some, None, refl, ap, if◌then◌else◌, ◌==◌, option_map, Answer, Event, Restart, Framing, Settings, Arrives, EndOf, FLAG, Happens, Octet, Loss, WireLine, WiredEnds, after_message, after_receipt, message_heard, line_after, part_after, reply_to, with_answer_written}
-use Rattle.fio_wire.specs.Laws.{Arrival}
-use Rattle.fio_ends.specs.Lines.{after_happening, arrival_of}
-use Rattle.fio_ends.specs.Bus.{Bus, BusEnds, Station, after_bus_event, after_if}
-use Rattle.fio_ends.specs.SharedLines.{ArrivesAtAll, AtDecoders, AtModules, BroughtToAll, EndOfFrame, HappensAt, SharedEvent, at_each, brought_to}
+use Rattle.fio_ends.proofs.Names.{◌≡◌, ◌∙◌, ◌⊎◌, inl, inr, ℕ, Bool, true, false, List, [], ◌∷◌, ◌++◌, Option, Some, None, refl, ap, if◌then◌else◌, ◌==◌, option_map, Answer, Event, Restart, Framing, Settings, Arrives, EndOf, FLAG, Happens, Octet, Loss, WireLine, WiredEnds, after_message, after_receipt, message_heard, line_after, part_after, reply_to, with_answer_written, Arrival, after_happening, arrival_of, BusEnds, Station, after_bus_event, after_if, ArrivesAtAll, AtDecoders, AtModules, BroughtToAll, EndOfFrame, HappensAt, SharedEvent, at_each, brought_to, nat_tests, arith}
+use Rattle.fio_ends.specs.Bus.{Bus}
 use Rattle.fio_ends.proofs.LinePremises.{at_module, at_cpu}
 
 -- nothing, or this
@@ -45,13 +42,7 @@ same_arrival station (EndOfFrame sender number) = flag_if (station == sender) nu
 shared_on : (common : Option (List ℕ)) (station : ℕ) (brought : BroughtToAll) (before after : WireLine)
     → after ≡ line_after before (brought_to station brought) → IsNoneOr common before.part
     → IsNoneOr (part_after common (arrival_at_all brought)) after.part
-shared_on common station brought before after goes is =
-    let on : after.part ≡ part_after before.part (arrival_at_all brought) =
-    ap (λ (l : WireLine). l.part) goes ∙ ap (part_after before.part) (same_arrival station brought) in
-    elim (shared_arrival (arrival_at_all brought) common before.part is) as (λ _. IsNoneOr (part_after common (arrival_at_all brought)) after.part) [
-      | inl none ↦ inl (on ∙ none)
-      | inr same ↦ inr (on ∙ same)
-    ]
+shared_on common station brought before after goes is = grind (arith, nat_tests, part_after, same_arrival, shared_arrival, inl, inr)
 
 -- ---- What changes no part, or ends it
 

@@ -1,6 +1,5 @@
 -- What the states of a 181 tell of an input, if no item of it is sent since: its changes alternate from there on, or it has none.
-use Rattle.fio_ends.proofs.Names.{◌≡◌, ◌≢◌, ◌∙◌, ◌+◌, ◌<◌, ◌≤◌, ◌&&◌, ◌||◌, ◌⊎◌, inl, inr, ℕ, Bool, true, false, not, List, [], ◌∷◌, ◌++◌, length, drop, Option, Some, None, is_some_and, refl, ap, sym, subst, arith, if◌then◌else◌, beq, slice_get, AllByRecursion, same_Some, Command, command_in, InputItem, Life, Occurrence, Commanded, life_after_command, log_of, length-append, Transition, SentFrame, InputAbove, get_after_push, nat_lt, Seen, drop_of_length-le, ignores, input_coming, input_with_item, is_shown_otherwise, item_for, items_sent, later_log, opens, unnamed}
-use Rattle.fio_message.specs.Bits.{is_set}
+use Rattle.fio_ends.proofs.Names.{◌≡◌, ◌≢◌, ◌∙◌, ◌+◌, ◌<◌, ◌≤◌, ◌&&◌, ◌||◌, ◌⊎◌, inl, inr, ℕ, Bool, true, false, not, List, [], ◌∷◌, ◌++◌, length, drop, Option, Some, None, is_some_and, refl, ap, sym, subst, arith, if◌then◌else◌, beq, slice_get, AllByRecursion, same_Some, Command, command_in, InputItem, Life, Occurrence, Commanded, life_after_command, log_of, length-append, Transition, SentFrame, InputAbove, get_after_push, nat_lt, Seen, drop_of_length-le, ignores, input_coming, input_with_item, is_shown_otherwise, item_for, items_sent, later_log, opens, unnamed, is_set}
 use Rattle.fio_message.specs.declared.commands.Command.TheVariants as commands
 use Rattle.fio_ends.proofs.Alternating.{NoneOf, alternate-same}
 use Rattle.fio_ends.proofs.Following.{IsNoCommand}

@@ -1,10 +1,6 @@
 -- Two changes of an input are as many scans apart as the filter in force for the later one, whatever configurations come between.
-use Rattle.fio_ends.proofs.Names.{◌≡◌, ◌∙◌, ◌+◌, ◌<◌, ◌≤◌, ◌&&◌, ◌||◌, ◌⊎◌, inl, inr, ℕ, zero, suc, Bool, true, false, not, List, [], ◌∷◌, ◌++◌, length, refl, ap, sym, subst, arith, length-append, append_assoc, if◌then◌else◌, beq, Life, Occurrence, Scanned, filter_events, scans_of, Transition, InputItem, input_setting, filter_events-append, FilterEvent, IsOfScan, Setting, filter_in_force, filter_to, input_samples, input_state, is_reported}
-use Rattle.fio_input.specs.Delivery.{IsNotAppliedTo, NoneIsAppliedTo, is_changed, scans_in}
-use Rattle.fio_input.specs.FilterHistory.{Configure, Scan, applies_to}
-use Rattle.fio_input.specs.FilterRule.{latest_are}
-use Rattle.fio_input.proofs.Apart.{carried, changes_are_apart, length-levels, levels}
-use Rattle.fio_module.proofs.NewLevels.{scans_of-append}
+use Rattle.fio_ends.proofs.Names.{◌≡◌, ◌∙◌, ◌+◌, ◌<◌, ◌≤◌, ◌&&◌, ◌||◌, ◌⊎◌, inl, inr, ℕ, zero, suc, Bool, true, false, not, List, [], ◌∷◌, ◌++◌, length, refl, ap, sym, subst, arith, length-append, append_assoc, if◌then◌else◌, beq, Life, Occurrence, Scanned, filter_events, scans_of, Transition, InputItem, input_setting, filter_events-append, FilterEvent, IsOfScan, Setting, filter_in_force, filter_to, input_samples, input_state, is_reported, IsNotAppliedTo, NoneIsAppliedTo, is_changed, scans_in, Configure, applies_to, latest_are, carried, changes_are_apart, length-levels, levels, scans_of-append}
+use Rattle.fio_input.specs.FilterHistory.{Scan}
 use Rattle.fio_ends.proofs.Following.{GoesOn}
 use Rattle.fio_ends.proofs.Lives.{scans_grow}
 

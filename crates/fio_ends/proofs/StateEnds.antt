@@ -1,7 +1,5 @@
 -- The end of a block that the CPU takes keeps the rule `state`, and what is known of the states that were asked for.
-use Rattle.fio_ends.proofs.Names.{◌≡◌, ◌∙◌, ◌+◌, ◌<◌, ◌≤◌, ◌&&◌, ◌||◌, inl, inr, ℕ, zero, suc, Bool, true, false, not, List, [], ◌∷◌, ◌++◌, length, Option, Some, None, refl, ap, sym, subst, arith, if◌then◌else◌, nat_lt, nat_tests, slice_get, slice_get_within, same_Some, Answer, Block, answer_in, answered_block, block_in, says_again, says_more, Settings, AreInRange, Life, life_of, log_of, scans_of, Transition, MadeBlock, blocks_of, blocks_in, ContentFacts, InputAbove, content_step, Ended, Heard, ContentEvent, SentFrame, Machine, after_taken, AreNear, BlocksAreNear, Seen, SentItem, block_taken, blocks_taken, blocks_without_more_take_all, broken_state, cases_lt, comes_to, comes_with, coming, frame_at_place, hears_states, if_comes, input_below_clear, input_coming, input_ended, is_before, is_some, option_and_then, scans_left, scans_seen, scans_within, seen_below, settled_now, states_heard, steady_state, without_excuse}
-use Rattle.fio_check.specs.ContentFacts.{settles}
-use Rattle.fio_check.proofs.KeptContent.{ended_input}
+use Rattle.fio_ends.proofs.Names.{◌≡◌, ◌∙◌, ◌+◌, ◌<◌, ◌≤◌, ◌&&◌, ◌||◌, inl, inr, ℕ, zero, suc, Bool, true, false, not, List, [], ◌∷◌, ◌++◌, length, Option, Some, None, refl, ap, sym, subst, arith, if◌then◌else◌, nat_lt, nat_tests, slice_get, slice_get_within, same_Some, Answer, Block, answer_in, answered_block, block_in, says_again, says_more, Settings, AreInRange, Life, life_of, log_of, scans_of, Transition, MadeBlock, blocks_of, blocks_in, ContentFacts, InputAbove, content_step, Ended, Heard, ContentEvent, SentFrame, Machine, after_taken, AreNear, BlocksAreNear, Seen, SentItem, block_taken, blocks_taken, blocks_without_more_take_all, broken_state, cases_lt, comes_to, comes_with, coming, frame_at_place, hears_states, if_comes, input_below_clear, input_coming, input_ended, is_before, is_some, option_and_then, scans_left, scans_seen, scans_within, seen_below, settled_now, states_heard, steady_state, without_excuse, settles, ended_input, is_set}
 use Rattle.fio_link.specs.declared.event.Event.TheVariants as events
 use Rattle.fio_ends.proofs.SteadyKept.{KeepsWatch, watch_ended, watched_below}
 use Rattle.fio_ends.proofs.BlockPlaces.{ends_within, is_next}
@@ -15,7 +13,6 @@ use Rattle.fio_ends.proofs.SeenStates.{WatchAt}
 use Rattle.fio_ends.proofs.SettledAgain.{IsLeftBetween, IsMadeThen, hidden-since, left_between, made_ends, settles_open}
 use Rattle.fio_ends.proofs.Steady.{IsSteady}
 use Rattle.fio_ends.proofs.StateKnown.{IsPending, IsSeen, KeepsState, StateState, state_after}
-use Rattle.fio_message.specs.Bits.{is_set}
 use Rattle.fio_ends.proofs.Shown.{GoesFrom, KeepsShown, TellsFrom, goes-then, shown-comes}
 use Rattle.fio_ends.proofs.Watching.{NoneHidden, none_hidden-now, state_of}
 use Rattle.fio_ends.proofs.StateRule.{before_clock, keeps_state, states_bit}

@@ -1,7 +1,5 @@
 -- An entry of a block that the CPU takes keeps the rule `state`, and what is known of the states that were asked for.
-use Rattle.fio_ends.proofs.Names.{◌≡◌, is_some_and, beq, ◌∙◌, ◌+◌, ◌++◌, [], ◌<◌, ◌≤◌, ◌&&◌, ◌||◌, ◌⊎◌, inl, inr, ℕ, Bool, true, false, not, List, ◌∷◌, length, Option, Some, None, refl, ap, sym, subst, arith, if◌then◌else◌, ◌==◌, nat_lt, nat_tests, eqb_tells, slice_get, slice_get_within, same_Some, length-append, Block, Settings, AreInRange, Life, life_of, log_of, scans_of, Transition, entry_of, MadeBlock, ContentFacts, InputAbove, option_and_then, content_step, ContentEvent, Machine, State, BlocksAreNear, KeepsRule, Seen, blocks_taken, broken_state, cases_lt, coming, if_comes, input_coming, input_with_entry, is_later, is_later_among, is_shown_otherwise, scans_within, seen_below, steady_state, watched_now, without_excuse}
-use Rattle.fio_input.specs.Widening.{wide_time_of}
-use Rattle.fio_message.specs.Bits.{is_set}
+use Rattle.fio_ends.proofs.Names.{◌≡◌, is_some_and, beq, ◌∙◌, ◌+◌, ◌++◌, [], ◌<◌, ◌≤◌, ◌&&◌, ◌||◌, ◌⊎◌, inl, inr, ℕ, Bool, true, false, not, List, ◌∷◌, length, Option, Some, None, refl, ap, sym, subst, arith, if◌then◌else◌, ◌==◌, nat_lt, nat_tests, eqb_tells, slice_get, slice_get_within, same_Some, length-append, Block, Settings, AreInRange, Life, life_of, log_of, scans_of, Transition, entry_of, MadeBlock, ContentFacts, InputAbove, option_and_then, content_step, ContentEvent, Machine, State, BlocksAreNear, KeepsRule, Seen, blocks_taken, broken_state, cases_lt, coming, if_comes, input_coming, input_with_entry, is_later, is_later_among, is_shown_otherwise, scans_within, seen_below, steady_state, watched_now, without_excuse, wide_time_of, is_set}
 use Rattle.fio_ends.proofs.SteadyKept.{steady_now, watch_entry}
 use Rattle.fio_ends.proofs.BlockWalk.{entry_event}
 use Rattle.fio_ends.proofs.Clocks.{clock, later_clock, offset_of}

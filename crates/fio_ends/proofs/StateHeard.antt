@@ -1,8 +1,7 @@
 -- An answer that is no block keeps the rule `state`; one with the states is what the record comes to.
-use Rattle.fio_ends.proofs.Names.{◌==◌, ◌≡◌, slice_get_within, ◌++◌, ◌∙◌, ◌+◌, ℕ, Bool, true, false, ◌∷◌, length, Option, Some, None, refl, ap, sym, subst, arith, if◌then◌else◌, list_any, slice_get, same_Some, length-append, Answer, Command, answered_block, Settings, Life, Commanded, life_of, log_of, log_of-with_command, loads_of, observation_of, answer_type_to, is_absent, MadeBlock, blocks_in, ContentFacts, content_step, Heard, Machine, State, KeepsRule, Seen, broken_state, counter_of, frame_at_place, is_some, option_and_then, scans_left, scans_seen, states_heard, steady_state, without_excuse}
+use Rattle.fio_ends.proofs.Names.{◌==◌, ◌≡◌, slice_get_within, ◌++◌, ◌∙◌, ◌+◌, ℕ, Bool, true, false, ◌∷◌, length, Option, Some, None, refl, ap, sym, subst, arith, if◌then◌else◌, list_any, slice_get, same_Some, length-append, Answer, Command, answered_block, Settings, Life, Commanded, life_of, log_of, log_of-with_command, loads_of, observation_of, answer_type_to, is_absent, MadeBlock, blocks_in, ContentFacts, content_step, Heard, Machine, State, KeepsRule, Seen, broken_state, counter_of, frame_at_place, is_some, option_and_then, scans_left, scans_seen, states_heard, steady_state, without_excuse, first_differing}
 use Rattle.fio_message.specs.declared.answers.Answer.TheVariants as answers
 use Rattle.fio_message.specs.declared.commands.Command.TheVariants as commands
-use Rattle.fio_check.specs.ContentRules.{first_differing}
 use Rattle.fio_check.specs.declared.observation.Observation.TheVariants as seen
 use Rattle.fio_link.specs.declared.event.Event.TheVariants as events
 use Rattle.fio_ends.proofs.Answered.{Says, says_of, states_of}

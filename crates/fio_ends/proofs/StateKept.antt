@@ -1,6 +1,6 @@
 -- The rule `state` never accuses: where the record comes to the states that were asked for, it has all entries up to them and
 -- none later.
-use Rattle.fio_ends.proofs.Names.{fold, ◌++◌, MadeBlock, Block, events_of_block, ◌≡◌, command_octets, length-append, log_of, ◌∙◌, ◌+◌, ◌<◌, ◌≤◌, ◌||◌, ℕ, Bool, true, false, List, [], ◌∷◌, length, Option, Some, None, refl, ap, sym, subst, arith, if◌then◌else◌, slice_get, Command, command_in, IsCommand, Settings, AreInRange, Life, Occurrence, Scanned, LineSynced, Raised, Commanded, life_of, life_after_command, blocks_in, end_of_blocks, ContentFacts, InputAbove, InputItem, Sent, Event, SentFrame, Machine, start, after, after_sending, after_delivery_to_module, after_taken, State, BlocksAreNear, KeepsRule, StatesAreNear, block_answer, blocks_taken, content_begun, content_step, ignores, input_with_item, item_for, item_parts, items_sent, scans_above, steady_state, unnamed, without_excuse, Seen}
+use Rattle.fio_ends.proofs.Names.{fold, ◌++◌, MadeBlock, Block, events_of_block, ◌≡◌, command_octets, length-append, log_of, ◌∙◌, ◌+◌, ◌<◌, ◌≤◌, ◌||◌, ℕ, Bool, true, false, List, [], ◌∷◌, length, Option, Some, None, refl, ap, sym, subst, arith, if◌then◌else◌, slice_get, Command, command_in, IsCommand, Settings, AreInRange, Life, Occurrence, Scanned, LineSynced, Raised, Commanded, life_of, life_after_command, blocks_in, end_of_blocks, ContentFacts, InputAbove, InputItem, Sent, Event, SentFrame, Machine, start, after, after_sending, after_delivery_to_module, after_taken, State, BlocksAreNear, KeepsRule, StatesAreNear, block_answer, blocks_taken, content_begun, content_step, ignores, input_with_item, item_for, item_parts, items_sent, scans_above, steady_state, unnamed, without_excuse, Seen, nat_tests}
 use Rattle.fio_link.specs.declared.event.Event.TheVariants as events
 use Rattle.fio_ends.proofs.SteadyKept.{still_steady, watch_begun, watch-happens, watch-receives, watch-sends}
 use Rattle.fio_ends.proofs.BlockPlaces.{end_at, ends_within}
@@ -209,13 +209,4 @@ state_above = record { asked = 0; seen = None }
 
 -- at the start of both ends no states are asked for yet
 pub state_begun : (settings : Settings) → KeepsState settings start (scans_above true) state_above [] start content_begun
-state_begun settings = record {
-  full = λ timely. full_begun settings;
-  seen_timely = λ seen is. absurd (cc is);
-  below = λ clear. (omega arith, omega arith);
-  watch = watch_begun settings;
-  recorded = omega arith;
-  seen = λ seen is. absurd (cc is);
-  pending = λ seen is. absurd (cc is);
-  shown = λ input low. subst (KeepsShown [] [] 0 0 input) (sym (begun_input input low)) (record { shown = λ level is. absurd (cc is); unlogged = λ is. absurd (cc is) });
-}
+state_begun settings = grind (arith, nat_tests, full_begun, watch_begun, begun_input)

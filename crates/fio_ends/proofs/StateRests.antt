@@ -1,6 +1,5 @@
 -- What is kept of the states that were asked for between the entries of a block that the CPU takes.
-use Rattle.fio_ends.proofs.Names.{◌≡◌, ◌∙◌, ◌<◌, ◌≤◌, ℕ, Bool, true, false, List, [], length, drop, Option, Some, ap, sym, subst, arith, slice_get, Settings, Life, life_of, log_of, scans_of, Transition, MadeBlock, blocks_of, ContentFacts, Machine, SentFrame, get_in_front, AreNear, EntriesNearStates, Seen, drop_of_length-le, is_later_among, steady_state}
-use Rattle.fio_message.specs.Bits.{is_set}
+use Rattle.fio_ends.proofs.Names.{◌≡◌, ◌∙◌, ◌<◌, ◌≤◌, ℕ, Bool, true, false, List, [], length, drop, Option, Some, ap, sym, subst, arith, slice_get, Settings, Life, life_of, log_of, scans_of, Transition, MadeBlock, blocks_of, ContentFacts, Machine, SentFrame, get_in_front, AreNear, EntriesNearStates, Seen, drop_of_length-le, is_later_among, steady_state, is_set}
 use Rattle.fio_ends.proofs.Alternating.{Alternate}
 use Rattle.fio_ends.proofs.SteadyKept.{KeepsWatch}
 use Rattle.fio_ends.proofs.EntryTimes.{WaitBriefly}

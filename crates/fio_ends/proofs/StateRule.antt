@@ -1,5 +1,5 @@
 -- What the rule `state` asks for, by the inputs that are watched and by times.
-use Rattle.fio_ends.proofs.Names.{◌≡◌, ◌∙◌, ◌+◌, ◌^◌, ◌<◌, ◌≤◌, ℕ, zero, suc, Bool, true, false, not, Option, Some, None, refl, ap, arith, ◌==◌, beq, is_some_and, Life, filter_events, ContentFacts, ContentEvent, Seen, bit_at-word_of, bit_of, comes_to, differing, earliest_above, input_state, is_before, is_later, state_breach, steady_state}
+use Rattle.fio_ends.proofs.Names.{◌≡◌, ◌+◌, ◌^◌, ◌<◌, ◌≤◌, ℕ, zero, suc, Bool, true, false, not, Option, Some, None, refl, arith, beq, is_some_and, Life, filter_events, ContentFacts, ContentEvent, Seen, bit_at-word_of, bit_of, comes_to, differing, earliest_above, input_state, is_before, is_later, state_breach, steady_state, nat_tests}
 use Rattle.fio_message.specs.Bits.{is_set}
 use Rattle.fio_check.specs.ContentRules.{first_differing}
 use Rattle.fio_ends.proofs.Answered.{states_of}
@@ -21,11 +21,7 @@ before_clock offset earlier later less near = grind arith
 -- a bit of the states is the state of its input
 pub states_bit : (life : Life) (input : ℕ) → input < 64 → is_set (states_of life) input ≡ state_of input life
 unfolding is_set
-states_bit life input low = ap (λ b. b == 1) (bit_at-word_of 64 (λ i. input_state i (filter_events life)) input low) ∙ by (state_of input life)
-  where
-    by : (b : Bool) → (bit_of b == 1) ≡ b
-    by true = refl
-    by false = refl
+states_bit life input low = grind (arith, nat_tests, bit_at-word_of, input_state, filter_events, state_of, bit_of)
 
 -- states that no watched input differs from
 pub none_differs : (facts : ContentFacts) (seen : Seen) → ((input : ℕ) (level : Bool) → input < 64 → steady_state (facts.inputs input).watched ≡ Some level → level ≡ is_set seen.levels input)
@@ -50,8 +46,4 @@ none_differs facts seen same = none-found 64 (omega arith)
 pub keeps_state : (facts : ContentFacts) (event : ContentEvent) (seen : Seen)
     → (comes_to seen event ≡ true → (input : ℕ) (level : Bool) → input < 64 → steady_state (facts.inputs input).watched ≡ Some level → level ≡ is_set seen.levels input)
     → state_breach (comes_to seen event) (first_differing facts seen) ≡ None
-keeps_state facts event seen same = by (comes_to seen event) refl
-  where
-    by : (comes : Bool) → comes_to seen event ≡ comes → state_breach comes (first_differing facts seen) ≡ None
-    by false is = refl
-    by true is = ap (state_breach true) (none_differs facts seen (same is))
+keeps_state facts event seen same = grind (arith, nat_tests, comes_to, state_breach, none_differs)

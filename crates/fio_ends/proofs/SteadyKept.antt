@@ -1,8 +1,7 @@
 -- Inputs whose latest entry is watched, and that no item ignores which was sent since the clear block above it: their changes
 -- that are still to be recorded alternate.
-use Rattle.fio_ends.proofs.Names.{◌≡◌, ◌≢◌, ◌∙◌, ◌+◌, ◌<◌, ◌≤◌, ◌&&◌, ◌||◌, inl, inr, ℕ, Bool, true, false, not, List, [], ◌∷◌, ◌++◌, length, Option, Some, None, refl, ap, sym, subst, arith, if◌then◌else◌, ◌==◌, InputItem, slice_get, slice_get_within, eqb_tells, nat_lt, nat_tests, same_Some, Command, Block, command_in, command_octets, IsCommand, says_again, says_more, Settings, AreInRange, Life, Occurrence, Commanded, life_of, life_after_command, log_of, Transition, entry_of, MadeBlock, blocks_in, ContentFacts, InputAbove, content_with, Ended, Recorded, Sent, Gap, Event, SentFrame, Machine, start, after, after_sending, after_delivery_to_module, IsKept, get_after_push, SentItem, coming, content_begun, end_of_blocks, ignores, input_below_clear, input_coming, input_ended, input_with_entry, input_with_item, item_for, item_parts, items_sent, settled_now, steady_state, unnamed, watched_now}
+use Rattle.fio_ends.proofs.Names.{◌≡◌, ◌≢◌, ◌∙◌, ◌+◌, ◌<◌, ◌≤◌, ◌&&◌, ◌||◌, inl, inr, ℕ, Bool, true, false, not, List, [], ◌∷◌, ◌++◌, length, Option, Some, None, refl, ap, sym, subst, arith, if◌then◌else◌, ◌==◌, InputItem, slice_get, slice_get_within, eqb_tells, nat_lt, nat_tests, same_Some, Command, Block, command_in, command_octets, IsCommand, says_again, says_more, Settings, AreInRange, Life, Occurrence, Commanded, life_of, life_after_command, log_of, Transition, entry_of, MadeBlock, blocks_in, ContentFacts, InputAbove, content_with, Ended, Recorded, Sent, Gap, Event, SentFrame, Machine, start, after, after_sending, after_delivery_to_module, IsKept, get_after_push, SentItem, coming, content_begun, end_of_blocks, ignores, input_below_clear, input_coming, input_ended, input_with_entry, input_with_item, item_for, item_parts, items_sent, settled_now, steady_state, unnamed, watched_now, wide_time_of}
 use Rattle.fio_message.specs.declared.commands.Command.TheVariants as commands
-use Rattle.fio_input.specs.Widening.{wide_time_of}
 use Rattle.fio_ends.proofs.BlockPlaces.{end_at, ends_within}
 use Rattle.fio_ends.proofs.BlockWalk.{entry_event}
 use Rattle.fio_ends.proofs.ContentBegun.{begun_input}
@@ -254,9 +253,4 @@ module _ (settings : Settings) (range : AreInRange settings) (first : ℕ) (begi
 
 -- at the start of both ends no change is hidden
 pub watch_begun : (settings : Settings) → WatchHolds settings start content_begun
-watch_begun settings input low =
-    subst (λ (above : InputAbove). KeepsWatch [] [] 0 0 input true above.hidden (steady_state above.watched)) (sym (begun_input input low))
-    (record {
-      open_ones = λ is none. (λ place frame high there. absurd (cc there), none_hidden-now [] 0 input refl);
-      watched_ones = λ level is. absurd (cc is);
-    })
+watch_begun settings input low = grind (arith, nat_tests, steady_state, begun_input, none_hidden-now)

@@ -1,9 +1,6 @@
 -- What is asked of the blocks that the CPU takes in a log is asked of those that it has taken so far.
-use Rattle.fio_ends.proofs.Names.{◌≡◌, ◌∙◌, ◌+◌, ◌≤◌, ℕ, List, [], ◌∷◌, ◌++◌, length, take, drop, Option, Some, refl, ap, sym, subst, arith, append-nil, append_assoc, length-take, slice_get, slice_get_within, Block, Command, command_in, Settings, AreInRange, Life, life_of, life_after_command, MadeBlock, blocks_of, Event, Machine, Leads, HaveNoRestart, after, blocks_in, take_one_more, after_taken, IsKept, kept_all, carries_own, blocks_taken, drop-append-le}
-use Rattle.std.proofs.lemmas.List.{take-append-le}
+use Rattle.fio_ends.proofs.Names.{◌≡◌, ◌∙◌, ◌+◌, ◌≤◌, ℕ, List, [], ◌∷◌, ◌++◌, length, take, drop, Option, Some, refl, ap, sym, subst, arith, append-nil, append_assoc, length-take, slice_get, slice_get_within, Block, Command, command_in, Settings, AreInRange, Life, life_of, life_after_command, MadeBlock, blocks_of, Event, Machine, Leads, HaveNoRestart, after, blocks_in, take_one_more, after_taken, IsKept, kept_all, carries_own, blocks_taken, drop-append-le, take-append-le, IsKeptByEvents, kept_in_life}
 use Rattle.fio_link.specs.declared.event.Event.TheVariants as events
-use Rattle.fio_link.proofs.Events.{IsKeptByEvents}
-use Rattle.fio_link.proofs.OneLifeRows.{kept_in_life}
 use Rattle.fio_ends.proofs.ContentSteps.{IsKnown, Takes}
 
 -- the first blocks of a life stay the first

@@ -1,14 +1,7 @@
 -- An answer that is no block answer passes a tap, in time or late: the judge that leaves late answers out finds no breach there.
-use Rattle.fio_ends.proofs.Names.{◌≡◌, ◌∙◌, ◌+◌, ◌≤◌, inl, inr, ℕ, Bool, true, false, List, ◌∷◌, length, Option, Some, None, refl, ap, sym, subst, arith, if◌then◌else◌, same_Some, slice_get, slice_get_within, Block, Checker, Facts, HasBlock, Machine, MadeBlock, Nothing, Rule, RuleLimits, SentFrame, Settings, answer_in, block_in, blocks_of, breaks_within, checker_below_breach, facts_with, life_of, observation_in}
-use Rattle.fio_check.specs.LateAnswers.{awaits, late_below_answer, late_with, lateness_of}
-use Rattle.fio_check.specs.LogJudges.{is_rule_of_late}
-use Rattle.fio_check.specs.declared.late_answers.LateAnswers.{LateAnswers}
-use Rattle.fio_check.specs.declared.late_answers.Lateness.{Lateness}
-use Rattle.fio_check.specs.declared.late_answers.Lateness.TheVariants.{InTime, Late}
+use Rattle.fio_ends.proofs.Names.{◌≡◌, ◌∙◌, ◌+◌, ◌≤◌, inl, inr, ℕ, Bool, true, false, List, ◌∷◌, length, Option, Some, None, refl, ap, sym, subst, arith, if◌then◌else◌, same_Some, slice_get, slice_get_within, Block, Checker, Facts, HasBlock, Machine, MadeBlock, Nothing, Rule, RuleLimits, SentFrame, Settings, answer_in, block_in, blocks_of, breaks_within, checker_below_breach, facts_with, life_of, observation_in, awaits, late_below_answer, late_with, lateness_of, is_rule_of_late, LateAnswers, Lateness, InTime, Late, Bus, HasPassed, Tap, last_passed}
 use Rattle.fio_check.specs.declared.observation.Observation.TheVariants as seen
-use Rattle.fio_check.specs.declared.outcome.LogPlace.TheVariants.{Bus}
 use Rattle.fio_check.specs.declared.rules.Rule.TheVariants as tried
-use Rattle.fio_ends.specs.TapLogs.{HasPassed, Tap, last_passed}
 use Rattle.fio_ends.proofs.Hears.{is_asked, no_block_said}
 use Rattle.fio_ends.proofs.LateKnown.{found_late, with_frame}
 use Rattle.fio_ends.proofs.LateRules.{Holds, Takes, may_be_late}

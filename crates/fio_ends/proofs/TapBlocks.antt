@@ -1,14 +1,6 @@
 -- A block answer passes a tap, in time or late: the judge that leaves late answers out finds no breach there.
-use Rattle.fio_ends.proofs.Names.{◌≡◌, ◌≢◌, ◌∙◌, ◌+◌, ◌%◌, ◌<◌, ◌≤◌, ◌||◌, ◌==◌, inl, inr, ℕ, Bool, true, false, List, ◌∷◌, length, Option, Some, None, refl, ap, sym, subst, arith, if◌then◌else◌, nat_tests, eqb_tells, slice_get, list_any, same_Some, AreInRange, BLOCK_ANSWER, Block, CarriesBlockOf, Checker, Facts, HasBlock, IsKept, Machine, MadeBlock, Nothing, Observation, Rule, RuleLimits, SentFrame, Settings, Skips, SuitModule, ToCommand, ToPoll, answer_in, block_in, blocks_of, breaks_within, carries_own, checker_below_breach, checker_below_lines, facts_with, is_absent, is_some_and, life_of, next_round, no_facts, number_of, number_of-fits, number_of-next, observation_in, says_more}
-use Rattle.fio_check.specs.Checkers.{skips_frame}
-use Rattle.fio_check.specs.LateAnswers.{awaits, late_below_answer, late_with, lateness_below, lateness_of_block, lateness_of_polled}
-use Rattle.fio_check.specs.LogJudges.{is_rule_of_late}
-use Rattle.fio_check.specs.declared.late_answers.LateAnswers.{LateAnswers}
-use Rattle.fio_check.specs.declared.late_answers.Lateness.{Lateness}
-use Rattle.fio_check.specs.declared.late_answers.Lateness.TheVariants.{InTime, Late, LateButTaken}
+use Rattle.fio_ends.proofs.Names.{◌≡◌, ◌≢◌, ◌∙◌, ◌+◌, ◌%◌, ◌<◌, ◌≤◌, ◌||◌, ◌==◌, inl, inr, ℕ, Bool, true, false, List, ◌∷◌, length, Option, Some, None, refl, ap, sym, subst, arith, if◌then◌else◌, nat_tests, eqb_tells, slice_get, list_any, same_Some, AreInRange, BLOCK_ANSWER, Block, CarriesBlockOf, Checker, Facts, HasBlock, IsKept, Machine, MadeBlock, Nothing, Observation, Rule, RuleLimits, SentFrame, Settings, Skips, SuitModule, ToCommand, ToPoll, answer_in, block_in, blocks_of, breaks_within, carries_own, checker_below_breach, checker_below_lines, facts_with, is_absent, is_some_and, life_of, next_round, no_facts, number_of, number_of-fits, number_of-next, observation_in, says_more, skips_frame, awaits, late_below_answer, late_with, lateness_below, lateness_of_block, lateness_of_polled, is_rule_of_late, LateAnswers, Lateness, InTime, Late, LateButTaken, Bus, HasPassed, Tap, last_passed}
 use Rattle.fio_check.specs.declared.observation.Observation.TheVariants as seen
-use Rattle.fio_check.specs.declared.outcome.LogPlace.TheVariants.{Bus}
-use Rattle.fio_ends.specs.TapLogs.{HasPassed, Tap, last_passed}
 use Rattle.fio_ends.proofs.BlocksOfLives.{blocks_leave}
 use Rattle.fio_ends.proofs.Hears.{block_said}
 use Rattle.fio_ends.proofs.BlockRules.{block_keeps, counted, limits_kept}

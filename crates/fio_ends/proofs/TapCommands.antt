@@ -1,13 +1,8 @@
 -- A command passes a tap: the judge that leaves late answers out finds no breach there.
-use Rattle.fio_ends.proofs.Names.{◌≡◌, ◌∙◌, ◌+◌, ◌<◌, ◌≤◌, inl, inr, ℕ, Bool, true, false, List, ◌∷◌, length, Option, Some, None, refl, ap, sym, subst, arith, same_Some, slice_get, slice_get_within, BLOCK_ANSWER, Block, Checker, Command, Facts, HasBlock, HasPoll, IsCommand, IsKept, Machine, MadeBlock, Nothing, Rule, RuleLimits, SentFrame, Settings, answer_type_to, blocks_of, breaks_within, checker_below_breach, command_octets, facts_with, life_of, names_absent, no_poll_in, number_of, number_of-fits, observation_in, poll_in, polled_number, sending_refusal}
+use Rattle.fio_ends.proofs.Names.{◌≡◌, ◌∙◌, ◌+◌, ◌<◌, ◌≤◌, inl, inr, ℕ, Bool, true, false, List, ◌∷◌, length, Option, Some, None, refl, ap, sym, subst, arith, same_Some, slice_get, slice_get_within, BLOCK_ANSWER, Block, Checker, Command, Facts, HasBlock, HasPoll, IsCommand, IsKept, Machine, MadeBlock, Nothing, Rule, RuleLimits, SentFrame, Settings, answer_type_to, blocks_of, breaks_within, checker_below_breach, command_octets, facts_with, life_of, names_absent, no_poll_in, number_of, number_of-fits, observation_in, poll_in, polled_number, sending_refusal, checker_within, is_rule_of_late, LateAnswers, Bus, HasPassed, Tap, last_passed}
 use Rattle.fio_message.specs.declared.commands.Command.TheVariants as commands
-use Rattle.fio_check.specs.Checkers.{checker_within}
-use Rattle.fio_check.specs.LogJudges.{is_rule_of_late}
-use Rattle.fio_check.specs.declared.late_answers.LateAnswers.{LateAnswers}
 use Rattle.fio_check.specs.declared.observation.Observation.TheVariants as seen
-use Rattle.fio_check.specs.declared.outcome.LogPlace.TheVariants.{Bus}
 use Rattle.fio_check.specs.declared.rules.Rule.TheVariants as tried
-use Rattle.fio_ends.specs.TapLogs.{HasPassed, Tap, last_passed}
 use Rattle.fio_ends.proofs.LateCommands.{command_keeps, facts_passed, facts_taken, no_block_type}
 use Rattle.fio_ends.proofs.LateKnown.{found_late, with_frame}
 use Rattle.fio_ends.proofs.LateRules.{Holds, Takes, may_be_late}

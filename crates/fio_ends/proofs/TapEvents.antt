@@ -1,10 +1,8 @@
 -- An event of the link, not seen at the tap: what is known of the tap and of its judge stays.
-use Rattle.fio_ends.proofs.Names.{◌≡◌, ◌∙◌, ◌+◌, ◌<◌, ◌≤◌, inl, inr, ℕ, Bool, List, [], ◌∷◌, ◌++◌, length, Option, Some, None, refl, ap, sym, subst, arith, append-nil, length-append, slice_get, Answer, Block, Checker, Command, Event, HasBlock, HasPoll, History, IsKept, IsNotRestart, IsWithinRanges, Machine, RuleLimits, SentFrame, Settings, after, after_delivery, after_delivery_to_cpu, after_delivery_to_module, after_sending, answer_frames, command_in, command_octets, get_after_push, get_before_push, in_order, life_of, next_round, number_of, poll_in, polls_with, refusal, reply_to}
+use Rattle.fio_ends.proofs.Names.{◌≡◌, ◌∙◌, ◌+◌, ◌<◌, ◌≤◌, inl, inr, ℕ, Bool, List, [], ◌∷◌, ◌++◌, length, Option, Some, None, refl, ap, sym, subst, arith, append-nil, length-append, slice_get, Answer, Block, Checker, Command, Event, HasBlock, HasPoll, History, IsKept, IsNotRestart, IsWithinRanges, Machine, RuleLimits, SentFrame, Settings, after, after_delivery, after_delivery_to_cpu, after_delivery_to_module, after_sending, answer_frames, command_in, command_octets, get_after_push, get_before_push, in_order, life_of, next_round, number_of, poll_in, polls_with, refusal, reply_to, after_heard, HasPassed, MayArrive, Tap}
 use Rattle.fio_message.specs.declared.commands.Command.TheVariants as commands
 use Rattle.fio_module.specs.Life as module_events
 use Rattle.fio_link.specs.declared.event.Event.TheVariants as events
-use Rattle.fio_link.proofs.HeardRows.{after_heard}
-use Rattle.fio_ends.specs.TapLogs.{HasPassed, MayArrive, Tap}
 use Rattle.fio_ends.proofs.BlocksOfLives.{blocks_stay}
 use Rattle.fio_ends.proofs.TapKnown.{HasTaken, IsCommandFrame, KeepsTap, TappedOf, more_sent}
 

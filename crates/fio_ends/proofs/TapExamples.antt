@@ -1,15 +1,11 @@
 -- A worked log of a tap, by computation: a right CPU's end sends a poll that is excused there.
-use Rattle.fio_ends.proofs.Names.{◌≡◌, inl, List, [], ◌∷◌, None, Some, refl, Excused, Kept, ToCpu, ToModule, standard_rule_limits, standard_settings, start}
+use Rattle.fio_ends.proofs.Names.{◌≡◌, inl, List, [], ◌∷◌, None, Some, refl, Excused, Kept, ToCpu, ToModule, standard_rule_limits, standard_settings, start, log_starting, outcomes_in_log, LateAbove, Link, Unheard, Bus, AreTapped, AtEnds, PassesToCpu, PassesToModule, TapStep, log_tapped, untapped}
 use Rattle.fio_message.specs.Bits.{is_set}
 use Rattle.fio_message.specs.Decoding.{message_in}
 use Rattle.fio_check.specs.ContentRules.{first_differing, is_excused}
-use Rattle.fio_check.specs.LogJudges.{log_starting, outcomes_in_log}
-use Rattle.fio_check.specs.declared.log_judge.LogOutcome.TheVariants.{LateAbove, Link}
 use Rattle.fio_check.specs.declared.log_judge.LogStart.TheVariants.{LateAnswers as StartLate}
-use Rattle.fio_check.specs.declared.outcome.Excuse.TheVariants.{Unheard}
-use Rattle.fio_check.specs.declared.outcome.LogPlace.TheVariants.{Bus}
 use Rattle.fio_link.specs.declared.event.Event.TheVariants.{Poll}
-use Rattle.fio_ends.specs.TapLogs.{AreTapped, AtEnds, PassesToCpu, PassesToModule, TapStep, TapsExcusePolls, log_tapped, untapped}
+use Rattle.fio_ends.specs.TapLogs.{TapsExcusePolls}
 
 -- an answer has passed the tap, and its poll again, before the CPU's end hears it and polls for the next block
 abbrev pub steps : List TapStep

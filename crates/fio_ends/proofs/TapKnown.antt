@@ -1,8 +1,6 @@
 -- What is known of a tap on the line of a right link, and of the judge of its log that leaves late answers out.
-use Rattle.fio_ends.proofs.Names.{◌≡◌, ◌⊎◌, ◌+◌, ◌≤◌, inl, inr, ℕ, Bool, true, false, List, ◌∷◌, length, Option, Some, None, refl, arith, slice_get, Checker, Command, HasBlock, HasPoll, IsCommand, Machine, MadeBlock, Nothing, RuleLimits, SentFrame, Settings, Skips, ToCommand, ToPoll, blocks_of, checker_below_breach, checker_below_lines, command_octets, life_of, next_round, number_of, sending_refusal, BLOCK_ANSWER, Block}
+use Rattle.fio_ends.proofs.Names.{◌≡◌, ◌⊎◌, ◌+◌, ◌≤◌, inl, inr, ℕ, Bool, true, false, List, ◌∷◌, length, Option, Some, None, refl, arith, slice_get, Checker, Command, HasBlock, HasPoll, IsCommand, Machine, MadeBlock, Nothing, RuleLimits, SentFrame, Settings, Skips, ToCommand, ToPoll, blocks_of, checker_below_breach, checker_below_lines, command_octets, life_of, next_round, number_of, sending_refusal, BLOCK_ANSWER, Block, checker_anywhere, HasPassed, Tap, last_passed, nat_tests}
 use Rattle.fio_message.specs.declared.commands.Command.TheVariants as commands
-use Rattle.fio_check.specs.Checkers.{checker_anywhere}
-use Rattle.fio_ends.specs.TapLogs.{HasPassed, Tap, last_passed}
 use Rattle.fio_ends.proofs.LateJudges.{IsKnownLost}
 use Rattle.fio_ends.proofs.LateKnown.{KnowsFacts}
 
@@ -15,11 +13,7 @@ pub record PassInOrder (sent : ℕ) (passed : List ℕ) : Type 0 where
 
 pub more_pass : (sent : ℕ) (passed : List ℕ) (index : ℕ) → last_passed passed ≤ index → index ≤ sent → PassInOrder sent passed
     → PassInOrder sent (index ∷ passed)
-more_pass sent passed index le within order = record { each = by; last = within }
-  where
-    by : (one : ℕ) → HasPassed (index ∷ passed) one → one ≤ index
-    by one (inl same) = omega (arith, same)
-    by one (inr older) = omega (arith, order.each one older)
+more_pass sent passed index le within order = grind (arith, nat_tests, inl, inr)
 
 pub more_sent : (sent more : ℕ) (passed : List ℕ) → sent ≤ more → PassInOrder sent passed → PassInOrder more passed
 more_sent sent more passed le order = record { each = order.each; last = (let last = order.last in omega arith) }
@@ -86,15 +80,7 @@ TappedOf settings limits first machine tap =
 pub none_tapped : (first : ℕ) (frames answers : List SentFrame) (tap : Tap) (polls : List ℕ) (now : ℕ) (blocks : List MadeBlock) (above : Option Bool) (number : ℕ)
     (answered : Bool) → IsLatestTapped first frames answers tap polls now blocks above number answered
     → (next : Bool) → IsLatestTapped first frames answers tap polls now blocks None number next
-none_tapped first frames answers tap polls now blocks above number answered l next = record {
-  round = l.round;
-  named = l.named;
-  passed = l.passed;
-  ahead = l.ahead;
-  received = l.received;
-  upto = l.upto;
-  more = λ m is. absurd (cc is);
-}
+none_tapped first frames answers tap polls now blocks above number answered l next = grind (arith, nat_tests)
 
 module _ (limits : RuleLimits) (first : ℕ) (frames answers : List SentFrame) (tap : Tap) (polls : List ℕ) (now : ℕ) (blocks : List MadeBlock) where
   abbrev Known : Checker → Option ℕ → Option ℕ → Bool → Type 0

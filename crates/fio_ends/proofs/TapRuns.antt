@@ -1,14 +1,7 @@
 -- The judge that leaves late answers out finds no breach in the log of a tap on the line of a right link.
-use Rattle.fio_ends.proofs.Names.{◌≡◌, ◌+◌, ◌≤◌, inl, inr, ℕ, Bool, false, true, List, [], ◌∷◌, ◌++◌, map, Option, Some, refl, sym, subst, arith, slice_get, AllByRecursion, AreInRange, Checker, IsKept, Machine, RuleLimits, SentFrame, Settings, SuitModule, after, after_delivery, blocks_of, frame_heard, kept, life_of, observation_in, start}
-use Rattle.fio_check.specs.LateAnswers.{late_above}
-use Rattle.fio_check.specs.LogJudges.{LogJudging, log_starting, log_with, log_with_event, outcomes_in_log}
-use Rattle.fio_check.specs.declared.late_answers.LateAnswers.{LateAnswers}
-use Rattle.fio_check.specs.declared.log_judge.LogOutcome.{LogOutcome}
+use Rattle.fio_ends.proofs.Names.{◌≡◌, ◌+◌, ◌≤◌, inl, inr, ℕ, Bool, false, true, List, [], ◌∷◌, ◌++◌, map, Option, Some, refl, sym, subst, arith, slice_get, AllByRecursion, AreInRange, Checker, IsKept, Machine, RuleLimits, SentFrame, Settings, SuitModule, after, after_delivery, blocks_of, frame_heard, kept, life_of, observation_in, start, late_above, LogJudging, log_starting, log_with, log_with_event, outcomes_in_log, LateAnswers, LogOutcome, Bus, event_of_remark, found_saying, IsNoBreach, AreTapped, AtEnds, Noted, PassesToCpu, PassesToModule, Tap, TapStep, frame_sent, last_passed, log_tapped, machine_below, untapped, nat_tests}
 use Rattle.fio_check.specs.declared.log_judge.LogStart.TheVariants.{LateAnswers as StartLate}
-use Rattle.fio_check.specs.declared.outcome.LogPlace.TheVariants.{Bus}
-use Rattle.fio_ends.specs.EventLogs.{event_of_remark, found_saying}
-use Rattle.fio_ends.specs.LateLogs.{IsNoBreach}
-use Rattle.fio_ends.specs.TapLogs.{AreTapped, AtEnds, Noted, PassesToCpu, PassesToModule, Tap, TapStep, TapsBreakNoRule, frame_sent, last_passed, log_tapped, machine_below, untapped}
+use Rattle.fio_ends.specs.TapLogs.{TapsBreakNoRule}
 use Rattle.fio_ends.proofs.LateJudges.{IsJudged, IsKnownLost, frame_judged, remark_judged}
 use Rattle.fio_ends.proofs.LateRules.{Holds, Takes}
 use Rattle.fio_ends.proofs.LateRuns.{AreAnswers, IsAnswer, event_goes, kept_next, no_outcome}
@@ -20,14 +13,7 @@ use Rattle.fio_ends.proofs.TapKnown.{IsCommandFrame, KeepsTap, TappedOf, tapped_
 
 -- nothing has passed at the start
 keeps_start : (first : ℕ) → KeepsTap first start untapped
-keeps_start first = record {
-  commands_pass = record { each = λ index passed. absurd passed; last = omega arith };
-  answers_pass = record { each = λ index passed. absurd passed; last = omega arith };
-  to_module = omega arith;
-  to_cpu = omega arith;
-  sent = λ place frame at. absurd (cc at);
-  taken = inl refl;
-}
+keeps_start first = grind (arith, nat_tests, inl)
 
 module _ (settings : Settings) (range : AreInRange settings) (limits : RuleLimits) (suit : SuitModule settings limits) (first : ℕ) where
   abbrev Of : Machine → Tap → Checker → Option ℕ → Option ℕ → Bool → Type 0

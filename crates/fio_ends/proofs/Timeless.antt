@@ -1,9 +1,9 @@
 -- The events that keep the rules on time, and those that a load of the counter excuses: below an excused event nothing is known
 -- of times till the next clear block.
-use Rattle.fio_ends.proofs.Names.{is_some_and, ◌≡◌, ◌∙◌, ◌&&◌, ℕ, Bool, true, false, not, List, [], ◌∷◌, Option, Some, None, refl, ap, sym, subst, fold, ◌==◌, Answer, Item, Entry, Gap, ContentFacts, content_with, ContentEvent, Ended, Recorded, Apart, Clock, Fresh, Order, State, KeepsRule, Seen, breaks_answer, broken_state, content_step, forgetting, is_before, stamp_of, without_excuse, arith}
+use Rattle.fio_ends.proofs.Names.{is_some_and, ◌≡◌, ◌∙◌, ◌&&◌, ℕ, Bool, true, false, not, List, [], ◌∷◌, Option, Some, None, refl, ap, sym, subst, fold, ◌==◌, Answer, Item, Entry, Gap, ContentFacts, content_with, ContentEvent, Ended, Recorded, Apart, Clock, Fresh, Order, State, KeepsRule, Seen, breaks_answer, broken_state, content_step, forgetting, is_before, stamp_of, without_excuse, arith, breaks_time}
 use Rattle.fio_message.specs.declared.answers.Answer.TheVariants as answers
 use Rattle.fio_ends.proofs.ContentFrame.{heard_keeps}
-use Rattle.fio_check.specs.ContentRules.{breaks_time, is_excused}
+use Rattle.fio_check.specs.ContentRules.{is_excused}
 use Rattle.fio_ends.proofs.ContentLines.{EachKeeps}
 
 -- an event keeps the rules on time

@@ -1,9 +1,8 @@
 -- The rules on time never accuse: a breach shows that the counter jumped since times were forgotten last, and no more loads take
 -- effect than are sent.
-use Rattle.fio_ends.proofs.Names.{log_of, blocks_in, end_of_blocks, ◌≡◌, ◌∙◌, ◌+◌, ◌<◌, ◌≤◌, inl, inr, ℕ, Bool, true, false, List, [], ◌∷◌, length, Option, Some, refl, ap, sym, subst, arith, fold, ◌==◌, eqb_tells, slice_get, Answer, Command, Block, IsCommand, command_in, Settings, AreInRange, Life, life_of, life_after_command, loads_of, MadeBlock, ContentFacts, content_with, content_step, no_content, ContentEvent, Heard, Sent, events_of_block, items_of_block, ContentRule, Apart, Clock, Fresh, Order, State, Event, SentFrame, Machine, start, after, after_sending, after_delivery_to_module, after_taken, Leads, HaveNoRestart, HasNearTimes, History, KeepsRule, LoadsAreSent, block_answer, content_begun, forgetting, loads_sent, one_excuse_more, scans_above, sent_step, without_excuse}
+use Rattle.fio_ends.proofs.Names.{log_of, blocks_in, end_of_blocks, ◌≡◌, ◌∙◌, ◌+◌, ◌<◌, ◌≤◌, inl, inr, ℕ, Bool, true, false, List, [], ◌∷◌, length, Option, Some, refl, ap, sym, subst, arith, fold, ◌==◌, eqb_tells, slice_get, Answer, Command, Block, IsCommand, command_in, Settings, AreInRange, Life, life_of, life_after_command, loads_of, MadeBlock, ContentFacts, content_with, content_step, no_content, ContentEvent, Heard, Sent, events_of_block, items_of_block, ContentRule, Apart, Clock, Fresh, Order, State, Event, SentFrame, Machine, start, after, after_sending, after_delivery_to_module, after_taken, Leads, HaveNoRestart, HasNearTimes, History, KeepsRule, LoadsAreSent, block_answer, content_begun, forgetting, loads_sent, one_excuse_more, scans_above, sent_step, without_excuse, ContentNeverAccuses, nat_tests}
 use Rattle.fio_message.specs.declared.commands.Command.TheVariants as commands
 use Rattle.fio_link.specs.declared.event.Event.TheVariants as events
-use Rattle.fio_ends.specs.ContentRuns.{ContentNeverAccuses}
 use Rattle.fio_ends.proofs.ContentHeld.{timed_never_accuses}
 use Rattle.fio_ends.proofs.AlwaysKept.{Always, always_begun, always-begins, always-happens, always-hears, always-receives, always-sends, always-takes}
 use Rattle.fio_ends.proofs.ApartKept.{apart_begun, apart-happens, apart-hears, apart-receives, apart-sends, apart-takes}
@@ -355,13 +354,7 @@ either false at_command at_start = at_command refl
 asks_first : (begun : Bool) (settings : Settings) (first : ℕ) (machine last : Machine) (later : List Event) → HaveNoRestart later → Leads settings first machine later last
     → (begun ≡ true → LoadsAreSent settings first (loads_of (life_of machine.history)) machine later) → HasNearTimes begun settings first machine later last
     → AsksTimes settings first machine (scans_above begun) (time_above begun) machine later
-asks_first begun settings first machine last later none leads loads premise = record {
-  taken = record { last = last; leads = leads; none = none; asked = record { blocks_near = premise.near.blocks; near = premise.near.inputs } };
-  stamps = premise.near.stamps;
-  states = premise.near.states;
-  loads = (let same : loads_of (life_of machine.history) ≡ loads_of (life_of machine.history) + 0 = omega arith in
-      subst (λ n. LoadsAreSent settings first n machine later) same (either begun premise.loads loads));
-}
+asks_first begun settings first machine last later none leads loads premise = grind (arith, nat_tests, loads_of, life_of, either)
 
 time_rule_never_accuses : (rule : ContentRule) → ((facts : ContentFacts) (event : ContentEvent) → KeepsTimeRules facts event → KeepsRule rule facts event) → ContentNeverAccuses rule HasNearTimes
 time_rule_never_accuses rule picks = timed_never_accuses rule TimeState time_above time_after HasNearTimes

@@ -1,5 +1,5 @@
 -- What is known of times in a log, and how far lives go on.
-use Rattle.fio_ends.proofs.Names.{log_of, ◌≡◌, ◌∙◌, ◌+◌, ◌≤◌, ℕ, Bool, List, length, Option, Some, None, refl, sym, arith, Command, Settings, Life, life_of, life_after_command, loads_of, Commanded, ContentFacts, Event, Machine, after, History, LoadsAreSent, StampsAreNear, StatesAreNear, loads_sent}
+use Rattle.fio_ends.proofs.Names.{log_of, ◌≡◌, ◌+◌, ◌≤◌, ℕ, Bool, List, length, Option, Some, None, arith, Command, Settings, Life, life_of, life_after_command, loads_of, Commanded, ContentFacts, Event, Machine, after, History, LoadsAreSent, StampsAreNear, StatesAreNear, loads_sent, nat_tests}
 use Rattle.fio_ends.proofs.AlwaysKept.{Always}
 use Rattle.fio_ends.proofs.ApartTimes.{AreNearByInput, KeepsApart}
 use Rattle.fio_ends.proofs.BlockPlaces.{end_at}
@@ -65,26 +65,7 @@ pub record KeepsTimed (settings : Settings) (begin : Machine) (above : Option �
 -- where nothing is known of times, that is so from any life on
 pub timeless_timed : (settings : Settings) (base : Machine) (above : Option ℕ) (s : TimeState) (from : Life) (machine : Machine) (facts : ContentFacts) → IsTimeless facts
     → Always settings machine facts → end_at settings (life_of machine.history) machine.round ≤ length (log_of from) → Timed settings base above s from machine facts
-timeless_timed settings base above s from machine facts t always recorded = record {
-  clock = record { stamped = λ stamp at. absurd (cc (sym t.clock ∙ at)) };
-  floor = record { full = λ timely. absurd (cc (sym t.timely ∙ timely)); floor = λ timely. absurd (cc (sym t.timely ∙ timely)) };
-  apart = record {
-    full = λ timely. absurd (cc (sym t.timely ∙ timely));
-    both = always.both;
-    least = always.least;
-    times = record { clear = λ timely. absurd (cc (sym t.timely ∙ timely)); timed = λ input low time at. absurd (cc (sym (t.timed input) ∙ at)) };
-  };
-  state = record {
-    full = λ timely. absurd (cc (sym t.timely ∙ timely));
-    seen_timely = λ states at. absurd (cc (sym t.seen ∙ at));
-    below = λ timely. absurd (cc (sym t.timely ∙ timely));
-    watch = always.watch;
-    recorded = recorded;
-    seen = λ states at. absurd (cc (sym t.seen ∙ at));
-    pending = λ states at. absurd (cc (sym t.seen ∙ at));
-    shown = λ input low. record { shown = λ level at. absurd (cc (sym (t.shown input) ∙ at)); unlogged = λ at. absurd (cc (sym (t.unlogged input) ∙ at)) };
-  };
-}
+timeless_timed settings base above s from machine facts t always recorded = grind (arith, nat_tests)
 
 pub goes_on-command : (before now : Life) (command : Option Command) → GoesOn before now → GoesOn before (life_after_command command now)
 goes_on-command before now None g = g
@@ -92,11 +73,7 @@ goes_on-command before now (Some command) g = goes_on-more before now (Commanded
 
 -- a machine after an event past the bus
 pub past_life : (settings : Settings) (first : ℕ) (machine : Machine) (event : Event) → IsPastBus event → GoesOn (life_of machine.history) (life_of (after settings first machine event).history)
-past_life settings first machine event past = past_cases (λ event. GoesOn (life_of machine.history) (life_of (after settings first machine event).history))
-    (λ raw. goes_on-more _ _ _ (goes_on-same (life_of machine.history) (life_of machine.history) refl))
-    (goes_on-more _ _ _ (goes_on-same (life_of machine.history) (life_of machine.history) refl))
-    (λ mask. goes_on-more _ _ _ (goes_on-same (life_of machine.history) (life_of machine.history) refl))
-    event past
+past_life settings first machine event past = grind (arith, nat_tests, past_cases, life_of, after, goes_on-more, goes_on-same)
 
 pub no_loads_past : (event : Event) → IsPastBus event → loads_sent event ≡ 0
 no_loads_past event past = grind arith

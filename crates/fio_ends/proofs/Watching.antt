@@ -1,9 +1,6 @@
 -- What is known of the changes of an input that are still to be recorded, as a module's life goes on.
-use Rattle.fio_ends.proofs.Names.{◌≡◌, ◌≢◌, ◌∙◌, ◌+◌, ◌-◌, ◌<◌, ◌≤◌, ◌||◌, ◌⊎◌, inl, inr, ℕ, zero, suc, Bool, true, false, not, List, [], ◌∷◌, ◌++◌, length, take, drop, Option, Some, None, refl, ap, sym, subst, arith, if◌then◌else◌, slice_get, AllByRecursion, take-append-drop, nat_lt, nat_tests, Life, Occurrence, Scanned, Commanded, Command, filter_events, life_after_command, Transition, log_of, InputItem, ArrayVec, all_present, input_setting, length-append, same_Some, Setting, applied_items, drop-append-le, drop_of_length-le, each-drop, ignores, input_state, item_for, last_item_of, later_log, setting_by, state-configure}
-use Rattle.std.proofs.lemmas.List.{drop-drop}
+use Rattle.fio_ends.proofs.Names.{◌≡◌, ◌≢◌, ◌∙◌, ◌+◌, ◌-◌, ◌<◌, ◌≤◌, ◌||◌, ◌⊎◌, inl, inr, ℕ, zero, suc, Bool, true, false, not, List, [], ◌∷◌, ◌++◌, length, take, drop, Option, Some, None, refl, ap, sym, subst, arith, if◌then◌else◌, slice_get, AllByRecursion, take-append-drop, nat_lt, nat_tests, Life, Occurrence, Scanned, Commanded, Command, filter_events, life_after_command, Transition, log_of, InputItem, ArrayVec, all_present, input_setting, length-append, same_Some, Setting, applied_items, drop-append-le, drop_of_length-le, each-drop, ignores, input_state, item_for, last_item_of, later_log, setting_by, state-configure, drop-drop, each-append, logged}
 use Rattle.fio_message.specs.declared.commands.Command.TheVariants as commands
-use Rattle.fio_module.proofs.ListParts.{each-append}
-use Rattle.fio_module.proofs.ScanTransitions.{logged}
 use Rattle.fio_ends.proofs.Following.{IsNoCommand}
 use Rattle.fio_ends.proofs.Alternating.{Alternate, NoneOf, alternate-append, alternate-split, none-alternate, none_ignored, scan_below}
 

@@ -65,7 +65,7 @@ MayBeGiven (Answered at below kind body answer ∷ lines) =
 MayBeGiven (Identified at id answer ∷ lines) =
     IsAnswer (identity_answer id) × IsAnswer (makers_answer Identify answer) × MayBeGiven lines
 
--- The maker's answers accuse nobody, and change no other outcome: with them the judge of a link accuses neither end if it does not
+-- The maker's answers accuse nobody: with them the judge of a link accuses neither end if it does not
 -- without them, whatever it took above.
 unfoldable pub AnswersAccuseNone : Type 0
 AnswersAccuseNone =

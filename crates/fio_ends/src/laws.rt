@@ -10,12 +10,11 @@ ghost use Rattle.fio_ends.specs.LateLogs.{AnswersMayBeLate, LateAnswersBreakNoRu
 ghost use Rattle.fio_ends.specs.LineRuns.{EachFrameMayCome, EachStruckFrameMayCome, HeadlineOverLines, LinesAreRuns, LinesBringRecords};
 ghost use Rattle.fio_ends.specs.Lines.{AtCpu, AtModule};
 ghost use Rattle.fio_ends.specs.LinkLogs.{AccusesNoneBelowLoads, FramesMayBeMissing, JudgeAccusesNone, JudgeKeepsAll, LoadsMayBeUnderWay};
-ghost use Rattle.fio_ends.specs.Explainable.{AccusedAreNotExplainable};
-ghost use Rattle.fio_ends.specs.PollLogs.{AreOfBothKinds, LogsOfPollsAreDecided};
 ghost use Rattle.fio_ends.specs.Pollers.{GoodIsOfPoller};
 ghost use Rattle.fio_ends.specs.PromptRuns.{FromCommand, HasNoBreach, HasNoBreachAnywhere, IsGood, NeverAccuses, NeverAccusesLater};
 ghost use Rattle.fio_ends.specs.RestartedLogs.{JudgeFindsRestarts, JudgeFindsRestartsAnywhere, RestartsAreFound};
 ghost use Rattle.fio_ends.specs.RunRecords.{KeepsRecord};
+ghost use Rattle.fio_ends.specs.StretchLogs.{OneStretchGoesOn, StretchesArePieces};
 ghost use Rattle.fio_ends.specs.TapLogs.{TapsBreakNoRule, TapsExcusePolls};
 ghost use Rattle.fio_ends.specs.SharedLines.{AtDecoders, AtModules, EachFrameMayComeToAll, HeadlineOverSharedLines, SharedLinesAreABus, SharedLinesBringRecords};
 
@@ -167,8 +166,8 @@ pub fn judge_keeps_each_right_frame()
 /// Over restarts of the module the judge accuses nobody either, and says once at most for each that it was restarted: if the stamps
 /// that are heard below each, through the first that is not that of a block that is sent again, are before the latest one above.
 /// Nothing is under way at a restart, no frame is missing, no load of the counter takes effect, and the log of each life of the
-/// module lasts fewer than 2^31 scans. Above the first restart the judge may have taken anything, too. That it says so of each is
-/// in its definition alone.
+/// module lasts fewer than 2^31 scans. Above the first restart the judge may have taken anything, too. Of which restarts it says so
+/// is a law of `fio_check` (`judges_find_restarts`).
 #[tactic(auto, using(crate::proofs::Restarted::judge_finds_restarts, crate::proofs::Restarted::judge_finds_restarts_anywhere))]
 pub fn judge_finds_restarts()
     ensures anywhere { JudgeFindsRestartsAnywhere }
@@ -179,28 +178,6 @@ pub fn judge_finds_restarts()
 #[tactic(auto, using(crate::proofs::JudgeExamples::restarts_found))]
 pub fn restarts_are_found()
     ensures { RestartsAreFound }
-{}
-
-/// Each log that the checker of content accuses is one that no right link explains, whatever its samples, losses and earlier
-/// configurations.
-#[tactic(auto, using(crate::proofs::ExplainableLogs::accused_not_explainable))]
-pub fn accused_logs_are_not_explainable()
-    ensures { AccusedAreNotExplainable }
-{}
-
-/// Exactly those logs of polls are accused that no right link explains. In such a log only polls and requests for the states
-/// are answered, and no load and no configuration is sent. Each block is without C and F, and made fewer than 65,536 scans
-/// after the one before. At most one request is answered between two blocks, after the first was made, and a block follows it.
-/// The log begins with a clear block, whatever came before.
-#[tactic(auto, using(crate::proofs::PollLogs::logs_of_polls_are_decided))]
-pub fn logs_of_polls_are_decided()
-    ensures { LogsOfPollsAreDecided }
-{}
-
-/// Such logs of both kinds exist: one that a right link explains, and one that none explains.
-#[tactic(auto, using(crate::proofs::PollExamples::of_both_kinds))]
-pub fn logs_of_polls_are_of_both_kinds()
-    ensures { AreOfBothKinds }
 {}
 
 /// Any calls of the exports of one module, whatever its limits, with its ring, and of one poller, with
@@ -302,7 +279,7 @@ pub fn shared_lines_bring_records()
 {}
 
 /// The answers of the module's maker accuse nobody: put into any log directly below his commands 56, 57 and 59, at most one for
-/// each, and in place of the octet of an identification, they leave each other outcome of the judge as it was.
+/// each, and in place of the octet of an identification, they accuse no end if no frame did so without them.
 #[tactic(auto, using(crate::proofs::MakersAnswers::answers_accuse_none))]
 pub fn makers_answers_accuse_none()
     ensures { AnswersAccuseNone }
@@ -346,4 +323,21 @@ pub fn taps_break_no_rule()
 #[tactic(auto, using(crate::proofs::TapExamples::taps_excuse_polls))]
 pub fn taps_excuse_polls()
     ensures { TapsExcusePolls }
+{}
+
+/// The law of stretches. Each stretch of the log of a right module has the entries of one contiguous piece of the transition list of one
+/// life of the module, and the pieces rise; above each stretch whose first block says that transitions are lost, at least one is missing.
+/// Any frames may be missing, other frames may be anywhere, any blocks may be disbelieved, and the module's counter may be loaded, under
+/// any CPU whose numbers rise. Fewer than 255 numbers are between two blocks of the log, one directly below the other; or if the module
+/// was restarted between, the lower one's stamp shows that.
+#[tactic(auto, using(crate::proofs::StretchLogs::stretches_are_pieces))]
+pub fn stretches_are_pieces()
+    ensures { StretchesArePieces }
+{}
+
+/// The other half: where no number is between two blocks of such a log, no block says that transitions are lost, each is believed, and
+/// no stamp shows a restart, the log is one stretch.
+#[tactic(auto, using(crate::proofs::StretchLogs::one_stretch_goes_on))]
+pub fn one_stretch_goes_on()
+    ensures { OneStretchGoesOn }
 {}

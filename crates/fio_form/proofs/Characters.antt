@@ -5,7 +5,7 @@ use Rattle.std.proofs.lemmas.Bool.{cases_Bool, false≢true, eqb-true}
 use Rattle.std.proofs.lemmas.Bool.Decides.{nat_tests}
 use Rattle.fio_form.specs.Forms.{is_space_or_tab, is_blanks, is_decimal, is_hex, is_numeric, is_part, is_quotation}
 use Rattle.fio_form.specs.declared.form.Piece.{Piece}
-use Rattle.fio_form.specs.declared.form.Piece.TheVariants.{Character, Decimal, Hexadecimal, Blanks, Padded, Quote, Value}
+use Rattle.fio_form.specs.declared.form.Piece.TheVariants.{Character, Decimal, Blanks, Quote}
 
 pub decimal_hex : (x : ℕ) → is_decimal x ≡ true → is_hex x ≡ true
 decimal_hex x is = grind (arith, nat_tests)
@@ -25,12 +25,9 @@ hex_not_blank x is = elim (cases_Bool (is_space_or_tab x)) [
 -- what a piece without digits has none part of
 pub digit_apart : (piece : Piece) (x : ℕ) → not (is_numeric piece) ≡ true → is_hex x ≡ true → is_part piece x ≡ false
 digit_apart (Character mark) x none is = refl
-digit_apart Decimal x none is = absurd (false≢true none)
-digit_apart Hexadecimal x none is = absurd (false≢true none)
 digit_apart Blanks x none is = hex_not_blank x is
-digit_apart Padded x none is = absurd (false≢true none)
 digit_apart Quote x none is = refl
-digit_apart Value x none is = absurd (false≢true none)
+digit_apart _ x none is = absurd (false≢true none)
 
 pub blank_apart : (piece : Piece) (x : ℕ) → not (is_blanks piece) ≡ true → is_space_or_tab x ≡ true → is_part piece x ≡ false
 blank_apart (Character mark) x none is = refl
@@ -38,38 +35,20 @@ blank_apart Decimal x none is = elim (cases_Bool (is_decimal x)) [
   | inl digit ↦ absurd (false≢true (sym (hex_not_blank x (decimal_hex x digit)) ∙ is))
   | inr other ↦ other
 ]
-blank_apart Hexadecimal x none is = elim (cases_Bool (is_hex x)) [
-  | inl digit ↦ absurd (false≢true (sym (hex_not_blank x digit) ∙ is))
-  | inr other ↦ other
-]
 blank_apart Blanks x none is = absurd (false≢true none)
-blank_apart Padded x none is = elim (cases_Bool (is_hex x)) [
-  | inl digit ↦ absurd (false≢true (sym (hex_not_blank x digit) ∙ is))
-  | inr other ↦ other
-]
 blank_apart Quote x none is = refl
-blank_apart Value x none is = elim (cases_Bool (is_hex x)) [
+blank_apart _ x none is = elim (cases_Bool (is_hex x)) [
   | inl digit ↦ absurd (false≢true (sym (hex_not_blank x digit) ∙ is))
   | inr other ↦ other
 ]
 
 pub double_apart : (piece : Piece) → is_part piece 34 ≡ false
 double_apart (Character mark) = refl
-double_apart Decimal = refl
-double_apart Hexadecimal = refl
-double_apart Blanks = refl
-double_apart Padded = refl
-double_apart Quote = refl
-double_apart Value = refl
+double_apart _ = refl
 
 pub single_apart : (piece : Piece) → is_part piece 39 ≡ false
 single_apart (Character mark) = refl
-single_apart Decimal = refl
-single_apart Hexadecimal = refl
-single_apart Blanks = refl
-single_apart Padded = refl
-single_apart Quote = refl
-single_apart Value = refl
+single_apart _ = refl
 
 pub quote_apart : (piece : Piece) (x : ℕ) → is_quotation x ≡ true → is_part piece x ≡ false
 quote_apart piece x is = elim (cases_Bool (x == 34)) [

@@ -3,6 +3,7 @@ use Rattle.std.proofs.Common.{◌≡◌, ◌≢◌, ℕ, zero, suc, ◌-◌, ◌
 use Rattle.std.specs.Prelude.{Option, option_and_then, ◌==◌, ◌⊎◌}
 use Rattle.std.proofs.lemmas.Bool.{cases_Bool, false≢true}
 use Rattle.std.proofs.lemmas.List.{get_or_append_left, length-append}
+use Rattle.std.proofs.lemmas.Option.{same_Some}
 use Rattle.fio_form.specs.Forms.{is_quoted, begins_with_octet, is_decimal, is_hex, is_part, is_quotation, is_space_or_tab}
 use Rattle.fio_form.specs.Fronts.{after_digits, after_front, after_piece, has_value, past, past_piece, taken_parts}
 use Rattle.fio_form.specs.Octets.{by_next, by_open, ends_open, longer_in, next_in, octets_from, run_in, steps_at}
@@ -14,7 +15,7 @@ use Rattle.fio_form.specs.declared.form.Digits.TheVariants as digits
 use Rattle.fio_form.specs.declared.form.Piece.{Piece}
 use Rattle.fio_form.specs.declared.form.Piece.TheVariants.{Character, Decimal, Hexadecimal, Blanks, Padded, Quote, Value}
 use Rattle.fio_form.specs.declared.form.Step.{Step}
-use Rattle.fio_form.specs.declared.form.Step.TheVariants.{Octet, Mark, MaybeBlank}
+use Rattle.fio_form.specs.declared.form.Step.TheVariants.{Octet}
 use Rattle.fio_form.specs.declared.octets.Begun.{Begun}
 use Rattle.fio_form.specs.declared.octets.Begun.TheVariants.{Nothing}
 use Rattle.fio_form.specs.declared.octets.NextDigit.{NextDigit}
@@ -28,9 +29,6 @@ use Rattle.fio_form.proofs.Stepping.{extends, some_octets}
 
 none_not_some : {X : Type 0} (x : X) → None ≡ Some x → ⊥
 none_not_some x h = cc
-
-some_same : {X : Type 0} (x y : X) → Some x ≡ Some y → x ≡ y
-some_same x y h = cc
 
 -- the text after the parts of a piece ends where the line is cut, or goes on with the rest
 past_cut : (piece : Piece) (line more : List ℕ) → (past piece line ≡ []) ⊎ ((past piece (line ++ more) ≡ past piece line ++ more) × (taken_parts piece (line ++ more) ≡ taken_parts piece line))
@@ -59,7 +57,7 @@ digits_cut (x ∷ line) more rest is = elim (cases_Bool (is_hex x)) [
   | inr other ↦ absurd (none_not_some rest (rw other at is))
   | inl digit ↦ elim (past_cut Hexadecimal line more) [
     | inl none ↦ inl (rw digit (ap is_empty none), inr (rw digit (ap Some none)))
-    | inr on ↦ inr (record { left = past Hexadecimal line; is = rw digit refl; whole = sym on.0 ∙ some_same (past Hexadecimal (line ++ more)) rest (rw digit at is) })
+    | inr on ↦ inr (record { left = past Hexadecimal line; is = rw digit refl; whole = sym on.0 ∙ same_Some (past Hexadecimal (line ++ more)) rest (rw digit at is) })
   ]
 ]
 
@@ -83,7 +81,7 @@ value_cut values line more rest x is = elim (cases_Bool (is_hex x)) [
       ]
       | inr on ↦ (
           let here : has_value values (x ∷ taken_parts Value line) ≡ true = ap (λ t. has_value values (x ∷ t)) (sym on.1) ∙ known in
-          inr (record { left = past Value line; is = rw digit (rw here refl); whole = sym on.0 ∙ some_same (past Value (line ++ more)) rest (rw (digit, known) at is) }))
+          inr (record { left = past Value line; is = rw digit (rw here refl); whole = sym on.0 ∙ same_Some (past Value (line ++ more)) rest (rw (digit, known) at is) }))
     ]
   ]
 ]
@@ -92,31 +90,31 @@ piece_cut : (values : List ℕ) (piece : Piece) (line more rest : List ℕ) (x :
     → IsAll (after_piece values piece (x ∷ line)) (past_piece piece (x ∷ line)) ⊎ Goes (after_piece values piece (x ∷ line)) more rest
 piece_cut values (Character mark) line more rest x is = elim (cases_Bool (x == mark)) [
   | inr other ↦ absurd (none_not_some rest (rw other at is))
-  | inl same ↦ inr (record { left = line; is = rw same refl; whole = some_same (line ++ more) rest (rw same at is) })
+  | inl same ↦ inr (record { left = line; is = rw same refl; whole = same_Some (line ++ more) rest (rw same at is) })
 ]
 piece_cut values Quote line more rest x is = elim (cases_Bool (is_quotation x)) [
   | inr other ↦ absurd (none_not_some rest (rw other at is))
-  | inl same ↦ inr (record { left = line; is = rw same refl; whole = some_same (line ++ more) rest (rw same at is) })
+  | inl same ↦ inr (record { left = line; is = rw same refl; whole = same_Some (line ++ more) rest (rw same at is) })
 ]
 piece_cut values Decimal line more rest x is = elim (cases_Bool (is_decimal x)) [
   | inr other ↦ absurd (none_not_some rest (rw other at is))
   | inl digit ↦ elim (past_cut Decimal line more) [
     | inl none ↦ inl (rw digit (ap is_empty none), inr (rw digit (ap Some none)))
-    | inr on ↦ inr (record { left = past Decimal line; is = rw digit refl; whole = sym on.0 ∙ some_same (past Decimal (line ++ more)) rest (rw digit at is) })
+    | inr on ↦ inr (record { left = past Decimal line; is = rw digit refl; whole = sym on.0 ∙ same_Some (past Decimal (line ++ more)) rest (rw digit at is) })
   ]
 ]
 piece_cut values Hexadecimal line more rest x is = elim (cases_Bool (is_hex x)) [
   | inr other ↦ absurd (none_not_some rest (rw other at is))
   | inl digit ↦ elim (past_cut Hexadecimal line more) [
     | inl none ↦ inl (rw digit (ap is_empty none), inr (rw digit (ap Some none)))
-    | inr on ↦ inr (record { left = past Hexadecimal line; is = rw digit refl; whole = sym on.0 ∙ some_same (past Hexadecimal (line ++ more)) rest (rw digit at is) })
+    | inr on ↦ inr (record { left = past Hexadecimal line; is = rw digit refl; whole = sym on.0 ∙ same_Some (past Hexadecimal (line ++ more)) rest (rw digit at is) })
   ]
 ]
 piece_cut values Blanks line more rest x is = elim (cases_Bool (is_space_or_tab x)) [
   | inr other ↦ absurd (none_not_some rest (rw other at is))
   | inl digit ↦ elim (past_cut Blanks line more) [
     | inl none ↦ inl (rw digit (ap is_empty none), inr (rw digit (ap Some none)))
-    | inr on ↦ inr (record { left = past Blanks line; is = rw digit refl; whole = sym on.0 ∙ some_same (past Blanks (line ++ more)) rest (rw digit at is) })
+    | inr on ↦ inr (record { left = past Blanks line; is = rw digit refl; whole = sym on.0 ∙ same_Some (past Blanks (line ++ more)) rest (rw digit at is) })
   ]
 ]
 piece_cut values Padded line more rest x is = padded_cut values line more rest x is
@@ -162,7 +160,7 @@ after_piece_cut form all piece front x line more body (Some rest) go here is = e
 
 front_cut : (form : LineForm) (all : List ℕ) (front : List Piece) (line more body : List ℕ) → after_front form.values.items front (line ++ more) ≡ Some body
     → (ends_in_front form all front line ≡ true) ⊎ Left form all front line more body
-front_cut form all [] line more body is = inr (record { left = line; is = refl; ends = refl; whole = some_same (line ++ more) body is })
+front_cut form all [] line more body is = inr (record { left = line; is = refl; ends = refl; whole = same_Some (line ++ more) body is })
 front_cut form all (piece ∷ front) [] more body is = inl refl
 front_cut form all (piece ∷ front) (x ∷ line) more body is =
     after_piece_cut form all piece front x line more body (after_piece form.values.items piece (x ∷ (line ++ more))) (λ left here. front_cut form all front left more body here) refl is
@@ -170,10 +168,8 @@ front_cut form all (piece ∷ front) (x ∷ line) more body is =
 -- ---- The octets
 
 on_some : (next : NextDigit) (more : Begun → List ℕ) (last : ℕ → List ℕ) (emit : ℕ → Begun → List ℕ) → by_next next [] more last emit ≢ [] → goes_on next ≡ true
-on_some (More begun) more last emit some = refl
-on_some (Last value) more last emit some = refl
-on_some (Emit value begun) more last emit some = refl
 on_some Stop more last emit some = absurd (some refl)
+on_some _ more last emit some = refl
 
 some_value : (value : ℕ) → value ∷ [] ≡ [] → ⊥
 some_value value h = cc
@@ -214,10 +210,8 @@ run_cut digits cycle steps begun (x ∷ (y ∷ left)) more some =
 
 cycle_cut : (digits : Digits) (cycle : List Step) (left more : List ℕ) → begins_with_octet cycle ≡ true → run_in digits cycle (left ++ more) ≢ []
     → (ends_open digits Nothing left ≡ true) ⊎ (run_in digits cycle left ≢ [])
-cycle_cut digits [] left more begins some = absurd (false≢true begins)
 cycle_cut digits (Octet ∷ steps) left more begins some = run_cut digits (Octet ∷ steps) steps Nothing left more some
-cycle_cut digits (Mark mark ∷ steps) left more begins some = absurd (false≢true begins)
-cycle_cut digits (MaybeBlank ∷ steps) left more begins some = absurd (false≢true begins)
+cycle_cut digits _ left more begins some = absurd (false≢true begins)
 
 -- ---- A text up to the quote before it
 

@@ -38,9 +38,8 @@ found_at form line text is = ap (octets_here form line) is
 -- ---- As many octets as there is room for
 
 words_size : (octets : List ℕ) → length (in_words octets) ≡ length octets
-words_size [] = refl
-words_size (octet ∷ []) = refl
 words_size (lower ∷ (upper ∷ octets)) = ap (λ n. suc (suc n)) (words_size octets)
+words_size _ = refl
 
 pub swapped_size : (swap : Bool) (octets : List ℕ) → length (swapped swap octets) ≡ length octets
 unfolding swapped

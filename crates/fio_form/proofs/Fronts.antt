@@ -3,6 +3,7 @@ use Rattle.std.proofs.Common.{◌≡◌, ◌≢◌, ℕ, Some, None, true, false
 use Rattle.std.specs.Prelude.{not, ◌==◌, ◌&&◌, ◌⊎◌}
 use Rattle.std.specs.List.{AllByRecursion}
 use Rattle.std.proofs.lemmas.Bool.{and_parts, not-true, cases_Bool, eqb-true}
+use Rattle.std.proofs.lemmas.Option.{same_Some}
 use Rattle.fio_form.specs.Forms.{is_space_or_tab, is_blanks, is_decimal, is_hex, is_last, is_numeric, is_part, is_quotation, is_shut, are_shut}
 use Rattle.fio_form.specs.Fronts.{after_digits, after_front, after_piece, has_value, past, taken_parts}
 use Rattle.fio_form.specs.Writing.{AreSome, IsPadded, IsPiece, IsQuote, AreFrontTexts, joined}
@@ -57,12 +58,6 @@ padded_written values text rest is ends =
 pub after_written : (values : List ℕ) (piece : Piece) (text rest : List ℕ) → IsPiece values piece text → begins_part piece rest ≡ false
     → after_piece values piece (text ++ rest) ≡ Some rest
 after_written values (Character mark) text rest is ends = rw is (rw (eq-eqb mark mark refl))
-after_written values Decimal [] rest is ends = absurd (is.0 refl)
-after_written values Decimal (d ∷ parts) rest is ends = rw (is.1.0) (ap Some (past_all Decimal parts rest is.1.1 ends))
-after_written values Hexadecimal [] rest is ends = absurd (is.0 refl)
-after_written values Hexadecimal (d ∷ parts) rest is ends = rw (is.1.0) (ap Some (past_all Hexadecimal parts rest is.1.1 ends))
-after_written values Blanks [] rest is ends = absurd (is.0 refl)
-after_written values Blanks (d ∷ parts) rest is ends = rw (is.1.0) (ap Some (past_all Blanks parts rest is.1.1 ends))
 after_written values Padded text rest is ends = padded_written values text rest is ends
 after_written values Quote [] rest is ends = absurd is
 after_written values Quote (quote ∷ []) rest is ends = rw is refl
@@ -71,6 +66,8 @@ after_written values Value [] rest is ends = absurd (is.0.0 refl)
 after_written values Value (d ∷ parts) rest is ends =
     let known : has_value values (d ∷ taken_parts Value (parts ++ rest)) ≡ true = ap (λ t. has_value values (d ∷ t)) (taken_all Value parts rest is.0.1.1 ends) ∙ is.1 in
     rw (is.0.1.0) (rw known (ap Some (past_all Value parts rest is.0.1.1 ends)))
+after_written values _ [] rest is ends = absurd (is.0 refl)
+after_written values other (d ∷ parts) rest is ends = rw (is.1.0) (ap Some (past_all other parts rest is.1.1 ends))
 
 some_apart : (test : ℕ → Bool) (piece : Piece) (text rest : List ℕ) → AreSome test text → ((x : ℕ) → test x ≡ true → is_part piece x ≡ false)
     → begins_part piece (text ++ rest) ≡ false
@@ -92,9 +89,8 @@ padded_apart piece text rest is shut =
     ap (λ t. begins_part piece (t ++ rest)) is.whole ∙ padded_begins piece is.blanks is.number rest is.all is.is parts.0 parts.1
 
 quote_begins : (piece : Piece) (text rest : List ℕ) → IsQuote text → begins_part piece (text ++ rest) ≡ false
-quote_begins piece [] rest is = absurd is
 quote_begins piece (quote ∷ []) rest is = quote_apart piece quote is
-quote_begins piece (quote ∷ (x ∷ text)) rest is = absurd is
+quote_begins piece _ rest is = absurd is
 
 pub ends : (digits : Digits) (values : List ℕ) (piece : Piece) (front : List Piece) (texts : List (List ℕ)) (rest : List ℕ) → AreFrontTexts values front texts → is_shut digits piece front ≡ true
     → ((piece : Piece) → is_last digits piece ≡ true → begins_part piece rest ≡ false) → begins_part piece (joined texts ++ rest) ≡ false
@@ -164,12 +160,6 @@ padded_of values line (y ∷ left) same = elim (cases_Bool (is_hex y)) [
 
 piece_of : (values : List ℕ) (piece : Piece) (line : List ℕ) → (after_piece values piece line ≡ None) ⊎ PieceOf values piece line
 piece_of values (Character mark) [] = inl refl
-piece_of values Decimal [] = inl refl
-piece_of values Hexadecimal [] = inl refl
-piece_of values Blanks [] = inl refl
-piece_of values Padded [] = inl refl
-piece_of values Quote [] = inl refl
-piece_of values Value [] = inl refl
 piece_of values (Character mark) (x ∷ line) = elim (cases_Bool (x == mark)) [
   | inl h ↦ inr (record { text = x ∷ []; rest = line; is = ap (λ y. y ∷ []) (eqb-true x mark h); read = rw h refl; whole = refl })
   | inr h ↦ inl (rw h refl)
@@ -198,12 +188,10 @@ piece_of values Value (x ∷ line) = elim (cases_Bool (is_hex x)) [
   ]
   | inr h ↦ inl (rw h refl)
 ]
+piece_of values _ [] = inl refl
 
 none_not_some : {X : Type 0} (x : X) → None ≡ Some x → ⊥
 none_not_some x h = cc
-
-some_same : {X : Type 0} (x y : X) → Some x ≡ Some y → x ≡ y
-some_same x y h = cc
 
 -- a line that begins as those of a form do, with the text after that
 pub record Before (values : List ℕ) (front : List Piece) (line rest : List ℕ) : Type 0 where
@@ -219,7 +207,7 @@ with_piece values piece front line rest one more = record {
 }
 
 pub written_front : (values : List ℕ) (front : List Piece) (line rest : List ℕ) → after_front values front line ≡ Some rest → Before values front line rest
-written_front values [] line rest h = record { texts = []; pieces = tt; whole = some_same line rest h }
+written_front values [] line rest h = record { texts = []; pieces = tt; whole = same_Some line rest h }
 written_front values (piece ∷ front) line rest h = elim (piece_of values piece line) [
   | inl missing ↦ absurd (none_not_some rest (rw missing at h))
   | inr one ↦ with_piece values piece front line rest one (written_front values front one.rest rest (rw (one.read) at h))

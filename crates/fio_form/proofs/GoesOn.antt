@@ -10,14 +10,12 @@ use Rattle.fio_form.specs.declared.form.Digits.TheVariants as digits
 use Rattle.fio_form.specs.declared.octets.Begun.{Begun}
 use Rattle.fio_form.specs.declared.octets.Begun.TheVariants.{Nothing, Fixed, Number, Negative, Short, Escape, HexEscape, OctalEscape}
 use Rattle.fio_form.specs.declared.octets.NextDigit.{NextDigit}
-use Rattle.fio_form.specs.declared.octets.NextDigit.TheVariants.{More, Last, Emit, Stop}
+use Rattle.fio_form.specs.declared.octets.NextDigit.TheVariants.{Stop}
 
 -- whether a character is one of an octet
 abbrev pub goes_on : NextDigit → Bool
-goes_on (More begun) = true
-goes_on (Last octet) = true
-goes_on (Emit octet begun) = true
 goes_on Stop = false
+goes_on _ = true
 
 -- ---- Decimal numbers
 
@@ -138,13 +136,9 @@ prefixed_end (Fixed value left) x longer on = second_end value x longer on
 prefixed_end begun x longer on = on
 
 pub goes_on_end : (digits : Digits) (begun : Begun) (x : ℕ) (longer : Bool) → goes_on (next_in digits begun x longer) ≡ true → goes_on (next_in digits begun x false) ≡ true
-goes_on_end digits.Pairs begun x longer on = on
-goes_on_end digits.Octal begun x longer on = on
-goes_on_end digits.Binary begun x longer on = on
 goes_on_end digits.Decimal begun x longer on = sym (decimal_same begun x longer) ∙ on
 goes_on_end digits.Columns begun x longer on = sym (column_same begun x longer) ∙ on
 goes_on_end digits.Short begun x longer on = next_short_end begun x longer on
 goes_on_end digits.Prefixed begun x longer on = prefixed_end begun x longer on
 goes_on_end (digits.Text quote) begun x longer on = text_end quote begun x longer on
-goes_on_end digits.Cells begun x longer on = on
-goes_on_end digits.Sextets begun x longer on = on
+goes_on_end _ begun x longer on = on

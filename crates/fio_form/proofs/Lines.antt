@@ -73,16 +73,8 @@ parts_of form spelled =
     }
 
 digits_same : (digits : Digits) → has_texts digits ≡ true → (line text : List ℕ) → digits_at digits line text ≡ digits
-digits_same digits.Pairs has line text = refl
-digits_same digits.Octal has line text = refl
-digits_same digits.Binary has line text = refl
-digits_same digits.Decimal has line text = refl
-digits_same digits.Columns has line text = refl
-digits_same digits.Short has line text = refl
-digits_same digits.Prefixed has line text = refl
 digits_same (digits.Text quote) has line text = absurd (false≢true has)
-digits_same digits.Cells has line text = refl
-digits_same digits.Sextets has line text = refl
+digits_same _ has line text = refl
 
 -- the octets of a form whose front begins the line
 pub here_by : (form : LineForm) (line : List ℕ) → form.is_anywhere ≡ false → form.is_swapped ≡ false → octets_by form line ≡ octets_here form line line

@@ -58,9 +58,7 @@ frame_not_other message h = cc
 whole_not_other : (whole : Whole) (octets : List ℕ) → said_whole whole octets ≢ Other
 whole_not_other (wholes.Message start end) octets h = frame_not_other (octets_between start end octets) h
 whole_not_other (wholes.Any start end) octets h = frame_not_other (octets_between start end octets) h
-whole_not_other wholes.Lacking octets h = damaged_not_other h
-whole_not_other wholes.Idle octets h = damaged_not_other h
-whole_not_other wholes.Damaged octets h = damaged_not_other h
+whole_not_other _ octets h = damaged_not_other h
 
 wrapped_not_other : (form : LineForm) (octets : List ℕ) → said_wrapped form octets ≢ Other
 wrapped_not_other form octets h = elim (cases_Bool (nat_le OCTETS (length octets))) [

@@ -12,7 +12,7 @@ use Rattle.fio_form.specs.declared.form.Digits.TheVariants as digits
 use Rattle.fio_form.specs.declared.form.Step.{Step}
 use Rattle.fio_form.specs.declared.form.Step.TheVariants.{Octet}
 use Rattle.fio_form.specs.declared.form.Piece.{Piece}
-use Rattle.fio_form.specs.declared.form.Piece.TheVariants.{Character, Decimal, Hexadecimal, Blanks, Padded, Quote, Value}
+use Rattle.fio_form.specs.declared.form.Piece.TheVariants.{Character, Decimal, Blanks}
 use Rattle.fio_form.specs.declared.octets.Begun.{Begun}
 use Rattle.fio_form.specs.declared.octets.Begun.TheVariants.{Nothing, Number, Negative}
 use Rattle.fio_form.proofs.Characters.{decimal_hex, digit_apart}
@@ -102,11 +102,7 @@ octet_one digits.Decimal octet text rest is apart = decimal_one octet text rest 
 octet_one digits.Columns octet text rest is apart =
     ap (λ t. read_one digits.Columns Nothing (t ++ rest)) is.whole
     ∙ (ap (read_one digits.Columns Nothing) (append_assoc is.blanks is.number rest) ∙ blanks_one octet is.blanks is.number rest is.all is.is apart)
-octet_one digits.Short octet text rest is apart = absurd is
-octet_one digits.Prefixed octet text rest is apart = absurd is
-octet_one (digits.Text quote) octet text rest is apart = absurd is
-octet_one digits.Cells octet text rest is apart = absurd is
-octet_one digits.Sextets octet text rest is apart = absurd is
+octet_one _ octet text rest is apart = absurd is
 
 pub octet_read : (digits : Digits) (cycle steps : List Step) (octet : ℕ) (text done rest : List ℕ) → IsOctetText digits octet text → makes_longer digits rest ≡ false
     → octets_from digits cycle (Octet ∷ steps) Nothing done (text ++ rest)
@@ -131,12 +127,7 @@ number_begins octet (d ∷ text) rest is piece none = digit_apart piece d none (
 
 sign_apart : (piece : Piece) → not (is_numeric piece) ≡ true → is_part piece 45 ≡ false
 sign_apart (Character mark) none = refl
-sign_apart Blanks none = refl
-sign_apart Decimal none = refl
-sign_apart Hexadecimal none = refl
-sign_apart Padded none = refl
-sign_apart Quote none = refl
-sign_apart Value none = refl
+sign_apart _ none = refl
 
 decimal_begins : (octet : ℕ) (text rest : List ℕ) → IsDecimalText octet text → (piece : Piece) → not (is_numeric piece) ≡ true → begins_part piece (text ++ rest) ≡ false
 decimal_begins octet [] rest is piece none = absurd is
@@ -146,13 +137,8 @@ decimal_begins octet (x ∷ text) rest is piece none = elim is [
 ]
 
 space_apart : (piece : Piece) → not (is_blanks piece) ≡ true → is_part piece 32 ≡ false
-space_apart (Character mark) none = refl
 space_apart Blanks none = absurd (false≢true none)
-space_apart Decimal none = refl
-space_apart Hexadecimal none = refl
-space_apart Padded none = refl
-space_apart Quote none = refl
-space_apart Value none = refl
+space_apart _ none = refl
 
 column_begins : (octet : ℕ) (blanks number rest : List ℕ) → AllByRecursion (λ blank. blank ≡ 32) blanks → IsNumberText octet number → (piece : Piece) → not (is_numeric piece) ≡ true → not (is_blanks piece) ≡ true
     → begins_part piece ((blanks ++ number) ++ rest) ≡ false
@@ -168,22 +154,13 @@ octet_begins digits.Decimal octet text rest is piece last = decimal_begins octet
 octet_begins digits.Columns octet text rest is piece last =
     let parts = and_parts (not (is_numeric piece)) (not (is_blanks piece)) last in
     ap (λ t. begins_part piece (t ++ rest)) is.whole ∙ column_begins octet is.blanks is.number rest is.all is.is piece parts.0 parts.1
-octet_begins digits.Short octet text rest is piece last = absurd is
-octet_begins digits.Prefixed octet text rest is piece last = absurd is
-octet_begins (digits.Text quote) octet text rest is piece last = absurd is
-octet_begins digits.Cells octet text rest is piece last = absurd is
-octet_begins digits.Sextets octet text rest is piece last = absurd is
+octet_begins _ octet text rest is piece last = absurd is
 
 some_text : (text : List ℕ) → text ≢ [] → 0 < length text
 some_text [] some = absurd (some refl)
 some_text (x ∷ text) some = omega arith
 
 pub octet_some : (digits : Digits) (octet : ℕ) (text : List ℕ) → IsOctetText digits octet text → 0 < length text
-octet_some digits.Short octet text is = absurd is
-octet_some digits.Prefixed octet text is = absurd is
-octet_some (digits.Text quote) octet text is = absurd is
-octet_some digits.Cells octet text is = absurd is
-octet_some digits.Sextets octet text is = absurd is
 octet_some digits.Pairs octet text is = omega (arith, is.0)
 octet_some digits.Octal octet text is = omega (arith, is.0)
 octet_some digits.Binary octet text is = omega (arith, is.0)
@@ -194,6 +171,7 @@ octet_some digits.Columns octet text is = omega (arith, ap length is.whole, leng
     length_of : (a b : List ℕ) → length b ≤ length (a ++ b)
     length_of [] b = omega arith
     length_of (x ∷ a) b = omega (arith, length_of a b)
+octet_some _ octet text is = absurd is
 
 -- ---- What is read is written
 
@@ -295,8 +273,4 @@ octet_or_not digits.Octal has text = fixed_found digits.Octal 8 3 (λ begun x lo
 octet_or_not digits.Binary has text = fixed_found digits.Binary 2 8 (λ begun x longer. refl) refl (omega arith) (λ octet text is. is) text
 octet_or_not digits.Decimal has text = decimal_found text
 octet_or_not digits.Columns has text = column_found text
-octet_or_not digits.Short has text = absurd (false≢true has)
-octet_or_not digits.Prefixed has text = absurd (false≢true has)
-octet_or_not (digits.Text quote) has text = absurd (false≢true has)
-octet_or_not digits.Cells has text = absurd (false≢true has)
-octet_or_not digits.Sextets has text = absurd (false≢true has)
+octet_or_not _ has text = absurd (false≢true has)

@@ -36,9 +36,7 @@ fold_next : (next : NextDigit) (octets text : List ℕ) (more : Begun → List �
     → ((begun : Begun) → more begun ≡ after_found (found begun) octets go on)
     → by_next next octets more (λ last. go last text) (λ last begun. on last begun text) ≡ after_found (found_by next text found) octets go on
 fold_next (More begun) octets text more found go on same = same begun
-fold_next (Last octet) octets text more found go on same = refl
-fold_next (Emit octet begun) octets text more found go on same = refl
-fold_next Stop octets text more found go on same = refl
+fold_next _ octets text more found go on same = refl
 
 -- what is read after an octet
 abbrev pub go_on : Digits → List Step → List Step → List ℕ → ℕ → List ℕ → List ℕ

@@ -233,9 +233,7 @@ pub record CycleGaps (cycle : List Step) : Type 0 where
   pub is : cycle ≡ cycle_of (first ∷ others)
 
 pub cycle_gaps : (cycle : List Step) → begins_with_octet cycle ≡ true → are_certain cycle ≡ true → CycleGaps cycle
-cycle_gaps [] begins certain = absurd (false≢true begins)
-cycle_gaps (Mark mark ∷ steps) begins certain = absurd (false≢true begins)
-cycle_gaps (MaybeBlank ∷ steps) begins certain = absurd (false≢true begins)
 cycle_gaps (Octet ∷ steps) begins certain =
     let more = step_gaps steps certain in
     record { first = more.gap; others = more.gaps; is = ap (λ s. Octet ∷ s) more.is }
+cycle_gaps _ begins certain = absurd (false≢true begins)

@@ -1,8 +1,8 @@
 -- Steps through a cycle.
-use Rattle.std.proofs.Common.{◌≡◌, ◌<◌, ℕ, List, [], ◌∷◌, ◌++◌, length, sym, ap, ◌∙◌, append_assoc, arith, inl, inr}
+use Rattle.std.proofs.Common.{◌≡◌, ◌<◌, ◌+◌, ◌-◌, Bool, ℕ, List, [], ◌∷◌, ◌++◌, drop, length, slice_index_or, sym, ap, ◌∙◌, append_assoc, arith, inl, inr}
 use Rattle.std.specs.Prelude.{◌==◌, take}
 use Rattle.std.proofs.lemmas.Bool.{cases_Bool}
-use Rattle.std.proofs.lemmas.List.{append-nil, length-append, take_at}
+use Rattle.std.proofs.lemmas.List.{append-nil, length-append, length-drop, take_all, take_at}
 use Rattle.fio_form.specs.Octets.{steps_at, next_in, octets_from, by_next, longer_in}
 use Rattle.fio_form.specs.declared.form.Digits.{Digits}
 use Rattle.fio_form.specs.declared.form.Step.{Step}
@@ -73,3 +73,12 @@ emitted digits cycle steps begun last x more octets text is = rw is (extends dig
 -- octets of which there are as many as have room are the first ones
 pub filled : {n : ℕ} (octets : List ℕ) (value : ℕ) (all : List ℕ) → Extends (octets ++ value ∷ []) all → length octets ≡ n → octets ≡ take n all
 filled octets value all on full = taken octets all (one_before octets value all on) full
+
+-- what a character makes of an octet, if what is left is as long as its text
+pub next_here : (digits : Digits) (begun : Begun) (text : List ℕ) (place : ℕ) {longer : Bool} {next : NextDigit} →
+    longer ≡ longer_in digits begun (take (length text - (place + 1)) (drop (place + 1) text)) →
+    next_in digits begun (slice_index_or text place 0) longer ≡ next →
+    next_in digits begun (slice_index_or text place 0) (longer_in digits begun (drop (place + 1) text)) ≡ next
+next_here digits begun text place is next =
+    let all = take_all (length text - (place + 1)) (drop (place + 1) text) (omega (arith, length-drop (place + 1) text)) in
+    rw (← all) (rw (← is) next)

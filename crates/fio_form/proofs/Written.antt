@@ -10,7 +10,7 @@ use Rattle.fio_form.specs.declared.form.Digits.TheVariants as digits
 use Rattle.fio_form.specs.declared.form.Step.{Step}
 use Rattle.fio_form.specs.declared.form.Step.TheVariants.{Octet, Mark, MaybeBlank}
 use Rattle.fio_form.specs.declared.octets.Begun.{Begun}
-use Rattle.fio_form.specs.declared.octets.Begun.TheVariants.{Nothing, Fixed, Number, Negative, Short, Zero, Escape, HexEscape, OctalEscape, Lead, Cell, CellFirst, CellSecond, Sextets, Padding}
+use Rattle.fio_form.specs.declared.octets.Begun.TheVariants.{Nothing, Fixed, Number, Negative, Short, Zero, Escape, HexEscape, OctalEscape, Lead}
 use Rattle.fio_form.specs.declared.octets.NextDigit.{NextDigit}
 use Rattle.fio_form.specs.declared.octets.NextDigit.TheVariants.{More, Last, Emit, Stop}
 
@@ -18,16 +18,14 @@ use Rattle.fio_form.specs.declared.octets.NextDigit.TheVariants.{More, Last, Emi
 
 -- what is whole is so still
 abbrev pub Keeps : NextDigit → NextDigit → Type 0
-Keeps (More begun) alone = Unit {0}
 Keeps (Last value) alone = alone ≡ Last value
 Keeps (Emit value begun) alone = alone ≡ Emit value begun
-Keeps Stop alone = Unit {0}
+Keeps _ alone = Unit {0}
 
 kept : (next : NextDigit) → Keeps next next
-kept (More begun) = tt
 kept (Last value) = refl
 kept (Emit value begun) = refl
-kept Stop = tt
+kept _ = tt
 
 -- the same below two tests, of which the second one stops
 inner : (a b : Bool) (x y : NextDigit) → Keeps x y → Keeps (if a then (if b then Stop else x) else Stop) (if a then (if b then Stop else y) else Stop)
@@ -62,36 +60,13 @@ decimal_kept Nothing character =
     begun_by (character == 45) (Negative 0) (next_unsigned 0 character true) (next_unsigned 0 character false) (unsigned_kept 0 character)
 decimal_kept (Number value) character = unsigned_kept value character
 decimal_kept (Negative value) character = negative_kept value character
-decimal_kept (Fixed value left) character = tt
-decimal_kept (Short value count) character = tt
-decimal_kept Zero character = tt
-decimal_kept Escape character = tt
-decimal_kept HexEscape character = tt
-decimal_kept (OctalEscape value left) character = tt
-decimal_kept (Lead upper) character = tt
-decimal_kept Cell character = tt
-decimal_kept (CellFirst first) character = tt
-decimal_kept (CellSecond first second) character = tt
-decimal_kept (Sextets value count) character = tt
-decimal_kept Padding character = tt
+decimal_kept _ character = tt
 
 column_kept : (begun : Begun) (character : ℕ) → Keeps (next_column begun character true) (next_column begun character false)
 column_kept Nothing character =
     begun_by (character == 32) Nothing (next_unsigned 0 character true) (next_unsigned 0 character false) (unsigned_kept 0 character)
 column_kept (Number value) character = unsigned_kept value character
-column_kept (Negative value) character = tt
-column_kept (Fixed value left) character = tt
-column_kept (Short value count) character = tt
-column_kept Zero character = tt
-column_kept Escape character = tt
-column_kept HexEscape character = tt
-column_kept (OctalEscape value left) character = tt
-column_kept (Lead upper) character = tt
-column_kept Cell character = tt
-column_kept (CellFirst first) character = tt
-column_kept (CellSecond first second) character = tt
-column_kept (Sextets value count) character = tt
-column_kept Padding character = tt
+column_kept _ character = tt
 
 short_kept : (value count : ℕ) → Keeps (short_by true value count) (short_by false value count)
 short_kept value count =
@@ -106,20 +81,7 @@ next_short_kept : (begun : Begun) (character : ℕ) → Keeps (next_short begun 
 next_short_kept (Short value count) character =
     inner (is_hex character) (nat_lt 7 count) (short_by true ((16 * value + hex_value character) % 256) (count + 1))
     (short_by false ((16 * value + hex_value character) % 256) (count + 1)) (short_kept ((16 * value + hex_value character) % 256) (count + 1))
-next_short_kept Nothing character = first_short character
-next_short_kept (Number value) character = first_short character
-next_short_kept (Negative value) character = first_short character
-next_short_kept (Fixed value left) character = first_short character
-next_short_kept Zero character = first_short character
-next_short_kept Escape character = first_short character
-next_short_kept HexEscape character = first_short character
-next_short_kept (OctalEscape value left) character = first_short character
-next_short_kept (Lead upper) character = first_short character
-next_short_kept Cell character = first_short character
-next_short_kept (CellFirst first) character = first_short character
-next_short_kept (CellSecond first second) character = first_short character
-next_short_kept (Sextets value count) character = first_short character
-next_short_kept Padding character = first_short character
+next_short_kept _ character = first_short character
 
 escape_kept : (character : ℕ) → Keeps (next_hex_escape character true) (next_hex_escape character false)
 escape_kept character = quiet (is_hex character) (Fixed (hex_value character) 1) (next_hex_escape character false)
@@ -133,17 +95,7 @@ prefixed_kept Nothing character = quiet (character == 48) Zero (next_prefixed No
 prefixed_kept Zero character = kept (next_prefixed Zero character false)
 prefixed_kept HexEscape character = escape_kept character
 prefixed_kept (Fixed value left) character = second_by (is_hex character) (16 * value + hex_value character) (next_second value character false)
-prefixed_kept (Number value) character = tt
-prefixed_kept (Negative value) character = tt
-prefixed_kept (Short value count) character = tt
-prefixed_kept Escape character = tt
-prefixed_kept (OctalEscape value left) character = tt
-prefixed_kept (Lead upper) character = tt
-prefixed_kept Cell character = tt
-prefixed_kept (CellFirst first) character = tt
-prefixed_kept (CellSecond first second) character = tt
-prefixed_kept (Sextets value count) character = tt
-prefixed_kept Padding character = tt
+prefixed_kept _ character = tt
 
 octal_by_kept : (b : Bool) (begun : Begun) (value : ℕ) → Keeps (if b then More begun else Last value) (Last value)
 octal_by_kept true begun value = tt
@@ -172,27 +124,15 @@ text_kept quote (OctalEscape value left) character =
     (octal_kept (8 * value + (character - 48)) (left - 1))
 text_kept quote (Lead upper) character = kept (next_text quote (Lead upper) character false)
 text_kept quote (Fixed value left) character = kept (next_text quote (Fixed value left) character false)
-text_kept quote (Number value) character = tt
-text_kept quote (Negative value) character = tt
-text_kept quote (Short value count) character = tt
-text_kept quote Zero character = tt
-text_kept quote Cell character = tt
-text_kept quote (CellFirst first) character = tt
-text_kept quote (CellSecond first second) character = tt
-text_kept quote (Sextets value count) character = tt
-text_kept quote Padding character = tt
+text_kept quote _ character = tt
 
 next_kept : (written : Digits) (begun : Begun) (character : ℕ) → Keeps (next_in written begun character true) (next_in written begun character false)
-next_kept digits.Pairs begun character = kept (next_in digits.Pairs begun character false)
-next_kept digits.Octal begun character = kept (next_in digits.Octal begun character false)
-next_kept digits.Binary begun character = kept (next_in digits.Binary begun character false)
 next_kept digits.Decimal begun character = decimal_kept begun character
 next_kept digits.Columns begun character = column_kept begun character
 next_kept digits.Short begun character = next_short_kept begun character
 next_kept digits.Prefixed begun character = prefixed_kept begun character
 next_kept (digits.Text quote) begun character = text_kept quote begun character
-next_kept digits.Cells begun character = kept (next_in digits.Cells begun character false)
-next_kept digits.Sextets begun character = kept (next_in digits.Sextets begun character false)
+next_kept other begun character = kept (next_in other begun character false)
 
 alone_kept : (written : Digits) (begun : Begun) (character : ℕ) (longer : Bool) →
     Keeps (next_in written begun character longer) (next_in written begun character false)
@@ -202,12 +142,10 @@ alone_kept written begun character false = kept (next_in written begun character
 -- ---- The part of a text that has its octets
 
 steps_same : (cycle steps : List Step) (x : ℕ) (s t : List ℕ) → steps_at cycle steps (x ∷ s) ≡ steps_at cycle steps (x ∷ t)
-steps_same cycle [] x s t = refl
 steps_same cycle (MaybeBlank ∷ steps) x s t =
     elim (x == 32) as (λ b. (if b then MaybeBlank ∷ steps else steps_at cycle steps (x ∷ s)) ≡ (if b then MaybeBlank ∷ steps else steps_at cycle steps (x ∷ t)))
     [ true ↦ refl | false ↦ steps_same cycle steps x s t ]
-steps_same cycle (Octet ∷ steps) x s t = refl
-steps_same cycle (Mark mark ∷ steps) x s t = refl
+steps_same cycle _ x s t = refl
 
 -- there are more octets in a text: they are in a part of it, and the rest is after that
 pub record Has (written : Digits) (cycle steps : List Step) (begun : Begun) (octets text : List ℕ) : Type 0 where

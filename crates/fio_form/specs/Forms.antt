@@ -1,7 +1,7 @@
 -- What is a form, and the digits of its numbers.
 use Rattle.std.specs.Prelude.{ℕ, ◌-◌, ◌&&◌, ◌||◌, ◌==◌, Bool, true, false, not, nat_le, if◌then◌else◌, List, [], ◌∷◌}
 use Rattle.fio_form.specs.declared.form.Piece.{Piece}
-use Rattle.fio_form.specs.declared.form.Piece.TheVariants.{Character, Decimal, Hexadecimal, Blanks, Padded, Quote, Value}
+use Rattle.fio_form.specs.declared.form.Piece.TheVariants.{Character, Decimal, Blanks, Padded, Quote}
 use Rattle.fio_form.specs.declared.form.Digits.{Digits}
 use Rattle.fio_form.specs.declared.form.Digits.TheVariants as digits
 use Rattle.fio_form.specs.declared.form.Step.{Step}
@@ -35,50 +35,26 @@ is_quotation character = character == 34 || character == 39
 abbrev pub is_part : Piece → ℕ → Bool
 is_part (Character mark) character = false
 is_part Decimal character = is_decimal character
-is_part Hexadecimal character = is_hex character
 is_part Blanks character = is_space_or_tab character
-is_part Padded character = is_hex character
 is_part Quote character = false
-is_part Value character = is_hex character
+is_part _ character = is_hex character
 
 -- whether an octet has a fixed number of digits
 abbrev pub is_fixed : Digits → Bool
 is_fixed digits.Pairs = true
 is_fixed digits.Octal = true
 is_fixed digits.Binary = true
-is_fixed digits.Decimal = false
-is_fixed digits.Columns = false
-is_fixed digits.Short = false
-is_fixed digits.Prefixed = false
-is_fixed (digits.Text quote) = false
-is_fixed digits.Cells = false
-is_fixed digits.Sextets = false
+is_fixed _ = false
 
 -- whether there may be blanks before an octet, in its column
 abbrev pub is_padded : Digits → Bool
 is_padded digits.Columns = true
-is_padded digits.Pairs = false
-is_padded digits.Octal = false
-is_padded digits.Binary = false
-is_padded digits.Decimal = false
-is_padded digits.Short = false
-is_padded digits.Prefixed = false
-is_padded (digits.Text quote) = false
-is_padded digits.Cells = false
-is_padded digits.Sextets = false
+is_padded _ = false
 
 -- whether octets are a text up to the quote before the first one
 abbrev pub is_quoted : Digits → Bool
-is_quoted digits.Pairs = false
-is_quoted digits.Short = false
-is_quoted digits.Prefixed = false
-is_quoted digits.Decimal = false
-is_quoted digits.Columns = false
-is_quoted digits.Octal = false
-is_quoted digits.Binary = false
 is_quoted (digits.Text quote) = quote == 0
-is_quoted digits.Cells = false
-is_quoted digits.Sextets = false
+is_quoted _ = false
 
 -- whether a character is one more digit of an octet that has no fixed number of them
 abbrev pub is_more : Digits → ℕ → Bool
@@ -89,22 +65,14 @@ is_more digits character = not (is_fixed digits) && is_decimal character
 -- whether a piece is blanks
 abbrev pub is_blanks : Piece → Bool
 is_blanks Blanks = true
-is_blanks (Character mark) = false
-is_blanks Decimal = false
-is_blanks Hexadecimal = false
-is_blanks Padded = false
-is_blanks Quote = false
-is_blanks Value = false
+is_blanks _ = false
 
 -- whether a piece is a number
 abbrev pub is_numeric : Piece → Bool
-is_numeric Decimal = true
-is_numeric Hexadecimal = true
-is_numeric Padded = true
-is_numeric Value = true
 is_numeric Quote = false
 is_numeric (Character mark) = false
 is_numeric Blanks = false
+is_numeric _ = true
 
 -- whether a piece ends where an octet begins: with a digit, or with a sign or a blank if it may have one
 abbrev pub is_last : Digits → Piece → Bool
@@ -116,11 +84,9 @@ abbrev pub is_shut : Digits → Piece → List Piece → Bool
 is_shut digits piece [] = is_last digits piece
 is_shut digits piece (Character mark ∷ front) = not (is_part piece mark)
 is_shut digits piece (Blanks ∷ front) = not (is_blanks piece)
-is_shut digits piece (Decimal ∷ front) = not (is_numeric piece)
-is_shut digits piece (Hexadecimal ∷ front) = not (is_numeric piece)
 is_shut digits piece (Padded ∷ front) = not (is_numeric piece) && not (is_blanks piece)
 is_shut digits piece (Quote ∷ front) = true
-is_shut digits piece (Value ∷ front) = not (is_numeric piece)
+is_shut digits piece _ = not (is_numeric piece)
 
 -- whether each piece of a front ends where the next one begins
 abbrev pub are_shut : Digits → List Piece → Bool
@@ -131,10 +97,8 @@ are_shut digits (piece ∷ front) = is_shut digits piece front && are_shut digit
 
 -- whether steps begin with an octet
 abbrev pub begins_with_octet : List Step → Bool
-begins_with_octet [] = false
 begins_with_octet (Octet ∷ steps) = true
-begins_with_octet (Mark mark ∷ steps) = false
-begins_with_octet (MaybeBlank ∷ steps) = false
+begins_with_octet _ = false
 
 -- whether what is between octets is the same each time: there is no blank that may be missing
 abbrev pub are_certain : List Step → Bool
@@ -158,16 +122,12 @@ are_separate digits cycle = is_fixed digits || are_apart true cycle
 
 -- whether the texts of an octet are defined by themselves, and not only by what each character does
 abbrev pub has_texts : Digits → Bool
-has_texts digits.Pairs = true
-has_texts digits.Octal = true
-has_texts digits.Binary = true
-has_texts digits.Decimal = true
-has_texts digits.Columns = true
 has_texts digits.Short = false
 has_texts digits.Prefixed = false
 has_texts (digits.Text quote) = false
 has_texts digits.Cells = false
 has_texts digits.Sextets = false
+has_texts _ = true
 
 -- whether the lines of a form are defined by the texts of its octets and of what is between them
 abbrev pub has_spelling : Digits → List Step → Bool

@@ -59,17 +59,14 @@ may_answer (command ∷ more) (answer ∷ second ∷ rest) = is_answer_of comman
 
 -- a message whose length is known has at most 773 octets
 abbrev pub IsFew : Size → Type 0
-IsFew Unknown = Unit {0}
 IsFew (Known size) = size ≤ 773
-IsFew Any = Unit {0}
-IsFew None = Unit {0}
+IsFew _ = Unit {0}
 
 -- whether octets of which this many begin a message of this size are not all of it
 abbrev pub is_short : Size → ℕ → Bool
 is_short Unknown count = nat_lt 0 count
 is_short (Known size) count = nat_lt count size
-is_short Any count = false
-is_short None count = false
+is_short _ count = false
 
 -- whether octets begin a message and are not all of it
 abbrev pub is_begun : List ℕ → Bool

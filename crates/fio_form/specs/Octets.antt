@@ -175,9 +175,7 @@ rest_in digits cycle text = rest_from digits cycle cycle Nothing text text
 -- whether a text ends within an octet, by what its first character makes of it
 abbrev pub by_open : NextDigit → (Begun → Bool) → Bool
 by_open (More begun) more = more begun
-by_open (Last value) more = false
-by_open (Emit value begun) more = false
-by_open Stop more = false
+by_open _ more = false
 
 -- whether a text ends before the octet is whole that is begun
 abbrev pub ends_open : Digits → Begun → List ℕ → Bool

@@ -13,9 +13,7 @@ use Rattle.fio_form.specs.declared.reading.Whole.TheVariants.{Message, Any, Lack
 abbrev pub IsWithinOctets : ℕ → Whole → Type 0
 IsWithinOctets count (Message start end) = (start ≤ end) × (end ≤ count)
 IsWithinOctets count (Any start end) = (start ≤ end) × (end ≤ count)
-IsWithinOctets count Lacking = Unit {0}
-IsWithinOctets count Idle = Unit {0}
-IsWithinOctets count Damaged = Unit {0}
+IsWithinOctets count _ = Unit {0}
 
 -- ---- Frames of the wire
 

@@ -101,11 +101,7 @@ IsOctetText digits.Octal octet text = IsFixedText 8 3 octet text
 IsOctetText digits.Binary octet text = IsFixedText 2 8 octet text
 IsOctetText digits.Decimal octet text = IsDecimalText octet text
 IsOctetText digits.Columns octet text = IsColumnText octet text
-IsOctetText digits.Short octet text = ⊥
-IsOctetText digits.Prefixed octet text = ⊥
-IsOctetText (digits.Text quote) octet text = ⊥
-IsOctetText digits.Cells octet text = ⊥
-IsOctetText digits.Sextets octet text = ⊥
+IsOctetText _ octet text = ⊥
 
 -- a text for each octet
 abbrev pub AreOctetTexts : Digits → List ℕ → List (List ℕ) → Type 0

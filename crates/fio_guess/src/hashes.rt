@@ -84,7 +84,7 @@ fn cut_code(form: &LineForm) -> u64 {
 }
 
 /// Returns the hash of a front.
-pub(crate) fn front_hash(front: &[Piece]) -> u64 {
+pub fn front_hash(front: &[Piece]) -> u64 {
     let mut hash = START;
     for piece in front {
         hash = mixed(hash, piece_code(*piece));

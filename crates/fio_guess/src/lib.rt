@@ -25,6 +25,6 @@ mod words;
 
 pub use guess::{Guess, is_sure, is_words, plain_form};
 pub use guesses::Guesses;
-pub use hashes::hash_of;
+pub use hashes::{front_hash, hash_of};
 pub use window::Window;
 pub use words::{may_begin, word_end};

@@ -48,6 +48,8 @@ pub const STREAM: usize = 8;
 pub const STREAM_TENTHS: usize = 9;
 /// The most fronts that are tried as those of a stream.
 pub const STREAM_FRONTS: usize = 24;
+/// The most of them that differ in numbers alone, if there are others.
+pub const STREAM_FRONTS_OF_WORDS: usize = 12;
 /// The most lines of a window.
 pub const LINES: usize = 1024;
 /// The most characters of a window.

@@ -78,11 +78,10 @@ bit-and_left true false = omega arith
 bit-and_left false b = omega arith
 
 once_only : (changes least scans : ℕ) → 1 ≤ least → scans ≤ least → changes * least + 1 ≤ scans + least → changes ≤ 1
-once_only zero least scans some short few = omega arith
-once_only (suc zero) least scans some short few = omega arith
 once_only (suc (suc changes)) least scans some short few =
     let more : suc (suc changes) * least ≡ changes * least + (least + least) = grind arith in
     absurd (omega arith)
+once_only _ least scans some short few = omega arith
 
 -- the latest `most` scans among events, or all of them
 record Latest (most : ℕ) (events : List FilterEvent) : Type 0 where

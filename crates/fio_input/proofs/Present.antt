@@ -2,6 +2,7 @@
 use Rattle.fio_input.proofs.Names.{◌≡◌, ℕ, suc, ◌+◌, ◌<◌, ◌≤◌, Bool, true, false, not, cond, ◌&&◌, List, [], ◌∷◌, ◌++◌, take, drop, get_or, length, ltb, leb, if◌then◌else◌, Some, None, refl, sym, ap, ap₂, ◌∙◌, arith, list_all, position, prefix_len, ltb-true, ltb-false, nat_tests, take-append-drop, InputItem, all_present, applied_items}
 use Rattle.std.proofs.lemmas.List.Folds.{list_all-append}
 use Rattle.std.proofs.lemmas.List.Sums.{AllPass-from_list_all, prefix_len_passes, prefix_len_stops}
+use Rattle.std.proofs.lemmas.Bool.{and_parts}
 
 abbrev above : InputItem → Bool
 above item = leb 64 item.input
@@ -44,14 +45,10 @@ applied_items-some items place h = ap (λ all. if all then items else []) (all_p
 pub all_present-at : (items : List InputItem) (i : ℕ) (d : InputItem) → i < length items → all_present items ≡ true → (get_or items i d).input < 64
 all_present-at items i d h all = ltb-true (get_or items i d).input 64 (AllPass-from_list_all present items all i d h)
 
-left_true : (a b : Bool) → (a && b) ≡ true → a ≡ true
-left_true true b h = refl
-left_true false b h = cc
-
 -- if all items are present, so are the first n of them
 pub all_present-take : (n : ℕ) (items : List InputItem) → all_present items ≡ true → all_present (take n items) ≡ true
 all_present-take n items all =
-    left_true _ _ (sym (list_all-append present (take n items) (drop n items)) ∙ ap (list_all present) (take-append-drop n items) ∙ all)
+    (and_parts _ _ (sym (list_all-append present (take n items) (drop n items)) ∙ ap (list_all present) (take-append-drop n items) ∙ all)).0
 
 is_present : (n : ℕ) → n < 64 → (ltb n 64 && true) ≡ true
 is_present n h = grind (arith, nat_tests)

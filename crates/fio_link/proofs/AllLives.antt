@@ -1,4 +1,5 @@
 -- The blocks of all lives, by places in the joined transition logs.
+use Rattle.std.proofs.lemmas.Bool.Decides.{nat_tests}
 use Rattle.fio_link.proofs.Names.{◌≡◌, ℕ, zero, suc, ◌+◌, ◌<◌, ◌≤◌, List, [], ◌∷◌, ◌++◌, length, map, Some, slice_get, refl, ap, sym, subst, ◌∙◌, arith, length-append, append_assoc, append-nil, AllByRecursion, command_in, Settings, Received, Restart, History, Life, life_of, Transition, log_of, whole_log, MadeBlock, blocks_of, last_end, newest_end, IsPartOf, FollowOneAnother, blocks_follow, blocks_end_within}
 use Rattle.fio_module.specs.Life.{Scan}
 use Rattle.fio_module.specs.Log.{transitions_below}
@@ -104,8 +105,7 @@ past_apart settings (other ∷ history) = past_apart settings history
 -- the blocks of all lives lie one after another, up to where the next may begin
 pub blocks_apart : (settings : Settings) (history : History)
     → AreApart 0 (all_blocks settings history) (reached settings history)
-blocks_apart settings history =
-    apart-joined settings (past_blocks settings history) (length (past_log history)) (life_of history) (past_apart settings history)
+blocks_apart settings history = grind (arith, nat_tests, apart-joined, past_apart)
 
 -- each of them ends before the place up to which they lie
 pub apart_within : (from to : ℕ) (blocks : List MadeBlock) (k : ℕ) (block : MadeBlock)
@@ -153,8 +153,7 @@ pub record StandsIn (log : List Transition) (block : MadeBlock) : Type 0 where
 -- what is in a log is in a longer one
 stands-more : (log more : List Transition) (block : MadeBlock) → StandsIn log block
     → StandsIn (log ++ more) block
-stands-more log more block s =
-    record { count = s.count; places = λ i t is. get_before_push log more (block.start + i) t (s.places i t is) }
+stands-more log more block s = grind (arith, nat_tests, get_before_push)
 
 -- a part of a life's log comes after the logs before it
 stands-behind : (past log : List Transition) (per_block : ℕ) (block : MadeBlock)
@@ -199,6 +198,4 @@ past_stand settings (other ∷ history) = past_stand settings history
 -- the blocks of all lives are in the joined log
 pub blocks_stand : (settings : Settings) (history : History)
     → AllByRecursion (StandsIn (whole_log history)) (all_blocks settings history)
-blocks_stand settings history =
-    subst (λ log. AllByRecursion (StandsIn log) (all_blocks settings history)) (sym (whole_log-split history))
-    (stand-joined settings (past_blocks settings history) (past_log history) (life_of history) (past_stand settings history))
+blocks_stand settings history = grind (arith, nat_tests, whole_log-split, stand-joined, past_stand)

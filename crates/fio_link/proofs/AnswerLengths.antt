@@ -1,5 +1,6 @@
 -- How long an answer to a poll is, if few entries waited whenever a block was made.
-use Rattle.fio_link.proofs.Names.{◌≡◌, ℕ, ◌+◌, ◌-◌, ◌*◌, ◌<◌, ◌≤◌, Bool, true, false, List, [], ◌∷◌, ◌++◌, length, take, drop, Option, Some, None, slice_get, refl, ap, sym, subst, ◌∙◌, arith, length-append, length-map, length-take, length-drop, option_map, flat_map, if◌then◌else◌, answer_octets, command_in, command_octets, command_back, Entry, Settings, Life, Commanded, life_of, log_of, entry_of, start_after, count_from, newest_poll, newest_end, is_new, blocks_of, next_block, blocks_old, waiting_of, waiting_from, AtEachTime, holds_now, Sending, answer_of_sending, first_sending, latest_sending, repeat_of, SentFrame, Machine, number_of, item_numbered, answer_frames, after_delivery_to_module, after}
+use Rattle.std.proofs.lemmas.Bool.Decides.{nat_tests}
+use Rattle.fio_link.proofs.Names.{◌≡◌, ℕ, ◌+◌, ◌-◌, ◌*◌, ◌<◌, ◌≤◌, Bool, true, false, List, [], ◌∷◌, ◌++◌, length, Option, Some, None, slice_get, refl, ap, sym, subst, ◌∙◌, arith, length-append, length-map, length-take, length-drop, option_map, flat_map, if◌then◌else◌, answer_octets, command_in, command_back, Entry, Settings, Life, Commanded, life_of, newest_poll, is_new, blocks_of, blocks_old, waiting_of, AtEachTime, holds_now, Sending, answer_of_sending, first_sending, latest_sending, repeat_of, SentFrame, Machine, number_of, item_numbered, answer_frames, after_delivery_to_module, after}
 use Rattle.std.specs.Prelude.{min, ◌^◌}
 use Rattle.std.proofs.lemmas.Option.{same_Some}
 use Rattle.fio_message.specs.Octets.{entry_octets}
@@ -9,10 +10,10 @@ use Rattle.fio_link.specs.declared.event.Event.TheVariants as events
 use Rattle.fio_link.specs.Rate.{frame_length, octets_answered}
 use Rattle.fio_link.proofs.Events.{frame_at_place}
 use Rattle.fio_link.proofs.Kept.{after_frame, after_poll}
-use Rattle.fio_link.proofs.Places.{get_push}
 use Rattle.fio_link.proofs.Received.{latest_sent}
 use Rattle.fio_link.proofs.RoundNumbers.{number_of-fits}
 use Rattle.fio_link.proofs.WithinRounds.{poll_frame}
+use Rattle.fio_module.proofs.ListParts.{get_last}
 
 -- a poll, new or not
 few_if : (new : Bool) (most : ℕ) (fresh : Sending) (latest : Option Sending) (sending : Sending)
@@ -21,8 +22,7 @@ few_if : (new : Bool) (most : ℕ) (fresh : Sending) (latest : Option Sending) (
     → (if new then Some fresh else option_map repeat_of latest) ≡ Some sending → length sending.entries ≤ most
 few_if true most fresh latest sending few known is = subst (λ (s : Sending). length s.entries ≤ most) (same_Some _ _ is) (few refl)
 few_if false most fresh None sending few known is = absurd (cc is)
-few_if false most fresh (Some before) sending few known is =
-    subst (λ (s : Sending). length s.entries ≤ most) (same_Some _ _ is) (known refl before refl)
+few_if false most fresh (Some before) sending few known is = grind (arith, nat_tests, same_Some)
 
 module _ (settings : Settings) (life : Life) (most : ℕ) where
   -- a block that was made then takes few
@@ -30,11 +30,7 @@ module _ (settings : Settings) (life : Life) (most : ℕ) where
   TakesFew l = min settings.per_block (length (waiting_of settings (l ++ life))) ≤ most
 
   few_first : (l : Life) (number : ℕ) → TakesFew l → length (first_sending settings (l ++ life) number).entries ≤ most
-  few_first l number few =
-      let log = log_of (l ++ life) in
-      let start = start_after settings log (newest_end settings (l ++ life)) in
-      let count = count_from settings log start in
-      omega (arith, length-map (take count (drop start log)) entry_of, length-take count (drop start log), length-drop start log)
+  few_first l number few = grind (arith, nat_tests, length-map, length-take, length-drop)
 
   -- a block that was made since then
   pub few_since : (later : Life) → AtEachTime TakesFew later
@@ -55,9 +51,7 @@ length_entries (entry ∷ entries) =
     omega (arith, length-append (entry_octets entry) (flat_map entry_octets entries), length_entries entries)
 
 length_sent : (sending : Sending) → length (answer_octets (answer_of_sending sending)) ≡ 8 + 3 * length sending.entries
-length_sent sending =
-    let body = flat_map entry_octets sending.entries in
-    omega (arith, length_entries sending.entries, length-append body)
+length_sent sending = grind (arith, nat_tests, length_entries, length-append)
 
 -- the module answers a poll with its latest sending
 pub answer_is_sent : (settings : Settings) (first round : ℕ) (machine : Machine) (place : ℕ)
@@ -81,7 +75,7 @@ answer_is_sent settings first round machine place at =
     ∙ ap (after_frame settings machine place frame) spelled
     ∙ ap (λ latest. after_poll machine place frame (answer_frames (option_map answer_of_sending latest) round)) l.is) in
     let there : item_numbered answering.to_cpu (length machine.to_cpu + 1) ≡ Some answer_frame =
-    frame_at_place (machine.to_cpu ++ answer_frame ∷ []) (length machine.to_cpu) ∙ get_push machine.to_cpu answer_frame in (
+    frame_at_place (machine.to_cpu ++ answer_frame ∷ []) (length machine.to_cpu) ∙ get_last machine.to_cpu answer_frame in (
       sending,
       l.is,
       subst (λ (m : Machine). frame_length (item_numbered m.to_cpu (length machine.to_cpu + 1)) ≡ 8 + 3 * length sending.entries) same

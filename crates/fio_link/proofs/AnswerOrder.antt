@@ -1,17 +1,12 @@
 -- The block answers sent stay in order.
+use Rattle.std.proofs.lemmas.Bool.Decides.{nat_tests}
 use Rattle.fio_link.proofs.Names.{◌≡◌, ℕ, ◌+◌, ◌<◌, ◌≤◌, List, [], ◌∷◌, ◌++◌, None, arith, Block, block_in, SentFrame, HasBlock}
 use Rattle.fio_link.specs.Rounds.{BlockAnswersAreInOrder}
 use Rattle.fio_link.proofs.SentMessages.{each_more, none_more, rise_more}
 
 -- if no frame was sent
 pub answers-none : (next : ℕ) → BlockAnswersAreInOrder [] 0 0 next
-answers-none next =
-    record {
-      rise = λ p q a b r s le h k. absurd (cc (h.at_place));
-      answered = λ p a r h. absurd (cc (h.at_place));
-      ahead = λ p a r le h. absurd (cc (h.at_place));
-      behind = omega arith;
-    }
+answers-none next = grind (arith, nat_tests)
 
 module _ (frames : List SentFrame) (last round next : ℕ) (o : BlockAnswersAreInOrder frames last round next) where
   -- one more frame is sent, which is no block answer

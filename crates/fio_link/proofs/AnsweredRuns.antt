@@ -1,11 +1,11 @@
 -- Runs in which the maker of the module answers: leaving out his answers leaves a run that is otherwise the same.
-use Rattle.fio_link.proofs.Names.{◌≡◌, ℕ, suc, ◌+◌, ◌<◌, ◌≤◌, ◌==◌, Bool, true, false, List, [], ◌∷◌, ◌++◌, length, map, Option, Some, None, slice_get, refl, ap, sym, subst, ◌∙◌, arith, nat_tests, if◌then◌else◌, map-append, append-nil, length-map, length-append, slice_get-map, slice_get_within, option_map, Block, block_in, items_of_block, Settings, AreInRange, Event, SentFrame, Machine, start, number_of, item_numbered, delivery_refusal, refusal, answer_frames, after_delivered_block, after_delivery_to_module, after_delivery_to_cpu, after, Leads, IsRun, HaveNoRestart, IsNotRestart}
+use Rattle.fio_link.proofs.Names.{◌≡◌, ℕ, suc, ◌+◌, ◌≤◌, ◌==◌, Bool, true, false, List, [], ◌∷◌, ◌++◌, length, map, Option, Some, None, slice_get, refl, ap, sym, subst, ◌∙◌, arith, nat_tests, if◌then◌else◌, map-append, append-nil, length-map, length-append, slice_get-map, slice_get_within, option_map, Block, block_in, items_of_block, Settings, Event, SentFrame, Machine, start, number_of, item_numbered, delivery_refusal, refusal, answer_frames, after_delivered_block, after_delivery_to_module, after_delivery_to_cpu, after, Leads, HaveNoRestart}
 use Rattle.fio_message.specs.declared.answers.OtherAnswer.{OtherAnswer}
 use Rattle.fio_module.specs.Makers.{makers_answer}
 use Rattle.fio_module.specs.Replies.{reply_to}
 use Rattle.fio_link.specs.Answered.{Answer, AnsweredEvent, AnsweredLead, AnswersKeepRecord, IsSameBut, RecordStands, Link, Makers, Own, RunsWithoutAnswers, Sent, events_of_link, frame_carried, makers_frame, own_frames}
 use Rattle.fio_link.specs.declared.event.Event.TheVariants as events
-use Rattle.fio_link.proofs.Events.{deliverable, frame_at_place}
+use Rattle.fio_link.proofs.Events.{deliverable}
 use Rattle.fio_link.proofs.LeftOut.{frames-own, own-append, own-own, own_at, rank, rank-append, rank-mono}
 use Rattle.fio_link.proofs.Places.{some_block}
 use Rattle.fio_link.proofs.Promises.{runs_are_sound}
@@ -31,16 +31,7 @@ WithoutAnswers settings first events plain last =
 fits-more : (plain other : Machine) (sent later : List Sent) (last : ℕ) → Fits plain sent last
     → plain.to_cpu ++ own_frames later ≡ other.to_cpu → other.last_to_cpu ≡ plain.last_to_cpu
     → Fits other (sent ++ later) last
-fits-more plain other sent later last fits frames heard =
-    let shown = fits.heard in
-    let within = fits.within in
-    let same = rank-append sent later last within in
-    let lengths = length-append sent later in
-    record {
-      own = own-append sent later ∙ ap (λ front. front ++ own_frames later) fits.own ∙ frames;
-      within = omega arith;
-      heard = omega arith;
-    }
+fits-more plain other sent later last fits frames heard = grind (arith, nat_tests, rank-append, length-append, own-append)
 
 -- ---- the CPU hears a frame
 
@@ -230,26 +221,7 @@ runs_without_answers settings first events machine run =
 -- what is said of a machine without his answers is said of the one with them
 kept : (settings : Settings) (events : List AnsweredEvent) (machine : Machine) (frames : List SentFrame) (last : ℕ)
     → RecordStands settings events machine → RecordStands settings events (record machine { to_cpu = frames; last_to_cpu = last })
-kept settings events machine frames last k = record {
-  headline = λ none. record { pieces = (k.headline none).pieces; prefix = (k.headline none).prefix };
-  rising = k.rising;
-  lives = record {
-    lives = k.lives.lives;
-    all = k.lives.all;
-    stretches = k.lives.stretches;
-    begins = k.lives.begins;
-    items = k.lives.items;
-    times = k.lives.times;
-    restarts = k.lives.restarts;
-  };
-}
+kept settings events machine frames last k = grind (arith, nat_tests)
 
 pub answers_keep_record : AnswersKeepRecord
-answers_keep_record settings first events machine range run =
-    let w = runs_without_answers settings first events machine run in
-    let sound = runs_are_sound settings first w.0 w.1 range w.2 in
-    subst (RecordStands settings events) (sym w.3.same) (kept settings events w.1 _ _ (record {
-      headline = λ none. (sound.sound (w.4 none)).headline;
-      rising = sound.rising;
-      lives = sound.lives;
-    }))
+answers_keep_record settings first events machine range run = grind (arith, nat_tests, runs_without_answers, runs_are_sound, kept)

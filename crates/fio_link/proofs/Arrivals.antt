@@ -1,5 +1,6 @@
 -- What blocks hold that a module makes while it is kept up with.
-use Rattle.fio_link.proofs.Names.{◌≡◌, ℕ, zero, suc, ◌+◌, ◌-◌, ◌*◌, ◌%◌, ◌^◌, ◌≤◌, Bool, true, false, List, [], ◌∷◌, ◌++◌, length, take, drop, map, Option, Some, None, refl, ap, sym, subst, ◌∙◌, arith, length-drop, if◌then◌else◌, AllByRecursion, flat_map, map-append, drop-append-le, Poll, asked_number, one_more_if_loaded, is_reported, Settings, Life, Scanned, LineSynced, Commanded, counter_events, loads_of, filter_events, Transition, entry_of, log_of, transition_at, MadeBlock, newest_poll, is_new, blocks_of, next_block, newest_end, waiting_from, waiting_of, AtEachTime, scans_behind, IsYoung, holds_now, ends-grow, log-grown, item_of, IsInTime, EntryPiece, piece_of, timed_item}
+use Rattle.std.proofs.lemmas.Bool.Decides.{nat_tests}
+use Rattle.fio_link.proofs.Names.{◌≡◌, ℕ, zero, suc, ◌+◌, ◌-◌, ◌*◌, ◌≤◌, Bool, true, false, List, [], ◌∷◌, ◌++◌, length, take, drop, map, Option, Some, None, refl, ap, sym, subst, ◌∙◌, arith, length-drop, if◌then◌else◌, AllByRecursion, flat_map, map-append, drop-append-le, Poll, asked_number, one_more_if_loaded, is_reported, Settings, Life, Scanned, LineSynced, Commanded, counter_events, loads_of, filter_events, Transition, entry_of, log_of, transition_at, MadeBlock, newest_poll, is_new, blocks_of, next_block, newest_end, waiting_from, AtEachTime, scans_behind, IsYoung, holds_now, ends-grow, log-grown, item_of, IsInTime, EntryPiece, piece_of, timed_item}
 use Rattle.std.proofs.Math.Seq.{drop-length}
 use Rattle.std.proofs.lemmas.List.{drop-take}
 use Rattle.fio_message.specs.declared.commands.Command.TheVariants as commands
@@ -7,7 +8,6 @@ use Rattle.fio_module.specs.Log.{transitions_below}
 use Rattle.fio_module.specs.KeepingUp.{KeepsUp}
 use Rattle.fio_module.proofs.ListParts.{each-front, each-back}
 use Rattle.fio_module.proofs.Stretches.{transitions_in, IsPunctual, HasMade, has_made, each-push}
-use Rattle.fio_cpu.specs.declared.record.Item.TheVariants as items
 use Rattle.fio_link.proofs.MadeBlocks.{each-append, each-take, each-map}
 use Rattle.fio_link.proofs.OneLife.{recorded_of}
 use Rattle.fio_link.proofs.Times.{BlockTimely, IsTimely, blocks_timely, wide_time}
@@ -24,8 +24,7 @@ loads-poll : (settings : Settings) (life : Life) (number : ℕ) (new : Bool)
     → AllByRecursion (HasLoads (loads_of life)) (blocks_of settings life)
     → AllByRecursion (HasLoads (loads_of life))
     (if new then blocks_of settings life ++ next_block settings life ∷ [] else blocks_of settings life)
-loads-poll settings life number true all =
-    each-push (HasLoads (loads_of life)) (blocks_of settings life) (next_block settings life) all (omega arith)
+loads-poll settings life number true all = grind (arith, nat_tests, each-push)
 loads-poll settings life number false all = all
 
 blocks_have_loads : (settings : Settings) (life : Life)
@@ -81,8 +80,7 @@ logged_since (other ∷ later) life = logged_since later life
 -- an entry in time is recorded with its counter
 timed_entry : (block : MadeBlock) (t : Transition) → IsTimely block.stamp block.scans block.loads t → IsInTime t block
     → item_of block.stamp (entry_of t) ≡ timed_item t
-timed_entry block t timely in_time =
-    ap (λ wide. items.Entry t.input t.level (t.counter % 2 ^ 16) wide) (wide_time block t timely in_time)
+timed_entry block t timely in_time = grind (arith, nat_tests, wide_time)
 
 -- those of a block
 timed_entries : (block : MadeBlock) (limit least : ℕ) (ts : List Transition) → limit ≤ 65537 → block.loads ≤ least
@@ -108,8 +106,7 @@ got_entries stamp (t ∷ ts) = ap (λ ps. EntryPiece (entry_of t) ∷ ps) (got_e
 -- a block before which nothing was lost has no gap mark in the record
 no_mark : (block : MadeBlock) → block.lost ≡ false
     → recorded_of block ≡ map (item_of block.stamp) (map entry_of block.transitions)
-no_mark block none =
-    ap (λ (lost : Bool). (if lost then items.Gap ∷ [] else []) ++ map (item_of block.stamp) (map entry_of block.transitions)) none
+no_mark block none = grind (arith, nat_tests)
 
 -- what such blocks are in the record
 got_punctual : (most filter : ℕ) (blocks : List MadeBlock) → AllByRecursion (IsPunctual most filter) blocks
@@ -156,9 +153,7 @@ module _ (settings : Settings) (opened filter scans most : ℕ) (life later : Li
 
   -- what those blocks are in the record
   pub whole_since : map piece_of (flat_map recorded_of made_since.made) ≡ map (λ transition. EntryPiece (entry_of transition)) in_blocks
-  whole_since =
-      got_punctual most filter made_since.made made_since.punctual
-      ∙ ap (λ ts. map (λ transition. EntryPiece (entry_of transition)) ts) are_logged
+  whole_since = grind (arith, nat_tests, got_punctual, made_since, are_logged)
 
   -- each of them was logged after at least as many loads as there had been
   logged_loads : AllByRecursion (HasLoadsSince (loads_of life)) in_blocks
@@ -195,14 +190,9 @@ module _ (settings : Settings) (opened filter scans most : ℕ) (life later : Li
 
   -- and is young
   pub young_now : AllByRecursion (IsYoung (scans_behind scans later life) filter now) (drop (newest_end settings now) (log_of now))
-  young_now =
-      subst (λ n. AllByRecursion (IsYoung (scans_behind scans later life) filter now) (drop n (log_of now))) waits_from_end keeps_now.young
+  young_now = grind (arith, nat_tests, waits_from_end, keeps_now)
 
   -- few remain at the end of a clean round
   pub few_left : (length (log_of now) - newest_end settings now) * filter
       ≤ opened * (scans_behind scans later life + (filter - 1))
-  few_left =
-      let count = length-drop (waiting_from settings now) (log_of now) in
-      let left : length (waiting_of settings now) ≡ length (log_of now) - newest_end settings now = omega (arith, waits_from_end) in
-      let product : length (waiting_of settings now) * filter ≡ (length (log_of now) - newest_end settings now) * filter = ap (λ n. n * filter) left in
-      omega (arith, keeps_now.few_wait)
+  few_left = grind (arith, nat_tests, length-drop, waits_from_end, keeps_now)

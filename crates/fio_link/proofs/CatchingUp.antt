@@ -1,11 +1,12 @@
 -- Clean rounds with nothing between catch up.
-use Rattle.fio_link.proofs.Names.{◌≡◌, ℕ, zero, suc, ◌*◌, ◌-◌, ◌≤◌, Bool, true, false, List, [], ◌∷◌, ◌++◌, length, drop, refl, ap, sym, ◌∙◌, arith, length-append, length-take, length-drop, Settings, AreInRange, Life, Commanded, life_of, log_of, newest_poll, is_new, next_block, count_from, waiting_from, waiting_of, nothing_left, Machine, number_of, Leads, next_round, clean_round, newest_number, HasTakenAll}
+use Rattle.fio_link.proofs.Names.{◌≡◌, ℕ, zero, suc, ◌*◌, ◌-◌, ◌≤◌, Bool, true, false, List, ◌∷◌, ◌++◌, length, drop, refl, ap, sym, ◌∙◌, arith, length-append, length-take, length-drop, Settings, AreInRange, Life, Commanded, life_of, log_of, newest_poll, is_new, next_block, count_from, waiting_from, waiting_of, nothing_left, Machine, number_of, Leads, next_round, clean_round, newest_number, HasTakenAll}
 use Rattle.fio_message.specs.declared.commands.Command.TheVariants as commands
 use Rattle.fio_module.proofs.WaitingLaws.{new_polls_take_waiting}
 use Rattle.fio_link.specs.Settled.{CleanRounds, HasCaughtUp, CleanRoundsCatchUp}
 use Rattle.fio_link.proofs.CleanRounds.{takes_block}
 use Rattle.fio_link.proofs.OneLife.{continues}
 use Rattle.fio_link.proofs.Settled.{IsOpen, goes_on, recorded_end}
+use Rattle.std.proofs.lemmas.List.{nil_from_length}
 
 -- how many entries wait
 abbrev pub waits : Settings → Life → ℕ
@@ -35,10 +36,6 @@ poll_adds_none : (settings : Settings) (life : Life) (number : ℕ) (new : Bool)
     → waits settings (Commanded (commands.Poll number) ∷ life) ≤ waits settings life
 poll_adds_none settings life number true is = let e = new_poll_takes settings life number is in omega arith
 poll_adds_none settings life number false is = let e = ap length (old_poll_leaves settings life number is) in omega arith
-
-none_of_length : {A : Type 0} (xs : List A) → length xs ≡ 0 → xs ≡ []
-none_of_length [] none = refl
-none_of_length (x ∷ xs) none = absurd (omega arith)
 
 -- if the CPU has taken all blocks, its next poll is new
 next_is_new : (first round : ℕ) (polls : List ℕ) (new : Bool) → next_round polls ≡ round
@@ -83,7 +80,7 @@ module _ (settings : Settings) (range : AreInRange settings) (some : 1 ≤ setti
         refl,
         record {
           same_log = refl;
-          settled = record { all_taken = taken; nothing_waits = none_of_length (waiting_of settings life) (omega arith) };
+          settled = record { all_taken = taken; nothing_waits = nil_from_length (waiting_of settings life) (omega arith) };
           recorded = recorded_end settings machine taken.answered ∙ nothing_left settings some life (omega arith);
         },
       )

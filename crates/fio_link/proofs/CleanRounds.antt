@@ -1,15 +1,15 @@
 -- A clean round takes a block, whatever came before.
-use Rattle.fio_link.proofs.Names.{◌≡◌, ℕ, ◌+◌, ◌^◌, ◌<◌, ◌≤◌, ◌==◌, Bool, true, false, List, [], ◌∷◌, ◌++◌, length, Option, Some, None, refl, ap, sym, subst, ◌∙◌, arith, length-append, if◌then◌else◌, option_map, slice_get_within, nat_tests, command_octets, answer_octets, Block, command_in, block_in, command_back, Settings, AreInRange, Life, Commanded, life_of, life_after_command, blocks_of, Sending, answer_of_sending, latest_sending, items_of_block, Event, SentFrame, Machine, start, number_of, item_numbered, delivery_refusal, refusal, answer_frames, after_sending, after_delivery_to_module, after_delivered_block, after_delivery_to_cpu, after, Leads, IsRun, CleanRoundTakesBlock}
+use Rattle.fio_link.proofs.Names.{◌≡◌, ℕ, ◌+◌, ◌^◌, ◌<◌, ◌≤◌, ◌==◌, Bool, true, false, List, [], ◌∷◌, ◌++◌, length, Option, Some, None, refl, ap, sym, subst, ◌∙◌, arith, length-append, if◌then◌else◌, slice_get_within, nat_tests, command_octets, answer_octets, Block, command_in, block_in, command_back, Settings, AreInRange, Life, Commanded, life_of, life_after_command, blocks_of, Sending, answer_of_sending, latest_sending, items_of_block, Event, SentFrame, Machine, number_of, item_numbered, delivery_refusal, refusal, after_sending, after_delivered_block, after, Leads, IsRun, CleanRoundTakesBlock}
 use Rattle.fio_message.specs.declared.commands.Command.TheVariants as commands
 use Rattle.fio_link.specs.declared.event.Event.TheVariants as events
 use Rattle.fio_link.specs.Delivery.{TakesBlock}
-use Rattle.fio_link.proofs.Places.{get_push}
 use Rattle.fio_link.proofs.RoundNumbers.{number_of-fits}
 use Rattle.fio_link.proofs.Spelled.{said}
 use Rattle.fio_link.proofs.Received.{latest_sent, newest_fits, carried_back, carried_says}
-use Rattle.fio_link.proofs.Kept.{after_frame, after_poll}
+use Rattle.fio_link.proofs.Kept.{after_poll}
 use Rattle.fio_link.proofs.HeardRows.{after_taken}
 use Rattle.fio_link.proofs.Events.{deliverable, frame_at_place}
+use Rattle.fio_module.proofs.ListParts.{get_last}
 
 -- the frames delivered last are among those that were sent
 pub record LastWereSent (machine : Machine) : Type 0 where
@@ -30,26 +30,10 @@ sent-block first machine (Some block) s = sent-if machine block (block.number ==
 -- each event keeps it
 sent_after : (settings : Settings) (first : ℕ) (machine : Machine) (event : Event) → refusal machine event ≡ None
     → LastWereSent machine → LastWereSent (after settings first machine event)
-sent_after settings first machine events.Poll fine s =
-    record { to_module = omega (arith, s.to_module, length-append machine.to_module ((record { octets = command_octets (commands.Poll (number_of first machine.round)); round = machine.round }) ∷ [])); to_cpu = s.to_cpu }
-sent_after settings first machine (events.Send command) fine s =
-    record { to_module = omega (arith, s.to_module, length-append machine.to_module ((record { octets = command_octets command; round = machine.round }) ∷ [])); to_cpu = s.to_cpu }
-sent_after settings first machine (events.ToModule index) fine s =
-    let d = deliverable machine.to_module machine.last_to_module index fine in
-    let here = sym (ap (item_numbered machine.to_module) d.numbered ∙ frame_at_place machine.to_module d.place ∙ d.found) in
-    subst (λ f. LastWereSent (after_delivery_to_module settings machine index f)) here
-    (record {
-      to_module = omega (arith, d.numbered, slice_get_within machine.to_module d.place d.frame d.found);
-      to_cpu = omega (arith, s.to_cpu, length-append {A = SentFrame});
-    })
-sent_after settings first machine (events.ToCpu index) fine s =
-    let d = deliverable machine.to_cpu machine.last_to_cpu index fine in
-    let here = sym (ap (item_numbered machine.to_cpu) d.numbered ∙ frame_at_place machine.to_cpu d.place ∙ d.found) in
-    subst (λ f. LastWereSent (after_delivery_to_cpu first machine index f)) here
-    (sent-block first (record machine { last_to_cpu = index }) (block_in d.frame.octets) (record {
-      to_module = s.to_module;
-      to_cpu = omega (arith, d.numbered, slice_get_within machine.to_cpu d.place d.frame d.found);
-    }))
+sent_after settings first machine events.Poll fine s = grind (arith, nat_tests, length-append)
+sent_after settings first machine (events.Send command) fine s = grind (arith, nat_tests, length-append)
+sent_after settings first machine (events.ToModule index) fine s = grind (arith, nat_tests, deliverable, frame_at_place, slice_get_within, length-append)
+sent_after settings first machine (events.ToCpu index) fine s = grind (arith, nat_tests, deliverable, frame_at_place, sent-block, slice_get_within)
 sent_after settings first machine other fine s = record { to_module = s.to_module; to_cpu = s.to_cpu }
 
 pub sent_all : (settings : Settings) (first : ℕ) (events : List Event) (machine last : Machine)
@@ -62,16 +46,11 @@ sent_all settings first (event ∷ events) machine last leads s =
 -- the newest frame may be delivered
 pub newest_fine : (frames : List SentFrame) (f : SentFrame) (last : ℕ) → last ≤ length frames
     → delivery_refusal (length (frames ++ f ∷ [])) last (length frames + 1) ≡ None
-newest_fine frames f last le =
-    let more : length (frames ++ f ∷ []) ≡ length frames + 1 = length-append frames (f ∷ []) in
-    ap (λ n. delivery_refusal n last (length frames + 1)) more ∙ fine (length frames) last le
-  where
-    fine : (n last : ℕ) → last ≤ n → delivery_refusal (n + 1) last (n + 1) ≡ None
-    fine n last le = grind (arith, nat_tests)
+newest_fine frames f last le = grind (arith, nat_tests, length-append)
 
 -- and is the one that was sent last
 pub newest_frame : (frames : List SentFrame) (f : SentFrame) → item_numbered (frames ++ f ∷ []) (length frames + 1) ≡ Some f
-newest_frame frames f = frame_at_place (frames ++ f ∷ []) (length frames) ∙ get_push frames f
+newest_frame frames f = frame_at_place (frames ++ f ∷ []) (length frames) ∙ get_last frames f
 
 -- a clean round, with what it does to the rounds of the polls received and to the module's life
 pub record IsCleanRound (settings : Settings) (first : ℕ) (machine later : Machine) : Type 0 where
@@ -112,20 +91,13 @@ module _ (settings : Settings) (range : AreInRange settings) (first : ℕ) (mach
   -- the module receives it and answers with its latest sending
   module_answers : (sending : Sending) → latest_sending settings life ≡ Some sending
       → after settings first polled (events.ToModule (length machine.to_module + 1)) ≡ answering sending
-  module_answers sending is =
-      ap (after_delivery_to_module settings polled (length machine.to_module + 1)) (newest_frame machine.to_module frame)
-      ∙ ap (after_frame settings polled (length machine.to_module) frame) spelled
-      ∙ ap (λ latest. after_poll polled (length machine.to_module) frame (answer_frames (option_map answer_of_sending latest) machine.round)) is
+  module_answers sending is = grind (arith, nat_tests, newest_frame, spelled, after_poll)
 
   -- the CPU takes what was answered
   cpu_takes : (sending : Sending) → block_in (answer_octets (answer_of_sending sending)) ≡ Some (said sending)
       → sending.number ≡ number
       → after settings first (answering sending) (events.ToCpu (length machine.to_cpu + 1)) ≡ taking sending
-  cpu_takes sending reads named =
-      let same : (sending.number == number) ≡ true = grind (arith, nat_tests) in
-      ap (after_delivery_to_cpu first (answering sending) (length machine.to_cpu + 1)) (newest_frame machine.to_cpu (answer_frame sending))
-      ∙ ap (after_delivered_block first (record (answering sending) { last_to_cpu = length machine.to_cpu + 1 })) reads
-      ∙ ap (λ taken. if taken then taking sending else record (answering sending) { last_to_cpu = length machine.to_cpu + 1 }) same
+  cpu_takes sending reads named = grind (arith, nat_tests, newest_frame)
 
   -- so the round takes a block
   pub takes_block : (later : Machine) × IsCleanRound settings first machine later
@@ -155,7 +127,7 @@ module _ (settings : Settings) (range : AreInRange settings) (first : ℕ) (mach
             answer = said sending;
             answered = record {
               frame = answer_frame sending;
-              at_place = get_push machine.to_cpu (answer_frame sending);
+              at_place = get_last machine.to_cpu (answer_frame sending);
               spells = reads;
               of_round = refl;
             };
@@ -172,8 +144,7 @@ module _ (settings : Settings) (range : AreInRange settings) (first : ℕ) (mach
 -- the frames delivered last in a run are among those that were sent
 pub last_were_sent : (settings : Settings) (first : ℕ) (events : List Event) (machine : Machine)
     → IsRun settings first events machine → LastWereSent machine
-last_were_sent settings first events machine run =
-    sent_all settings first events start machine run (record { to_module = omega arith; to_cpu = omega arith })
+last_were_sent settings first events machine run = grind (arith, nat_tests, sent_all)
 
 -- after any run
 pub clean_round_takes_block : (settings : Settings) → AreInRange settings → (first : ℕ) (machine : Machine)

@@ -1,4 +1,5 @@
 -- A CPU that begins anew takes one stretch of the module's blocks in each of its lives.
+use Rattle.std.proofs.lemmas.Bool.Decides.{nat_tests}
 use Rattle.fio_link.proofs.Names.{◌≡◌, ◌+◌, ◌-◌, ◌≤◌, ◌⊎◌, List, [], ◌∷◌, ◌++◌, length, take, drop, map, refl, ap, sym, subst, ◌∙◌, arith, inl, inr, length-append, length-drop, append-nil, flat_map, AllByRecursion, AllZip, Settings, AreInRange, life_of, MadeBlock, blocks_of, SentFrame, Machine, piece_of, blocks_in, IsTimed, sources_of, next_round, TakenLife, AtEachRestart}
 use Rattle.std.proofs.lemmas.List.{take-append-drop}
 use Rattle.fio_link.specs.CpuRestarts.{NewCpuLife, LivesFollow, BeginsAgain, TakesOneStretch, EachTakesOneStretch, MissesOneAtMost, NewCpuTakesStretches}
@@ -99,6 +100,4 @@ are_taken settings range machine (life ∷ lives) f =
         (misses_one settings (blocks_in settings machine) life next here.0 part here.1 each.0, restarts)
 
 pub new_cpu_takes_stretches : NewCpuTakesStretches
-new_cpu_takes_stretches settings machine lives range f =
-    let t = are_taken settings range machine lives f in
-    (t.parts, t.each, t.restarts)
+new_cpu_takes_stretches settings machine lives range f = grind (arith, nat_tests, are_taken)

@@ -1,5 +1,6 @@
 -- Links that are kept up with for each input deliver all.
-use Rattle.fio_link.proofs.Names.{◌≡◌, ℕ, ◌+◌, ◌-◌, ◌*◌, ◌≤◌, List, [], ◌∷◌, ◌++◌, length, drop, ap, sym, subst, ◌∙◌, arith, inl, inr, append_assoc, cases_lt, mul-le-mul_left, append_cancel_right, Settings, AreInRange, Life, life_of, filter_events, log_of, newest_end, waiting_of, nothing_left, AtEachTime, scans_behind, holds_now, Machine, Pause, left_behind}
+use Rattle.std.proofs.lemmas.Bool.Decides.{nat_tests}
+use Rattle.fio_link.proofs.Names.{◌≡◌, ℕ, ◌+◌, ◌-◌, ◌*◌, ◌≤◌, List, [], ◌∷◌, ◌++◌, length, drop, ap, sym, subst, ◌∙◌, arith, append_assoc, cases_lt, mul-le-mul_left, append_cancel_right, Settings, AreInRange, Life, life_of, filter_events, log_of, newest_end, waiting_of, nothing_left, AtEachTime, scans_behind, holds_now, Machine, Pause, left_behind}
 use Rattle.fio_module.specs.KeepingUp.{KeepsUp}
 use Rattle.fio_input.specs.FiltersThatDiffer.{Plan, IsAsPlanned, StaysAsPlanned, most_reports}
 use Rattle.fio_input.proofs.FiltersThatDiffer.{most_reports-more}
@@ -16,22 +17,7 @@ use Rattle.fio_link.proofs.KeptUpArrives.{whole, times, late, levels, near_now}
 -- what waits for each input, as if each scan reported a block of changes
 as_one : (settings : Settings) (plan : Plan) (scans : ℕ) (life later : Life) → scans_behind scans later life ≤ 2 * scans
     → KeepsUpForEach settings plan scans life later → KeepsUp settings settings.per_block 1 scans life later
-as_one settings plan scans life later near k =
-    let behind = scans_behind scans later life in
-    let turned : settings.per_block * (behind + (1 - 1)) ≡ behind * settings.per_block = grind arith in
-    record {
-      few_wait = elim (cases_lt 0 scans) as (λ _. length (waiting_of settings (later ++ life)) * 1 ≤ settings.per_block * (behind + (1 - 1))) [
-        | inl once ↦
-            let more : behind * 1 ≤ behind * scans = mul-le-mul_left behind once in
-            omega (arith, k.few_wait behind (omega arith))
-        | inr never ↦
-            let none : 0 * scans ≡ 0 = grind arith in
-            let nothing : 0 * settings.per_block ≡ 0 = grind arith in
-            omega (arith, k.few_wait 0 (omega arith))
-      ];
-      few_beyond = k.few_beyond;
-      young = k.young;
-    }
+as_one settings plan scans life later near k = grind (arith, nat_tests, cases_lt, mul-le-mul_left)
 
 module _ (settings : Settings) (range : AreInRange settings) (first : ℕ) (machine : Machine) (o : IsOpen settings range first machine)
     (plan : Plan) (scans untaken : ℕ) (pauses : List Pause) (receipt last : Machine) (later : Life)

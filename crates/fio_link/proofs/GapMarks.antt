@@ -1,12 +1,10 @@
 -- Each gap mark has its own block, and its own time.
-use Rattle.fio_link.proofs.Names.{◌≡◌, ℕ, zero, suc, ◌+◌, ◌-◌, ◌<◌, ◌⊎◌, max, Bool, true, false, List, [], ◌∷◌, ◌++◌, length, take, map, Some, slice_get, refl, ap, sym, ◌∙◌, subst, arith, inl, inr, if◌then◌else◌, nat_lt, option_map, flat_map, nat_tests, slice_get-map, slice_get_within, take-append-le, take_all, Poll, Settings, Life, Commanded, life_of, Transition, entry_of, log_of, MadeBlock, newest_poll, is_new, blocks_of, next_block, newest_end, blocks_new, blocks_old, Machine, Piece, Gap, EntryPiece, piece_of, pieces_of, pieces_of_blocks, blocks_in}
+use Rattle.std.proofs.lemmas.Bool.Decides.{nat_tests}
+use Rattle.fio_link.proofs.Names.{◌≡◌, ℕ, zero, suc, ◌+◌, ◌-◌, ◌⊎◌, Bool, true, false, List, [], ◌∷◌, ◌++◌, length, take, map, Some, slice_get, refl, ap, sym, ◌∙◌, subst, arith, inl, inr, if◌then◌else◌, option_map, flat_map, slice_get-map, slice_get_within, take-append-le, take_all, Poll, Settings, Life, Commanded, life_of, Transition, entry_of, log_of, MadeBlock, newest_poll, is_new, blocks_of, next_block, newest_end, blocks_new, blocks_old, Machine, Piece, Gap, EntryPiece, piece_of, pieces_of, pieces_of_blocks, blocks_in}
 use Rattle.fio_module.specs.Life.{Occurrence}
 use Rattle.fio_link.specs.Delivery.{GapsNameTimes}
 use Rattle.fio_link.proofs.Places.{get_after_push}
-
--- places before which something was pushed out
-some_pushed : (before len limit : ℕ) → nat_lt before (max before (len - limit)) ≡ true → before + limit < len
-some_pushed before len limit lost = grind (arith, nat_tests)
+use Rattle.fio_module.proofs.Losses.{some_pushed}
 
 abbrev got : List Transition → List Piece
 got transitions = map (λ transition. EntryPiece (entry_of transition)) transitions
@@ -98,10 +96,7 @@ made_by_poll : (settings : Settings) (life : Life) (number place : ℕ) (block :
     → ((place : ℕ) (block : MadeBlock) → slice_get (blocks_of settings life) place ≡ Some block → WasMadeBy settings life place block)
     → slice_get (blocks_of settings (Commanded (Poll number) ∷ life)) place ≡ Some block
     → WasMadeBy settings (Commanded (Poll number) ∷ life) place block
-made_by_poll settings life number place block false old earlier is =
-    let same = blocks_old settings life number old in
-    made_earlier settings (Commanded (Poll number)) life place block (ap (take place) same)
-    (earlier place block (subst (λ bs. slice_get bs place ≡ Some block) same is))
+made_by_poll settings life number place block false old earlier is = grind (arith, nat_tests, blocks_old, made_earlier)
 made_by_poll settings life number place block true new earlier is =
     let blocks = blocks_of settings life in
     let next = next_block settings life in

@@ -1,5 +1,6 @@
 -- What events without a restart do to the module's life.
-use Rattle.fio_link.proofs.Names.{◌≡◌, ℕ, ◌+◌, ◌≤◌, ◌==◌, Bool, true, false, List, [], ◌∷◌, ◌++◌, Option, Some, None, refl, ap, sym, subst, ◌∙◌, arith, append_assoc, if◌then◌else◌, Command, ConfigureInputs, Block, command_in, block_in, scans_in, Settings, Life, Scanned, LineSynced, Commanded, life_of, life_after_command, scans_of, filter_events, scans_in-append, scans_of-append, items_of_block, Event, SentFrame, Machine, number_of, item_numbered, after_delivery_to_module, after_delivered_block, after_delivery_to_cpu, after, Leads, IsNotRestart, HaveNoRestart, IsWithin, LeadsInTime}
+use Rattle.std.proofs.lemmas.Bool.Decides.{nat_tests}
+use Rattle.fio_link.proofs.Names.{◌≡◌, ℕ, ◌+◌, ◌≤◌, Bool, true, false, List, [], ◌∷◌, ◌++◌, Option, Some, None, refl, ap, sym, subst, ◌∙◌, arith, append_assoc, if◌then◌else◌, Command, ConfigureInputs, Block, command_in, scans_in, Settings, Life, Scanned, LineSynced, Commanded, life_of, life_after_command, scans_of, filter_events, scans_in-append, scans_of-append, items_of_block, Event, SentFrame, Machine, after_delivery_to_module, after_delivered_block, after_delivery_to_cpu, after, Leads, IsNotRestart, HaveNoRestart, IsWithin, LeadsInTime}
 use Rattle.fio_module.specs.Life.{Raised}
 use Rattle.fio_link.specs.declared.event.Event.TheVariants as events
 use Rattle.fio_link.specs.Settled.{LeadsOn}
@@ -26,8 +27,7 @@ grows-command life (Some command) = (Commanded command ∷ [], refl, omega arith
 
 grows-received : (settings : Settings) (machine : Machine) (index : ℕ) (found : Option SentFrame)
     → Grows machine (after_delivery_to_module settings machine index found) 0
-grows-received settings machine index None =
-    record { stretch = []; life = refl; few = omega arith; round = omega arith }
+grows-received settings machine index None = grind (arith, nat_tests)
 grows-received settings machine index (Some frame) =
     let c = grows-command (life_of machine.history) (command_in frame.octets) in
     record { stretch = c.0; life = c.1; few = c.2; round = omega arith }
@@ -36,24 +36,18 @@ grows-received settings machine index (Some frame) =
 grows-taken : (machine before : Machine) (block : Block) (same : Bool) → life_of before.history ≡ life_of machine.history
     → machine.round ≤ before.round
     → Grows machine (if same then record before { round = before.round + 1; items = before.items ++ items_of_block block } else before) 0
-grows-taken machine before block true life round =
-    record { stretch = []; life = life; few = omega arith; round = omega arith }
-grows-taken machine before block false life round =
-    record { stretch = []; life = life; few = omega arith; round = omega arith }
+grows-taken machine before block true life round = grind (arith, nat_tests)
+grows-taken machine before block false life round = grind (arith, nat_tests)
 
 grows-block : (first : ℕ) (machine before : Machine) (found : Option Block) → life_of before.history ≡ life_of machine.history
     → machine.round ≤ before.round → Grows machine (after_delivered_block first before found) 0
-grows-block first machine before None life round =
-    record { stretch = []; life = life; few = omega arith; round = omega arith }
-grows-block first machine before (Some block) life round =
-    grows-taken machine before block (block.number == number_of first before.round) life round
+grows-block first machine before None life round = grind (arith, nat_tests)
+grows-block first machine before (Some block) life round = grind (arith, nat_tests, grows-taken)
 
 grows-heard : (first : ℕ) (machine : Machine) (index : ℕ) (found : Option SentFrame)
     → Grows machine (after_delivery_to_cpu first machine index found) 0
-grows-heard first machine index None =
-    record { stretch = []; life = refl; few = omega arith; round = omega arith }
-grows-heard first machine index (Some frame) =
-    grows-block first machine (record machine { last_to_cpu = index }) (block_in frame.octets) refl (omega arith)
+grows-heard first machine index None = grind (arith, nat_tests)
+grows-heard first machine index (Some frame) = grind (arith, nat_tests, grows-block)
 
 -- one event
 grows-once : (settings : Settings) (first : ℕ) (machine : Machine) (event : Event) → IsNotRestart event
@@ -65,14 +59,9 @@ grows-once settings first machine events.LineSync not =
 grows-once settings first machine (events.Raise mask) not =
     record { stretch = Raised mask ∷ []; life = refl; few = omega arith; round = omega arith }
 grows-once settings first machine events.Restart not = absurd not
-grows-once settings first machine events.Poll not =
-    record { stretch = []; life = refl; few = omega arith; round = omega arith }
-grows-once settings first machine (events.Send command) not =
-    record { stretch = []; life = refl; few = omega arith; round = omega arith }
-grows-once settings first machine (events.ToModule index) not =
-    grows-received settings machine index (item_numbered machine.to_module index)
-grows-once settings first machine (events.ToCpu index) not =
-    grows-heard first machine index (item_numbered machine.to_cpu index)
+grows-once settings first machine (events.ToModule index) not = grind (arith, nat_tests, grows-received)
+grows-once settings first machine (events.ToCpu index) not = grind (arith, nat_tests, grows-heard)
+grows-once settings first machine _ not = grind (arith, nat_tests)
 
 -- and what follows
 grows-then : (machine next last : Machine) (once scans : ℕ) → Grows machine next once → Grows next last scans
@@ -92,8 +81,7 @@ scans-more other later = omega arith
 
 pub grows : (settings : Settings) (first : ℕ) (machine last : Machine) (events : List Event) → HaveNoRestart events
     → Leads settings first machine events last → Grows machine last (scans_among events)
-grows settings first machine last [] none leads =
-    subst (λ m. Grows machine m 0) (sym leads) (record { stretch = []; life = refl; few = omega arith; round = omega arith })
+grows settings first machine last [] none leads = grind (arith, nat_tests)
 grows settings first machine last (event ∷ events) none leads =
     let next = after settings first machine event in
     subst (Grows machine last) (scans-more event events)
@@ -109,13 +97,7 @@ scans_grown machine last stretch is = ap scans_of is ∙ scans_of-append stretch
 pub few_in_time : (settings : Settings) (first scans : ℕ) (earlier machine last : Machine) (events : List Event) → HaveNoRestart events
     → Leads settings first machine events last → scans_among events ≤ scans → IsWithin 0 earlier machine
     → LeadsInTime settings first scans earlier machine last
-few_in_time settings first scans earlier machine last events none leads few within =
-    let g = grows settings first machine last events none leads in
-    let count = scans_grown machine last g.stretch g.life in
-    record {
-      leads_on = record { events = events; no_restart = none; leads = leads };
-      in_time = omega (arith, g.few, within);
-    }
+few_in_time settings first scans earlier machine last events none leads few within = grind (arith, nat_tests, grows, scans_grown)
 
 -- what leads on and what follows lead on
 pub leads-append : (settings : Settings) (first : ℕ) (events more : List Event) (machine between last : Machine)
@@ -131,9 +113,4 @@ none-append (event ∷ events) more none rest = (none.0, none-append events more
 
 pub leads_on-then : (settings : Settings) (first : ℕ) (machine between last : Machine) → LeadsOn settings first machine between
     → LeadsOn settings first between last → LeadsOn settings first machine last
-leads_on-then settings first machine between last l m =
-    record {
-      events = l.events ++ m.events;
-      no_restart = none-append l.events m.events l.no_restart m.no_restart;
-      leads = leads-append settings first l.events m.events machine between last l.leads m.leads;
-    }
+leads_on-then settings first machine between last l m = grind (arith, nat_tests, none-append, leads-append)

@@ -1,4 +1,5 @@
 -- The rounds of each life as a block is made, and as the module restarts.
+use Rattle.std.proofs.lemmas.Bool.Decides.{nat_tests}
 use Rattle.fio_link.proofs.Names.{◌≡◌, ℕ, suc, ◌+◌, ◌-◌, ◌≤◌, ◌⊎◌, List, [], ◌∷◌, ◌++◌, length, take, drop, map, refl, ap, sym, ◌∙◌, arith, inl, inr, length-append, length-drop, append_assoc, append-nil, take-append-le, drop-append-le, MadeBlock}
 use Rattle.fio_link.proofs.Spans.{Span, Of, made_in, rounds_from, rounds_in, taken_from, low_after, Chain}
 
@@ -30,21 +31,7 @@ grown_alone : (low from next round polled base to : ℕ) (own : List MadeBlock) 
     → Chain low from (Of own base to ∷ []) next round
     → next ≤ polled + 1 → polled ≤ round → round ≤ polled + 1 → (own ≡ []) ⊎ (polled ≡ next)
     → Grown low from next round polled base to [] own block
-grown_alone low from next round polled base to [] block c high upto near fresh =
-    let same : to ≡ from = c.1 in
-    let follows : low ≡ next = c.2.0 in
-    let ends : to ≡ round = c.2.1 in
-    let none : to - from ≡ 0 = omega arith in
-    let nothing : (xs : List MadeBlock) → take (to - from) xs ++ [] ≡ [] = λ xs. ap (λ n. take n xs ++ []) none in
-    record {
-      chain = (
-        omega arith,
-        record { follows = omega arith; begins = omega arith; begins_soon = omega arith; ends_late = omega arith; ends = omega arith },
-        (omega arith, ends),
-      );
-      rounds = refl;
-      taken = nothing (drop (from - polled) (block ∷ [])) ∙ sym (nothing (drop (from - base) []));
-    }
+grown_alone low from next round polled base to [] block c high upto near fresh = grind (arith, nat_tests)
 grown_alone low from next round polled base to (first ∷ own) block c high upto near fresh =
     let all = first ∷ own in
     let forward : from ≤ to = c.0 in
@@ -100,14 +87,7 @@ pub record Begun (low from next round : ℕ) (spans : List Span) : Type 0 where
 
 pub begun : (low from next round : ℕ) (spans : List Span) → Chain low from spans next round
     → Begun low from next round spans
-begun low from next round [] c =
-    let ends : from ≡ round = c.1 in
-    let none : round - from ≡ 0 = omega arith in
-    record {
-      chain = (omega arith, omega arith, (c.0, refl));
-      rounds = refl;
-      taken = ap (λ n. take n (drop (from - 0) []) ++ []) none;
-    }
+begun low from next round [] c = grind (arith, nat_tests)
 begun low from next round (Of blocks base to ∷ spans) c =
     let rest = begun (low_after low blocks base) to next round spans c.2 in
     record {
@@ -138,13 +118,12 @@ ends_behind blocks made own others base to spans same rest =
 
 pub ends_with : (made : List (List MadeBlock)) (own : List MadeBlock) (spans : List Span)
     → map made_in spans ≡ made ++ own ∷ [] → EndsWith made own spans
-ends_with [] own [] is = absurd (cc is)
 ends_with [] own (Of blocks base to ∷ []) is =
     let same : blocks ≡ own = cc in
     record { past = []; base = base; to = to; are = ap (λ bs. Of bs base to ∷ []) same; before = refl }
-ends_with [] own (Of blocks base to ∷ (Of others b t ∷ spans)) is = absurd (cc is)
 ends_with (blocks ∷ made) own [] is = absurd (cc is)
 ends_with (blocks ∷ made) own (Of others base to ∷ spans) is =
     let same : others ≡ blocks = cc in
     let tail : map made_in spans ≡ made ++ own ∷ [] = cc in
     ends_behind blocks made own others base to spans same (ends_with made own spans tail)
+ends_with [] own _ is = absurd (cc is)

@@ -1,5 +1,6 @@
 -- A link whose module has restarted and that is kept up with, by computation: 64 open inputs with filters of 5, and two
 -- clean rounds, the first with the answer to a poll whose own was lost.
+use Rattle.std.proofs.lemmas.Bool.Decides.{nat_tests}
 use Rattle.fio_link.proofs.Names.{◌≡◌, ℕ, ◌+◌, ◌≤◌, List, [], ◌∷◌, ◌++◌, None, length, refl, ap, sym, subst, ◌∙◌, arith, ConfigureInputs, Poll, OpenHaveFiltersOf, NoneIsApplied, Settings, standard_settings, Life, Commanded, life_of, filter_events, waiting_of, opened, none_applied, Event, Machine, start, refusal, after, Leads, IsRun, clean_round, IsWithin, LeadsInTime, next_round, HasTakenAll, transitions_arrived, past_lives, Pause}
 use Rattle.fio_message.specs.Bits.{is_set}
 use Rattle.fio_message.specs.Decoding.{message_in}
@@ -68,9 +69,7 @@ unfolding machine1
 scanned = leads_scans standard machine0 5 0 4
 
 run1 : IsRun standard 0 (restarting ++ (dense 5 0 4 ++ settling)) settled1
-run1 =
-    leads-append standard 0 restarting (dense 5 0 4 ++ settling) start machine0 settled1 restarted
-    (leads-append standard 0 (dense 5 0 4) settling machine0 machine1 settled1 scanned settles)
+run1 = grind (arith, nat_tests, leads-append, restarted, scanned, settles)
 
 lives1 : length (past_lives settled1.history) ≡ 1
 unfolding machine0 machine1 settled1 done dense items_below message_in is_set transitions_below
@@ -154,8 +153,7 @@ arrived2 = refl
 
 not_applied2 : NoneIsApplied (filter_events later2)
 unfolding densest
-not_applied2 = none_applied 5 19 15 (Commanded (Poll 2) ∷ (densest 5 4 15 ++ Commanded (Poll 2) ∷ []))
-    (none_applied 5 4 15 (Commanded (Poll 2) ∷ []) tt)
+not_applied2 = grind (arith, nat_tests, none_applied)
 
 filters1 : OpenHaveFiltersOf (filter_events (life_of settled1.history)) 5
 filters1 = subst (λ l. OpenHaveFiltersOf (filter_events l) 5) (sym life1) filters_of_5
@@ -194,18 +192,7 @@ since2 : life_of heard2.history ≡ later2 ++ life_of settled1.history
 since2 = life2 ∙ ap (λ l. later2 ++ l) (sym life1)
 
 from2 : HasRounds standard 0 64 5 15 settled1 both_pauses receipt2 heard2 later2
-from2 =
-    record {
-      all_taken = taken1;
-      rounds = both_rounds;
-      since = since2;
-      few_change = record {
-        nothing_waits = waits1;
-        some = omega arith;
-        few_open = all_may_open 5 (filter_events later2) (filter_events (life_of settled1.history)) keep_filters;
-        enough = omega arith;
-      };
-    }
+from2 = grind (arith, nat_tests, taken1, both_rounds, since2, waits1, all_may_open, keep_filters)
 
 heard_in_time : (scans : ℕ) → IsWithin scans receipt2 heard2
 heard_in_time scans = omega (arith, round2.2)

@@ -1,5 +1,5 @@
 -- What every run keeps, whatever restarts.
-use Rattle.fio_link.proofs.Names.{◌≡◌, ◌≢◌, ℕ, ◌+◌, ◌%◌, ◌≤◌, Bool, true, false, List, [], ◌∷◌, ◌++◌, map, Option, Some, None, refl, ap, sym, subst, ◌∙◌, arith, append-nil, if◌then◌else◌, option_map, same_Some, nat_tests, Answer, Command, answer_octets, Block, block_in, polled_number, Settings, History, Received, Life, life_of, Transition, whole_log, MadeBlock, newest_poll, is_new, blocks_of, next_block, Sending, is_out_of_sequence, first_sending, repeat_of, latest_sending, answer_if, SentFrame, Machine, number_of, answer_frames, polls_with, HasPoll, received_numbers, PollsAreInOrder, next_round, PollsOf, BlockAnswersOf}
+use Rattle.fio_link.proofs.Names.{◌≡◌, ℕ, ◌+◌, ◌≤◌, Bool, true, false, List, [], ◌∷◌, ◌++◌, map, Option, Some, None, refl, ap, sym, subst, ◌∙◌, arith, append-nil, if◌then◌else◌, option_map, same_Some, nat_tests, Answer, Command, answer_octets, Block, block_in, polled_number, Settings, History, Received, Life, life_of, Transition, whole_log, MadeBlock, newest_poll, is_new, blocks_of, next_block, Sending, is_out_of_sequence, first_sending, repeat_of, latest_sending, answer_if, SentFrame, Machine, number_of, answer_frames, polls_with, HasPoll, received_numbers, PollsAreInOrder, next_round, PollsOf, BlockAnswersOf}
 use Rattle.fio_link.proofs.RoundNumbers.{number_of-next, rounds_from_numbers}
 use Rattle.fio_link.proofs.AllLives.{all_blocks, reached}
 use Rattle.fio_link.proofs.PollOrder.{polls-passed, polls-received}
@@ -47,19 +47,8 @@ meets_some : (first round number before : ℕ) (polls older : List ℕ) (new : B
     → number ≡ number_of first round → round ≤ next_round polls → next_round polls ≤ round + 1
     → is_new (Some before) number ≡ new → Meets new round (Some before) number (next_round polls)
 meets_some first round number before [] older new known numbered low high is = absurd (cc known)
-meets_some first round number before (s ∷ ss) older true known numbered low high is =
-    let last : number_of first s ≡ before = cc in
-    let apart : before ≢ number = grind (arith, nat_tests) in
-    let not_same : round ≢ s = λ same. apart (sym last ∙ ap (number_of first) (sym same) ∙ sym numbered) in
-    let next : round ≡ s + 1 = omega arith in
-    let follows : number ≡ (before + 1) % 256 =
-    numbered ∙ ap (number_of first) next ∙ number_of-next first s ∙ ap (λ k. (k + 1) % 256) last in
-    grind (arith, nat_tests)
-meets_some first round number before (s ∷ ss) older false known numbered low high is =
-    let last : number_of first s ≡ before = cc in
-    let alike : before ≡ number = grind (arith, nat_tests) in
-    let same : s ≡ round = rounds_from_numbers first s round (omega arith) (omega arith) (last ∙ alike ∙ numbered) in
-    omega arith
+meets_some first round number before (s ∷ ss) older true known numbered low high is = grind (arith, nat_tests, number_of-next)
+meets_some first round number before (s ∷ ss) older false known numbered low high is = grind (arith, nat_tests, rounds_from_numbers)
 
 -- a poll that is received is one or the other
 pub meets : (first round number : ℕ) (latest : Option ℕ) (polls numbers : List ℕ) (new : Bool)
@@ -69,9 +58,7 @@ pub meets : (first round number : ℕ) (latest : Option ℕ) (polls numbers : Li
     → is_new latest number ≡ new → Meets new round latest number (next_round polls)
 meets first round number None polls numbers true known newest numbered low high is = refl
 meets first round number None polls numbers false known newest numbered low high is = absurd (cc is)
-meets first round number (Some before) polls numbers new known newest numbered low high is =
-    let n = newest before refl in
-    meets_some first round number before polls n.0 new (known ∙ n.1) numbered low high is
+meets first round number (Some before) polls numbers new known newest numbered low high is = grind (arith, nat_tests, meets_some)
 
 -- it also holds of a machine whose module has another history, if the record rises through its log, and the latest poll of
 -- its present life, if any, is the same
@@ -81,20 +68,7 @@ pub keeps_history : (first : ℕ) (log log' : List Transition) (blocks : List Ma
     → ((n : ℕ) → latest' ≡ Some n → latest ≡ Some n)
     → RecordRises log' blocks makers limit' machine.round machine.items
     → Invariant first log' blocks limit' latest' numbers makers (record machine { history = history })
-keeps_history first log log' blocks limit limit' latest latest' numbers makers machine history i same rises =
-    record {
-      polls = i.polls;
-      answers = i.answers;
-      at_most = i.at_most;
-      received = record {
-        numbered = i.received.numbered;
-        newest = λ n is. i.received.newest n (same n is);
-        makers_in_order = i.received.makers_in_order;
-        maker = λ n is. i.received.maker n (same n is);
-      };
-      carry = i.carry;
-      rising = rises;
-    }
+keeps_history first log log' blocks limit limit' latest latest' numbers makers machine history i same rises = grind (arith, nat_tests)
 
 -- the machine after its module has received a frame at this place that is no poll, and these
 -- answers were sent

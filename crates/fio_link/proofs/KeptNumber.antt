@@ -1,4 +1,6 @@
 -- A CPU that begins again with the number that it had: its lives are one run.
+use Rattle.std.proofs.Common.{arith}
+use Rattle.std.proofs.lemmas.Bool.Decides.{nat_tests}
 use Rattle.fio_link.proofs.Names.{◌≡◌, ℕ, ◌+◌, ◌==◌, Bool, true, false, List, [], ◌∷◌, ◌++◌, Option, Some, None, refl, ap, sym, subst, ◌∙◌, if◌then◌else◌, append_assoc, append-nil, flat_map, Block, block_in, Settings, Item, items_of_block, Event, SentFrame, Machine, start, number_of, item_numbered, refusal, after_delivered_block, after_delivery_to_module, after_delivery_to_cpu, after, Leads}
 use Rattle.fio_link.specs.declared.event.Event.TheVariants as events
 use Rattle.fio_link.specs.CpuRestarts.{CpuLife, with_kept_number, LivesLead, KeptNumberLosesNothing}
@@ -25,8 +27,7 @@ module _ (settings : Settings) (first : ℕ) (before : List Item) where
   taken : (machine : Machine) (block : Block) (same : Bool)
       → (if same then record machine { round = machine.round + 1; items = (before ++ machine.items) ++ items_of_block block } else with_earlier before machine)
       ≡ with_earlier before (if same then record machine { round = machine.round + 1; items = machine.items ++ items_of_block block } else machine)
-  taken machine block true =
-      ap (λ items. record machine { round = machine.round + 1; items = items }) (append_assoc before machine.items (items_of_block block))
+  taken machine block true = grind (arith, nat_tests, append_assoc)
   taken machine block false = refl
 
   heard_block : (machine : Machine) (found : Option Block)
@@ -60,8 +61,7 @@ joined : (settings : Settings) (first : ℕ) (before : List Item) (lives : List 
     → LivesLead settings first machine lives last
     → Leads settings first (record machine { items = before }) (flat_map (λ (life : CpuLife). life.events) lives)
     (record last { items = before ++ flat_map (λ (life : CpuLife). life.items) lives })
-joined settings first before [] machine last same =
-    ap (λ (m : Machine). record m { items = before ++ [] }) same ∙ ap (λ items. record machine { items = items }) (append-nil before)
+joined settings first before [] machine last same = grind (arith, nat_tests, append-nil)
 joined settings first before (life ∷ lives) machine last l =
     let ended = l.0 in
     let rest = flat_map (λ (life : CpuLife). life.items) lives in

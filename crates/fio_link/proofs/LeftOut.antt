@@ -1,5 +1,6 @@
 -- The module's own frames among all, at their places.
-use Rattle.fio_link.proofs.Names.{◌≡◌, ℕ, zero, suc, ◌+◌, ◌<◌, ◌≤◌, List, [], ◌∷◌, ◌++◌, length, map, Some, slice_get, refl, ap, arith, ◌∙◌}
+use Rattle.std.proofs.lemmas.Bool.Decides.{nat_tests}
+use Rattle.fio_link.proofs.Names.{◌≡◌, ℕ, zero, suc, ◌+◌, ◌≤◌, List, [], ◌∷◌, ◌++◌, length, map, Some, slice_get, refl, ap, arith}
 use Rattle.fio_link.specs.Answered.{Makers, Own, Sent, frame_carried, own_frames}
 use Rattle.fio_link.specs.Link.{SentFrame}
 
@@ -13,27 +14,23 @@ rank (Makers kind body round ∷ sent) (suc count) = rank sent count
 -- none of no frames is
 pub rank-zero : (sent : List Sent) → rank sent 0 ≡ 0
 rank-zero [] = refl
-rank-zero (Own frame ∷ sent) = refl
-rank-zero (Makers kind body round ∷ sent) = refl
+rank-zero _ = refl
 
 -- of more frames no fewer are
 pub rank-mono : (sent : List Sent) (few more : ℕ) → few ≤ more → rank sent few ≤ rank sent more
 rank-mono [] few more le = omega arith
-rank-mono (Own frame ∷ sent) zero more le = omega arith
-rank-mono (Own frame ∷ sent) (suc few) zero le = absurd (omega arith)
 rank-mono (Own frame ∷ sent) (suc few) (suc more) le = let rest = rank-mono sent few more (omega arith) in omega arith
-rank-mono (Makers kind body round ∷ sent) zero more le = omega arith
-rank-mono (Makers kind body round ∷ sent) (suc few) zero le = absurd (omega arith)
 rank-mono (Makers kind body round ∷ sent) (suc few) (suc more) le = rank-mono sent few more (omega arith)
+rank-mono _ zero more le = omega arith
+rank-mono _ (suc few) zero le = absurd (omega arith)
 
 -- frames that follow change nothing
 pub rank-append : (sent later : List Sent) (count : ℕ) → count ≤ length sent → rank (sent ++ later) count ≡ rank sent count
 rank-append [] later zero le = rank-zero later
 rank-append [] later (suc count) le = absurd (omega arith)
-rank-append (Own frame ∷ sent) later zero le = refl
 rank-append (Own frame ∷ sent) later (suc count) le = ap suc (rank-append sent later count (omega arith))
-rank-append (Makers kind body round ∷ sent) later zero le = refl
 rank-append (Makers kind body round ∷ sent) later (suc count) le = rank-append sent later count (omega arith)
+rank-append _ later zero le = refl
 
 pub own-append : (sent later : List Sent) → own_frames (sent ++ later) ≡ own_frames sent ++ own_frames later
 own-append [] later = refl
@@ -56,9 +53,7 @@ pub record IsOwnAt (sent : List Sent) (place : ℕ) (frame : SentFrame) : Type 0
 
 pub own_at : (sent : List Sent) (place : ℕ) (frame : SentFrame) → slice_get sent place ≡ Some (Own frame) → IsOwnAt sent place frame
 own_at [] place frame is = absurd cc
-own_at (Own other ∷ sent) zero frame is =
-    let same : other ≡ frame = cc is in
-    record { here = ap Some same; one_more = ap suc (rank-zero sent) }
+own_at (Own other ∷ sent) zero frame is = grind (arith, nat_tests, rank-zero)
 own_at (Own other ∷ sent) (suc place) frame is =
     let rest = own_at sent place frame is in record { here = rest.here; one_more = ap suc rest.one_more }
 own_at (Makers kind body round ∷ sent) zero frame is = absurd cc

@@ -60,7 +60,6 @@ pub mod NewCpu
 pub mod CpuStretches
 pub mod Promises
 pub mod StandardLinks
-pub mod Examples
 pub mod FramesUnderWay
 pub mod DenseRuns
 pub mod Sharpness

@@ -1,5 +1,5 @@
 -- Rounds on a line come after pauses, and their blocks keep up.
-use Rattle.fio_link.proofs.Names.{◌≡◌, ℕ, ◌+◌, ◌-◌, ◌*◌, ◌<◌, ◌≤◌, List, [], ◌∷◌, ◌++◌, length, drop, Some, refl, ap, sym, subst, ◌∙◌, arith, append_assoc, max, mul-le-mul_right, scans_in, scans_in-append, HasFewOpen, FewStayOpen, Settings, AreInRange, Life, Commanded, life_of, scans_of, filter_events, log_of, newest_end, blocks_of, waiting_of, nothing_left, AtEachTime, scans_behind, behind_each, IsKeptUp, latest_sending, Machine, number_of, blocks_in, next_round, LeadsOn, IsWithin, IsSettled, Pause, left_behind, BeginNear}
+use Rattle.fio_link.proofs.Names.{◌≡◌, ℕ, ◌+◌, ◌-◌, ◌*◌, ◌<◌, ◌≤◌, List, [], ◌∷◌, ◌++◌, length, drop, refl, ap, sym, ◌∙◌, arith, append_assoc, mul-le-mul_right, HasFewOpen, FewStayOpen, Settings, AreInRange, Life, Commanded, life_of, scans_of, filter_events, log_of, newest_end, blocks_of, waiting_of, nothing_left, AtEachTime, scans_behind, behind_each, IsKeptUp, latest_sending, Machine, number_of, next_round, LeadsOn, IsSettled, Pause, left_behind, BeginNear}
 use Rattle.fio_message.specs.declared.commands.Command.TheVariants as commands
 use Rattle.fio_module.specs.ExactBounds.{KeepsUpExactly}
 use Rattle.fio_module.specs.KeepingUp.{KeepsUp}
@@ -12,12 +12,12 @@ use Rattle.fio_link.specs.declared.line.Traffic.{Traffic}
 use Rattle.fio_link.specs.Delivery.{IsCleanRound, IsWithinRound}
 use Rattle.fio_link.proofs.MadeBlocks.{each-append}
 use Rattle.fio_link.specs.KeptUp.{scans_of_pause, receipts_of, RoundsAfter, IsRoundAfter}
-use Rattle.fio_link.specs.Pace.{IsPace, traffic_of, clean_pace, most_behind, most_entries, poll_scans, answer_scans, round_scans}
-use Rattle.fio_link.specs.Rate.{IsNextRound, IsRoundOnLine, octets_answered}
+use Rattle.fio_link.specs.Pace.{IsPace, traffic_of, clean_pace, most_apart, most_behind, most_entries, round_scans}
+use Rattle.fio_link.specs.Rate.{IsNextRound, octets_answered}
 use Rattle.fio_link.proofs.AnswerLengths.{TakesFew, few_since, answer_is_sent}
 use Rattle.fio_link.proofs.Grown.{grows, scans_grown, leads_on-then}
 use Rattle.fio_link.proofs.KeptUp.{Reached, reached}
-use Rattle.fio_link.proofs.PaceNumbers.{few_taken, more_scans}
+use Rattle.fio_link.proofs.PaceNumbers.{apart, few_taken, more_scans}
 use Rattle.fio_link.proofs.Settled.{IsOpen, IsAlong, at_base, along, along_round, count_blocks, ends_round}
 use Rattle.fio_link.proofs.WithinRounds.{HasCleanRound, poll_stays, within_no_restart}
 
@@ -71,6 +71,13 @@ module _ (settings : Settings) (range : AreInRange settings) (first : ℕ) (mach
   abbrev most : ℕ
   most = most_behind line pace
 
+  -- how far apart polls may be: a round ends before that
+  abbrev far : ℕ
+  far = most_apart line pace
+
+  pub ends_before : round_scans line traffic pace ≤ far
+  ends_before = let a = apart line pace in omega (arith, p.ends)
+
   abbrev pub IsFew : Life → Type 0
   IsFew l = FewStayOpen opened filter (filter_events l) (filter_events life)
 
@@ -103,7 +110,7 @@ module _ (settings : Settings) (range : AreInRange settings) (first : ℕ) (mach
     pub pauses : List Pause
     pub rounds : RoundsAfter settings first machine pauses receipt last
     pub near : BeginNear scans most pauses
-    pub left : left_behind scans pauses + time begin ≤ line.lost * pace + time receipt
+    pub left : left_behind scans pauses + time begin ≤ line.lost * far + time receipt
     pub ends : time last ≤ time begin + round_scans line traffic pace
     pub order : time receipt ≤ time last
 
@@ -134,17 +141,17 @@ module _ (settings : Settings) (range : AreInRange settings) (first : ℕ) (mach
       pub done_again : time done ≤ time n.again
       pub again_begin : time n.again ≤ time begin
       pub begin_receipt : time begin ≤ time receipt
-      pub again_paced : time n.again ≤ time earlier + pace
-      pub begin_paced : time begin ≤ time n.again + line.lost * pace
+      pub again_paced : time n.again ≤ time earlier + far
+      pub begin_paced : time begin ≤ time n.again + line.lost * far
 
     in_order : AreInOrder
     in_order =
-        let fewer : lost * pace ≤ line.lost * pace = mul-le-mul_right pace few_lost in
+        let fewer : lost * far ≤ line.lost * far = mul-le-mul_right far few_lost in
         record {
           done_again = no_fewer settings first done n.again n.leads_on;
           again_begin = no_fewer settings first n.again begin n.repeats;
           begin_receipt = no_fewer settings first begin receipt polled_on;
-          again_paced = omega (arith, n.paced, so_far.ends, p.ends);
+          again_paced = omega (arith, n.paced, so_far.ends, ends_before);
           begin_paced = omega (arith, n.lost_paced);
         }
 
@@ -161,7 +168,7 @@ module _ (settings : Settings) (range : AreInRange settings) (first : ℕ) (mach
           untaken = record { leads_on = untaken_on; in_time = omega (arith, i.again_begin, i.begin_receipt) };
         }
 
-    paces : clean_pace line pace ≡ line.lost * pace + pace
+    paces : clean_pace line pace ≡ line.lost * far + far
     paces = grind arith
 
     rounds_now : RoundsAfter settings first machine (pause ∷ so_far.pauses) receipt last
@@ -172,7 +179,7 @@ module _ (settings : Settings) (range : AreInRange settings) (first : ℕ) (mach
         let i = in_order in
         omega (arith, so_far.left, so_far.order, i.done_again, i.again_begin, i.begin_receipt, i.again_paced, i.begin_paced, n.round.poll, paces)
 
-    left_now : left_behind scans (pause ∷ so_far.pauses) + time begin ≤ line.lost * pace + time receipt
+    left_now : left_behind scans (pause ∷ so_far.pauses) + time begin ≤ line.lost * far + time receipt
     left_now =
         let i = in_order in
         omega (arith, so_far.left, so_far.order, i.done_again, i.again_begin, i.begin_receipt, i.again_paced, i.begin_paced, paces)
@@ -214,7 +221,7 @@ module _ (settings : Settings) (range : AreInRange settings) (first : ℕ) (mach
         (g.life ∙ ap (λ l. g.stretch ++ l) (h.life ∙ is_upto) ∙ sym (append_assoc g.stretch upto life)))
 
     near_done : AtEachTime (λ l. scans_behind scans l life ≤ most) found.0
-    near_done = let order = found.1.since_receipt in found.1.near (omega (arith, so_far.left, so_far.ends, p.ends))
+    near_done = let order = found.1.since_receipt in found.1.near (omega (arith, so_far.left, so_far.ends, ends_before))
 
     near_upto : AtEachTime (λ l. scans_behind scans l life ≤ most) upto
     near_upto =

@@ -1,4 +1,5 @@
 -- If few rounds are lost, the blocks are never far behind.
+use Rattle.std.proofs.lemmas.Bool.Decides.{nat_tests}
 use Rattle.fio_link.proofs.Names.{◌≡◌, ℕ, zero, suc, ◌+◌, ◌-◌, ◌*◌, ◌<◌, ◌≤◌, ◌⊎◌, max, Bool, true, false, List, [], ◌∷◌, ◌++◌, take, drop, refl, ap, ◌∙◌, arith, inl, inr, AllZip, mul-le-mul_left, mul-le-mul_right, cases_lt, Pause, left_behind, BeginNear}
 use Rattle.std.specs.Prelude.{replicate}
 use Rattle.fio_link.specs.LostRounds.{lost_among, FewAreLost, rounds_of, HasLost, LostRoundsArePossible}
@@ -10,9 +11,8 @@ clean_among (false ∷ rounds) = clean_among rounds
 
 -- how many were lost directly before
 abbrev lost_first : List Bool → ℕ
-lost_first [] = 0
-lost_first (true ∷ rounds) = 0
 lost_first (false ∷ rounds) = lost_first rounds + 1
+lost_first _ = 0
 
 counted : (n : ℕ) (rounds : List Bool) → lost_among (take n rounds) + clean_among (take n rounds) ≤ n
 counted zero rounds = omega arith
@@ -96,8 +96,7 @@ module _ (scans pace each lost : ℕ) (slow : pace ≤ scans) (enough : each * p
       record { all = omega arith; besides = λ some. omega arith }
 
   makes_up : (fuel n : ℕ) (rounds : List Bool) → n ≤ fuel → FewAreLost (each + 1) lost rounds → MakesUp n rounds
-  makes_up zero n rounds low few =
-      makes_up_short n rounds (few-here (each + 1) lost rounds few) (few-more n (each + 1) rounds (omega arith))
+  makes_up zero n rounds low few = grind (arith, nat_tests, makes_up_short, few-here, few-more)
   makes_up (suc fuel) n rounds low few =
       elim (cases_lt (each + 1) n) as (λ _. MakesUp n rounds) [
         | inr short ↦ makes_up_short n rounds (few-here (each + 1) lost rounds few) (few-more n (each + 1) rounds short)
@@ -225,5 +224,4 @@ module _ (scans pace each lost : ℕ) (slow : pace ≤ scans) (enough : each * p
 
 -- lost rounds within these limits are possible
 pub lost_rounds_are_possible : LostRoundsArePossible
-lost_rounds_are_possible scans pace each lost pauses l slow enough =
-    begin_near scans pace each lost slow enough pauses l.0 l.1 l.2
+lost_rounds_are_possible scans pace each lost pauses l slow enough = grind (arith, nat_tests, begin_near)

@@ -1,5 +1,6 @@
 -- What holds of each block that a module makes.
-use Rattle.fio_link.proofs.Names.{◌≡◌, ℕ, zero, suc, ◌^◌, ◌<◌, ◌≤◌, Bool, true, false, List, [], ◌∷◌, ◌++◌, length, take, drop, map, Some, slice_get, subst, arith, length-take, if◌then◌else◌, AllByRecursion, IsEntry, Poll, Settings, Life, Scanned, Commanded, Transition, entry_of, log_of, transition_at, is_reported, filter_events, MadeBlock, newest_poll, is_new, blocks_of, next_block, newest_end, start_after, count_from}
+use Rattle.std.proofs.lemmas.Bool.Decides.{nat_tests}
+use Rattle.fio_link.proofs.Names.{◌≡◌, ℕ, zero, suc, ◌^◌, ◌<◌, ◌≤◌, Bool, true, false, List, [], ◌∷◌, ◌++◌, length, take, drop, map, Some, slice_get, subst, arith, length-take, if◌then◌else◌, AllByRecursion, IsEntry, Poll, Settings, Life, Scanned, Commanded, Transition, entry_of, log_of, transition_at, is_reported, filter_events, MadeBlock, newest_poll, is_new, blocks_of, next_block}
 use Rattle.fio_module.specs.Log.{transitions_below}
 
 -- what holds of each element of two lists holds of each of both together
@@ -92,15 +93,7 @@ pub record FitsAnswer (per_block : ℕ) (block : MadeBlock) : Type 0 where
 -- the block that a new poll makes next fits an answer
 pub next_fits : (settings : Settings) (life : Life)
     → FitsAnswer settings.per_block (next_block settings life)
-next_fits settings life =
-    let log = log_of life in
-    let start = start_after settings log (newest_end settings life) in
-    let count = count_from settings log start in
-    record {
-      count = omega (arith, length-take count (drop start log));
-      inputs = each-take HasInput count (drop start log) (each-drop HasInput start log (log_inputs life));
-      stamp = omega arith;
-    }
+next_fits settings life = grind (arith, nat_tests, length-take, each-take, each-drop, log_inputs)
 
 -- each block of a life fits an answer
 pub blocks_fit : (settings : Settings) (life : Life)

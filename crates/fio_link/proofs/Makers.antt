@@ -1,5 +1,6 @@
 -- The polls that made the blocks, and the blocks that answers carry.
-use Rattle.fio_link.proofs.Names.{◌≡◌, ℕ, ◌+◌, ◌<◌, ◌≤◌, false, List, [], ◌∷◌, ◌++◌, length, Option, Some, None, slice_get, subst, arith, inl, inr, length-append, if◌then◌else◌, slice_get_within, Block, says_out_of_sequence, poll_in, block_in, Received, History, life_of, MadeBlock, newest_poll, is_new, SentFrame, number_of, HasBlock, CarriesBlock}
+use Rattle.std.proofs.lemmas.Bool.Decides.{nat_tests}
+use Rattle.fio_link.proofs.Names.{◌≡◌, ℕ, ◌+◌, ◌<◌, ◌≤◌, false, List, [], ◌∷◌, ◌++◌, length, Option, Some, None, slice_get, subst, arith, length-append, if◌then◌else◌, slice_get_within, Block, says_out_of_sequence, poll_in, block_in, Received, History, life_of, MadeBlock, newest_poll, is_new, SentFrame, number_of, HasBlock, CarriesBlock}
 use Rattle.fio_link.proofs.Places.{get_before_push, get_after_push}
 use Rattle.fio_link.proofs.SentMessages.{each_more, none_more}
 
@@ -51,32 +52,14 @@ AnswersCarryMade first blocks makers frames = (place : ℕ) (answer : Block) (ro
 -- a poll of the newest round received makes nothing
 pub makers-repeated : (makers : List ℕ) (next later : ℕ) (blocks : List MadeBlock) → next ≤ later
     → MakersAreInOrder makers next blocks → MakersAreInOrder makers later blocks
-makers-repeated makers next later blocks le o =
-    record { count = o.count; rise = o.rise; below = λ j r is. omega (arith, o.below j r is) }
+makers-repeated makers next later blocks le o = grind (arith, nat_tests)
 
 -- a poll of a round not below it makes a block
 pub makers-new : (makers : List ℕ) (next round : ℕ) (blocks : List MadeBlock) (block : MadeBlock)
     → next ≤ round + 1
     → MakersAreInOrder makers next blocks
     → MakersAreInOrder (makers ++ round ∷ []) (round + 1) (blocks ++ block ∷ [])
-makers-new makers next round blocks block high o =
-    record {
-      count = omega (arith, length-append makers (round ∷ []), length-append blocks (block ∷ []), o.count);
-      rise = λ j k r s le p q. elim (get_after_push makers round k s q) as (λ _. r ≤ s) [
-        | inl older ↦ elim (get_after_push makers round j r p) as (λ _. r ≤ s) [
-          | inl old ↦ o.rise j k r s le old older
-          | inr new ↦ absurd (omega (arith, slice_get_within makers k s older))
-        ]
-        | inr newer ↦ elim (get_after_push makers round j r p) as (λ _. r ≤ s) [
-          | inl old ↦ omega (arith, o.below j r old)
-          | inr new ↦ omega arith
-        ]
-      ];
-      below = λ j r p. elim (get_after_push makers round j r p) as (λ _. r < round + 1) [
-        | inl old ↦ omega (arith, o.below j r old)
-        | inr new ↦ omega arith
-      ];
-    }
+makers-new makers next round blocks block high o = grind (arith, nat_tests, length-append, get_after_push, slice_get_within)
 
 -- a frame is sent that is no block answer
 pub carry-other : (first : ℕ) (blocks : List MadeBlock) (makers : List ℕ) (frames : List SentFrame) (f : SentFrame)

@@ -1,5 +1,7 @@
 -- Scans between the parts of a clean round may be moved out of it.
-use Rattle.fio_link.proofs.Names.{◌≡◌, ℕ, ◌==◌, Bool, true, false, List, [], ◌∷◌, ◌++◌, Option, Some, None, refl, sym, subst, AllByRecursion, Block, block_in, Settings, Event, Scan, ToModule, ToCpu, SentFrame, Machine, number_of, item_numbered, after_module_event, after_delivered_block, after_delivery_to_cpu, after, Leads}
+use Rattle.std.proofs.Common.{arith}
+use Rattle.std.proofs.lemmas.Bool.Decides.{nat_tests}
+use Rattle.fio_link.proofs.Names.{◌≡◌, ℕ, ◌==◌, Bool, true, false, List, [], ◌∷◌, ◌++◌, Option, Some, None, refl, sym, subst, AllByRecursion, Block, Settings, Event, Scan, ToModule, ToCpu, SentFrame, Machine, number_of, after_module_event, after_delivered_block, after_delivery_to_cpu, after, Leads}
 use Rattle.fio_module.specs.Life as module_events
 use Rattle.fio_link.specs.declared.event.Event.TheVariants.{LineSync, Raise, Poll}
 use Rattle.fio_link.specs.MovedScans.{ReachesModule, ScansMoveOut}
@@ -16,24 +18,19 @@ heard-found : (first : ℕ) (machine : Machine) (event : module_events.Event) (i
     → after_module_event (after_delivered_block first (record machine { last_to_cpu = index }) found) event
     ≡ after_delivered_block first (record (after_module_event machine event) { last_to_cpu = index }) found
 heard-found first machine event index None = refl
-heard-found first machine event index (Some block) =
-    heard-block first machine event block index (block.number == number_of first machine.round) refl
+heard-found first machine event index (Some block) = grind (arith, nat_tests, heard-block)
 
 heard-frame : (first : ℕ) (machine : Machine) (event : module_events.Event) (index : ℕ) (found : Option SentFrame)
     → after_module_event (after_delivery_to_cpu first machine index found) event ≡ after_delivery_to_cpu first (after_module_event machine event) index found
 heard-frame first machine event index None = refl
-heard-frame first machine event index (Some frame) =
-    heard-found first machine event index (block_in frame.octets)
+heard-frame first machine event index (Some frame) = grind (arith, nat_tests, heard-found)
 
 heard-then : (settings : Settings) (first : ℕ) (machine : Machine) (event : Event) (index : ℕ) → ReachesModule event
     → after settings first (after settings first machine (ToCpu index)) event
     ≡ after settings first (after settings first machine event) (ToCpu index)
-heard-then settings first machine (Scan raw) index is =
-    heard-frame first machine (module_events.Scan raw) index (item_numbered machine.to_cpu index)
-heard-then settings first machine LineSync index is =
-    heard-frame first machine module_events.LineSync index (item_numbered machine.to_cpu index)
-heard-then settings first machine (Raise mask) index is =
-    heard-frame first machine (module_events.Raise mask) index (item_numbered machine.to_cpu index)
+heard-then settings first machine (Scan raw) index is = grind (arith, nat_tests, heard-frame)
+heard-then settings first machine LineSync index is = grind (arith, nat_tests, heard-frame)
+heard-then settings first machine (Raise mask) index is = grind (arith, nat_tests, heard-frame)
 heard-then settings first machine other index is = absurd is
 
 -- a poll moves after such events
@@ -78,6 +75,4 @@ then_moved settings first machine last (event ∷ events) command answer later a
 
 -- so scans within a clean round are scans before and after it
 pub scans_move_out : (settings : Settings) (first : ℕ) (machine : Machine) → ScansMoveOut settings first machine
-scans_move_out settings first machine before later command answer last in_before in_later leads =
-    then_moved settings first machine last before command answer later in_later
-    (poll_later settings first machine last before (ToModule command ∷ (later ++ ToCpu answer ∷ [])) in_before leads)
+scans_move_out settings first machine before later command answer last in_before in_later leads = grind (arith, nat_tests, then_moved, poll_later)

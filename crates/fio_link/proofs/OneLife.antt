@@ -1,5 +1,5 @@
 -- What runs without restarts keep besides.
-use Rattle.fio_link.proofs.Names.{◌≡◌, ◌≢◌, ℕ, ◌+◌, ◌≤◌, Bool, true, false, List, [], ◌∷◌, ◌++◌, length, take, map, Option, Some, None, slice_get, refl, ap, sym, ◌∙◌, arith, inl, inr, length-append, append-nil, if◌then◌else◌, flat_map, flat_map-append, take-append-le, nat_tests, Answer, answer_octets, Block, says_again, block_in, poll_in, Settings, History, life_of, Transition, entry_of, MadeBlock, is_new, blocks_of, Item, item_of, items_of_block, SentFrame, Machine, number_of, answer_frames, HasPoll, next_round, CarriesBlock, newest_number}
+use Rattle.fio_link.proofs.Names.{◌≡◌, ℕ, ◌+◌, ◌≤◌, Bool, true, false, List, [], ◌∷◌, ◌++◌, length, take, map, Option, Some, None, slice_get, refl, ap, sym, ◌∙◌, arith, length-append, append-nil, if◌then◌else◌, flat_map, flat_map-append, take-append-le, nat_tests, Answer, answer_octets, Block, says_again, block_in, poll_in, Settings, History, life_of, Transition, entry_of, MadeBlock, is_new, blocks_of, Item, item_of, items_of_block, SentFrame, Machine, number_of, answer_frames, HasPoll, next_round, CarriesBlock, newest_number}
 use Rattle.fio_cpu.specs.declared.record.Item.TheVariants as items
 use Rattle.fio_link.specs.Frames.{is_repeated, repeats, answer_before, block_answers}
 use Rattle.fio_link.proofs.Places.{get_after_push, take_one_more}
@@ -51,11 +51,7 @@ behind_nothing (block ∷ blocks) =
 -- then the blocks of all lives are those of the present one
 pub all_in_life : (settings : Settings) (history : History) → past_log history ≡ [] → past_blocks settings history ≡ []
     → all_blocks settings history ≡ blocks_of settings (life_of history)
-all_in_life settings history no_log no_blocks =
-    let own = blocks_of settings (life_of history) in
-    ap (λ past. past ++ map (behind (length (past_log history))) own) no_blocks
-    ∙ ap (λ (log : List Transition). map (behind (length log)) own) no_log
-    ∙ behind_nothing own
+all_in_life settings history no_log no_blocks = grind (arith, nat_tests, behind, behind_nothing)
 
 -- what a poll of a round is to a module whose polls, all in one life, have these rounds: a new poll is of the next round,
 -- and any other repeats the newest
@@ -70,15 +66,8 @@ pub continues : (first round number : ℕ) (polls : List ℕ) (new : Bool) → n
     → Continues new round polls
 continues first round number [] true numbered low high is = (omega arith, refl)
 continues first round number [] false numbered low high is = absurd (cc is)
-continues first round number (s ∷ ss) true numbered low high is =
-    let apart : number_of first s ≢ number = grind (arith, nat_tests) in
-    let not_same : round ≢ s = λ same. apart (ap (number_of first) (sym same) ∙ sym numbered) in
-    let next : round ≡ s + 1 = omega arith in
-    (next, grind (arith, nat_tests))
-continues first round number (s ∷ ss) false numbered low high is =
-    let alike : number_of first s ≡ number = grind (arith, nat_tests) in
-    let same : s ≡ round = rounds_from_numbers first s round (omega arith) (omega arith) (alike ∙ numbered) in
-    (omega arith, grind (arith, nat_tests))
+continues first round number (s ∷ ss) true numbered low high is = grind (arith, nat_tests)
+continues first round number (s ∷ ss) false numbered low high is = grind (arith, nat_tests, rounds_from_numbers)
 
 -- what is known of a poll that is received after these, if the latest of the present life is the newest of them
 pub record ContinuesPolls (first : ℕ) (polls : List ℕ) (latest : Option ℕ) (number round : ℕ) : Type 0 where
@@ -124,10 +113,7 @@ block_answers-push (g ∷ frames) f =
 -- an answer that carries a block is recorded as the block is
 pub items_of_block-carried : (answer : Block) (block : MadeBlock) → CarriesBlock answer block
     → items_of_block answer ≡ recorded_of block
-items_of_block-carried answer block b =
-    ap (λ lost. (if lost then items.Gap ∷ [] else []) ++ map (item_of answer.stamp) answer.entries) b.lost
-    ∙ ap (λ entries. (if block.lost then items.Gap ∷ [] else []) ++ map (item_of answer.stamp) entries) b.entries
-    ∙ ap (λ stamp. (if block.lost then items.Gap ∷ [] else []) ++ map (item_of stamp) (map entry_of block.transitions)) b.stamp
+items_of_block-carried answer block b = grind (arith, nat_tests)
 
 -- the record with one more block
 pub record_of-next : (blocks : List MadeBlock) (m : ℕ) (taken : List Item) (answer : Block) (block : MadeBlock)
@@ -145,8 +131,7 @@ module _ (first : ℕ) (log : List Transition) (past blocks : List MadeBlock) (l
   pub life-other : (reply : Option Answer)
       → ((answer : Answer) → reply ≡ Some answer → block_in (answer_octets answer) ≡ None)
       → InOneLife first log past blocks latest makers (after_other machine place frame (answer_frames reply frame.round))
-  life-other None other =
-      record { no_log = o.no_log; no_blocks = o.no_blocks; made = o.made; own = o.own; polled = o.polled; kept = o.kept; again = ap block_answers (append-nil machine.to_cpu) ∙ o.again }
+  life-other None other = grind (arith, nat_tests, append-nil)
   life-other (Some answer) other =
       let f : SentFrame = record { octets = answer_octets answer; round = frame.round } in
       record {
@@ -180,21 +165,7 @@ module _ (first : ℕ) (log : List Transition) (past blocks : List MadeBlock) (l
       → block_in octets ≡ Some answer → says_again answer.status ≡ false
       → InOneLife first log past (blocks ++ block ∷ []) (Some number) (makers ++ frame.round ∷ [])
       (after_poll machine place frame (record { octets = octets; round = frame.round } ∷ []))
-  life-new number block octets answer numbered met count upto reads says =
-      let made : next_round machine.polls ≡ length blocks = o.made in
-      let next : frame.round ≡ next_round machine.polls = met.0 in
-      record {
-        no_log = o.no_log;
-        no_blocks = o.no_blocks;
-        made = omega (arith, length-append blocks (block ∷ []));
-        own = λ k r is. elim (get_after_push makers frame.round k r is) as (λ _. r ≡ k) [
-          | inl old ↦ o.own k r old
-          | inr new ↦ let at : k ≡ length makers = new.0 in let this : r ≡ frame.round = new.1 in omega arith
-        ];
-        polled = ap Some numbered;
-        kept = o.kept ∙ ap (flat_map recorded_of) (sym (take-append-le machine.round blocks (block ∷ []) upto));
-        again = answers-again octets answer reads (says ∙ sym met.1);
-      }
+  life-new number block octets answer numbered met count upto reads says = grind (arith, nat_tests, length-append, get_after_push, take-append-le, answers-again)
 
   -- the newest poll is received again
   pub life-repeated : (number : ℕ) (octets : List ℕ) (answer : Block) → number ≡ number_of first frame.round
@@ -202,13 +173,4 @@ module _ (first : ℕ) (log : List Transition) (past blocks : List MadeBlock) (l
       → says_again answer.status ≡ true
       → InOneLife first log past blocks (Some number) makers
       (after_poll machine place frame (record { octets = octets; round = frame.round } ∷ []))
-  life-repeated number octets answer numbered met reads says =
-      record {
-        no_log = o.no_log;
-        no_blocks = o.no_blocks;
-        made = met.0 ∙ o.made;
-        own = o.own;
-        polled = ap Some numbered;
-        kept = o.kept;
-        again = answers-again octets answer reads (says ∙ sym met.1);
-      }
+  life-repeated number octets answer numbered met reads says = grind (arith, nat_tests, answers-again)

@@ -8,7 +8,7 @@ use Rattle.fio_wire.specs.declared.line_kind.LineKind.{LineKind}
 use Rattle.fio_wire.specs.declared.line_kind.LineKind.TheVariants.{Asynchronous, Synchronous}
 use Rattle.fio_link.specs.declared.line.TimedLine.{TimedLine}
 use Rattle.fio_link.specs.declared.line.Traffic.{Traffic}
-use Rattle.fio_link.specs.Pace.{HasNoPaceBelow, IsPace, answer_scans, clean_pace, most_entries, scans_on_line}
+use Rattle.fio_link.specs.Pace.{HasNoPaceBelow, IsPace, answer_scans, clean_pace, least_apart, most_apart, most_entries, round_scans, scans_on_line}
 
 -- a longer message takes no fewer bits
 pub more_bits : (kind : LineKind) (few many : ℕ) → few ≤ many → most_bits kind few ≤ most_bits kind many
@@ -72,12 +72,29 @@ no_more_scans opened filter per_block scans blocks some_open some takes =
     let more : filter * (count * blocks) ≤ filter * (per_block * blocks / opened) = mul-le-mul_left filter filled in
     omega arith
 
+-- polls are never closer together than by a right clock, nor further apart
+pub apart : (line : TimedLine) (pace : ℕ) → (least_apart line pace ≤ pace) × (pace ≤ most_apart line pace)
+apart line pace =
+    let slow : pace * (1000000 + line.drift) ≡ pace * 1000000 + pace * line.drift = grind arith in
+    let fast : pace * (1000000 - line.drift) ≤ pace * 1000000 = mul-le-mul_left pace (omega arith) in
+    let whole = div-mul-le_self (pace * (1000000 - line.drift)) 1000000 in
+    let below : pace ≤ (pace * (1000000 + line.drift) + 999999) / 1000000 =
+    (le-div_iff_mul-le {k = 1000000} {x = pace} {y = pace * (1000000 + line.drift) + 999999} (omega arith)).1 (omega arith) in
+    (omega arith, omega arith)
+
+-- at a slower pace they may be further apart
+apart_more : (line : TimedLine) (pace n : ℕ) → pace ≤ n → most_apart line pace ≤ most_apart line n
+apart_more line pace n le =
+    let slow : pace * (1000000 + line.drift) ≤ n * (1000000 + line.drift) = mul-le-mul_right (1000000 + line.drift) le in
+    let scans = div-more (pace * (1000000 + line.drift) + 999999) (n * (1000000 + line.drift) + 999999) 1000000 (omega arith) (omega arith) in
+    omega arith
+
 -- no slower pace is one, if blocks do not make up for all scans at this one
 none_slower : (line : TimedLine) (traffic : Traffic) (pace n : ℕ) → pace ≤ n → traffic.per_block * traffic.filter < traffic.opened * clean_pace line pace
     → IsPace line traffic n → ⊥
 none_slower line traffic pace n le many p =
-    let apart : (line.lost + 1) * pace ≤ (line.lost + 1) * n = mul-le-mul_left (line.lost + 1) le in
-    let each : traffic.opened * clean_pace line pace ≤ traffic.opened * clean_pace line n = mul-le-mul_left traffic.opened apart in
+    let clean : clean_pace line pace ≤ clean_pace line n = mul-le-mul_left (line.lost + 1) (apart_more line pace n le) in
+    let each : traffic.opened * clean_pace line pace ≤ traffic.opened * clean_pace line n = mul-le-mul_left traffic.opened clean in
     omega (arith, p.enough)
 
 -- so there is none, if none is below it
@@ -94,7 +111,8 @@ pub most_are_too_many : (line : TimedLine) (traffic : Traffic) → 1 ≤ traffic
     → traffic.per_block * traffic.filter < traffic.opened * clean_pace line (255 * 255 + 1)
 most_are_too_many line traffic some few_entries few_samples =
     let more : 1 ≤ line.lost + 1 = omega arith in
-    let once : 1 * (255 * 255 + 1) ≤ (line.lost + 1) * (255 * 255 + 1) = mul-le-mul_right (255 * 255 + 1) more in
+    let far = (apart line (255 * 255 + 1)).1 in
+    let once : 1 * most_apart line (255 * 255 + 1) ≤ clean_pace line (255 * 255 + 1) = mul-le-mul_right (most_apart line (255 * 255 + 1)) more in
     let each : 1 * clean_pace line (255 * 255 + 1) ≤ traffic.opened * clean_pace line (255 * 255 + 1) = mul-le-mul_right (clean_pace line (255 * 255 + 1)) some in
     let block : traffic.per_block * traffic.filter ≤ 255 * traffic.filter = mul-le-mul_right traffic.filter few_entries in
     omega arith
@@ -113,10 +131,17 @@ some_bits : (kind : LineKind) → 1 ≤ most_bits kind 2
 some_bits (Asynchronous stop) = omega arith
 some_bits Synchronous = omega arith
 
-pub none_below_one : (line : TimedLine) (traffic : Traffic) → HasNoPaceBelow line traffic 1
-none_below_one line traffic zero less p =
+pub some_round : (line : TimedLine) (traffic : Traffic) (pace : ℕ) → 1 ≤ line.rate → 1 ≤ round_scans line traffic pace
+some_round line traffic pace some_rate =
     let bits = some_bits line.kind in
-    let all = most_bits line.kind 2 + most_bits line.kind (8 + 3 * most_entries line traffic 0) + line.other in
-    let some : 1 ≤ scans_on_line line.rate all = (le-div_iff_mul-le {k = line.rate} {x = 1} {y = 1000 * all + (line.rate - 1)} p.some_rate).1 (omega (arith, p.some_rate)) in
-    omega (arith, p.ends)
+    let all = most_bits line.kind 2 + most_bits line.kind (8 + 3 * most_entries line traffic pace) + line.other in
+    let some : 1 ≤ scans_on_line line.rate all = (le-div_iff_mul-le {k = line.rate} {x = 1} {y = 1000 * all + (line.rate - 1)} some_rate).1 (omega arith) in
+    omega arith
+
+-- so polls are a scan apart at least
+pub some_apart : (line : TimedLine) (traffic : Traffic) (pace : ℕ) → IsPace line traffic pace → 1 ≤ least_apart line pace
+some_apart line traffic pace p = let some = some_round line traffic pace p.some_rate in omega (arith, p.ends)
+
+pub none_below_one : (line : TimedLine) (traffic : Traffic) → HasNoPaceBelow line traffic 1
+none_below_one line traffic zero less p = let some = some_apart line traffic 0 p in let near = (apart line 0).0 in omega arith
 none_below_one line traffic (suc n) less p = omega arith

@@ -1,4 +1,5 @@
 -- How long pauses may be, and what is in time.
+use Rattle.std.proofs.lemmas.Bool.Decides.{nat_tests}
 use Rattle.fio_link.proofs.Names.{◌≡◌, ℕ, zero, suc, ◌+◌, ◌-◌, ◌*◌, ◌≤◌, List, [], ◌∷◌, ◌++◌, length, drop, refl, arith, mul-le-mul_left, Settings, Life, life_of, scans_of, Machine, after, clean_round, LeadsOn, Pause, left_behind, BeginNear}
 use Rattle.fio_link.specs.declared.event.Event.TheVariants as events
 use Rattle.fio_link.specs.KeptUp.{AreInTime, RoundIsInTime, RoundWithNothingBetweenIsAfter, Arrives, AllArrivesWhereKeptUpWith, AllArrivesInTime, OutagesArePossible, RoundsCatchUp, StandardLimitsHaveRoom}
@@ -38,10 +39,7 @@ begin_after scans untaken most (pause ∷ later) earlier all low near begin =
 
 -- an outage within a pace
 pub outages_are_possible : OutagesArePossible
-outages_are_possible scans untaken most later outage earlier before longer after near =
-    let left = left_in_time scans untaken earlier before in
-    begin_after scans untaken most later (outage ∷ earlier) after (omega (arith, longer.few, longer.few_untaken)) near
-    (omega (arith, longer.few), begin_in_time scans untaken most near earlier before)
+outages_are_possible scans untaken most later outage earlier before longer after near = grind (arith, nat_tests, left_in_time, begin_after, begin_in_time)
 
 -- rounds catch up
 pub rounds_catch_up : RoundsCatchUp

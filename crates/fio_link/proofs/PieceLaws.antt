@@ -37,18 +37,12 @@ run_of_log settings life from (t ∷ ts) at =
 pub part_stands : (log : List Transition) (per_block : ℕ) (block : MadeBlock) → IsPartOf log per_block block
     → (i : ℕ) (t : Transition) → slice_get block.transitions i ≡ Some t
     → slice_get log (block.start + i) ≡ Some t
-part_stands log per_block block part i t is =
-    get_part (block.end - block.start) block.start log i t (ap (λ ts. slice_get ts i) (sym part.transitions) ∙ is)
+part_stands log per_block block part i t is = grind (arith, nat_tests, get_part)
 
 -- and their number is that of the places
 pub part_count : (log : List Transition) (per_block : ℕ) (block : MadeBlock) → IsPartOf log per_block block
     → block.start + length block.transitions ≡ block.end
-part_count log per_block block part =
-    let count : length block.transitions ≡ length (take (block.end - block.start) (drop block.start log)) =
-    ap length part.transitions in
-    let ends : block.start ≤ block.end = part.ends in
-    let within : block.end ≤ length log = part.within in
-    omega (arith, length-take (block.end - block.start) (drop block.start log), length-drop block.start log)
+part_count log per_block block part = grind (arith, nat_tests, length-take, length-drop)
 
 -- the entries of a block are pieces of the log from its start up to its end
 block_run : (settings : Settings) (life : Life) (block : MadeBlock)
@@ -129,11 +123,10 @@ drop_found (y ∷ ys) (suc k) x is =
 begin_rest : (settings : Settings) (life : Life) (from : ℕ) (pieces : List Piece) (to : ℕ)
     → ArePieces settings life from pieces to
     → (rest : List Entry) × (drop from (map entry_of (log_of life)) ≡ until_gap pieces ++ rest)
-begin_rest settings life from [] to p = (drop from (map entry_of (log_of life)), refl)
-begin_rest settings life from (Gap ∷ pieces) to p = (drop from (map entry_of (log_of life)), refl)
 begin_rest settings life from (EntryPiece entry ∷ pieces) to p =
     let more = begin_rest settings life (from + 1) pieces to p.1 in
     (more.0, drop_found (map entry_of (log_of life)) from entry p.0 ∙ ap (λ es. entry ∷ es) more.1)
+begin_rest settings life from _ to p = (drop from (map entry_of (log_of life)), refl)
 
 -- until the first gap mark, pieces of the log from its start are a prefix of it
 pub pieces_begin_log : PiecesBeginLog

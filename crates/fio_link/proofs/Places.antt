@@ -9,11 +9,6 @@ get_before_push [] ys k y h = absurd cc
 get_before_push (x ∷ xs) ys zero y h = h
 get_before_push (x ∷ xs) ys (suc k) y h = get_before_push xs ys k y h
 
--- what is pushed comes after everything else
-pub get_push : {A : Type 0} (xs : List A) (x : A) → slice_get (xs ++ x ∷ []) (length xs) ≡ Some x
-get_push [] x = refl
-get_push (z ∷ zs) x = get_push zs x
-
 -- what is in a list after a push was there before, or is what was pushed
 pub get_after_push : {A : Type 0} (xs : List A) (x : A) (k : ℕ) (y : A)
     → slice_get (xs ++ x ∷ []) k ≡ Some y → (slice_get xs k ≡ Some y) ⊎ ((k ≡ length xs) × (y ≡ x))

@@ -1,16 +1,11 @@
 -- The polls sent stay in order.
+use Rattle.std.proofs.lemmas.Bool.Decides.{nat_tests}
 use Rattle.fio_link.proofs.Names.{◌≡◌, ℕ, ◌+◌, ◌≤◌, List, [], ◌∷◌, ◌++◌, Some, ap, sym, ◌∙◌, arith, poll_in, SentFrame, number_of, HasPoll, PollsAreInOrder}
 use Rattle.fio_link.proofs.SentMessages.{each_more, rise_more}
 
 -- if no frame was sent
 pub polls-none : (first round next : ℕ) → PollsAreInOrder first [] 0 round next
-polls-none first round next =
-    record {
-      numbers = λ p n r h. absurd (cc (h.at_place));
-      rise = λ p q m n r s le h k. absurd (cc (h.at_place));
-      sent = λ p n r h. absurd (cc (h.at_place));
-      ahead = λ p n r le h. absurd (cc (h.at_place));
-    }
+polls-none first round next = grind (arith, nat_tests)
 
 module _ (first : ℕ) (frames : List SentFrame) (last round next : ℕ) (o : PollsAreInOrder first frames last round next) where
   -- one more frame is sent: if it is a poll, with the CPU's number

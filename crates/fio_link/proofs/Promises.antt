@@ -1,5 +1,6 @@
 -- The promises, from what every run keeps.
-use Rattle.fio_link.proofs.Names.{◌≡◌, ℕ, ◌+◌, ◌≤◌, ◌⊎◌, length, take, map, refl, ap, sym, subst, ◌∙◌, arith, inl, inr, length-drop, flat_map, AllZip, cases_lt, take_all, Settings, AreInRange, Life, life_of, log_of, blocks_of, end_of_blocks, newest_end, waiting_from, blocks_end_within, Machine, piece_of, pieces_of_blocks, ArePieces, blocks_in, IsTimed, sources_of, next_round, PollsOf, BlockAnswersOf, IsRising, List, Event, IsRun}
+use Rattle.std.proofs.lemmas.Bool.Decides.{nat_tests}
+use Rattle.fio_link.proofs.Names.{◌≡◌, ℕ, ◌+◌, ◌≤◌, ◌⊎◌, length, take, map, refl, ap, sym, subst, ◌∙◌, arith, length-drop, flat_map, AllZip, cases_lt, take_all, Settings, AreInRange, Life, life_of, end_of_blocks, blocks_end_within, Machine, piece_of, pieces_of_blocks, ArePieces, blocks_in, IsTimed, sources_of, next_round, PollsOf, BlockAnswersOf, IsRising, List, Event, IsRun}
 use Rattle.fio_link.specs.Headline.{RecordIsLog, Headline}
 use Rattle.fio_link.specs.Claims.{StandsAtTaken, RestIsLostOrWaits, HasTimes}
 use Rattle.fio_link.specs.Rounds.{PollsReceivedHaveRounds, NewestPollMadeNewestBlock, AnswersCarryBlocks}
@@ -22,27 +23,11 @@ use Rattle.fio_link.proofs.Times.{BlockTimely, blocks_timely, blocks_timed}
 
 -- of two numbers at most one apart
 one_behind : (m b : ℕ) → m ≤ b → b ≤ m + 1 → (m ≡ b) ⊎ (m + 1 ≡ b)
-one_behind m b low high =
-    elim (cases_lt m b) as (λ _. (m ≡ b) ⊎ (m + 1 ≡ b)) [
-      | inl below ↦ inr (omega arith)
-      | inr same ↦ inl (omega arith)
-    ]
+one_behind m b low high = grind (arith, nat_tests, cases_lt)
 
 -- what is not recorded, of any life
 pub rest_is_lost_or_waits : (settings : Settings) (life : Life) → RestIsLostOrWaits settings life
-rest_is_lost_or_waits settings life =
-    let blocks = blocks_of settings life in
-    let within : newest_end settings life ≤ length (log_of life) = blocks_end_within settings life in
-    let all : take (length blocks) blocks ≡ blocks = take_all (length blocks) blocks (omega arith) in
-    let waiting = length-drop (waiting_from settings life) (log_of life) in
-    record {
-      in_blocks = subst (λ bs. ArePieces settings life 0 (pieces_of_blocks (length blocks) blocks) (end_of_blocks bs)) all
-          (taken_are_pieces settings life (length blocks) (omega arith));
-      pushed_out = omega arith;
-      only_when_full = λ pushed. omega (arith, waiting);
-      rest_waits = omega (arith, waiting);
-      few_wait = omega (arith, waiting);
-    }
+rest_is_lost_or_waits settings life = grind (arith, nat_tests, blocks_end_within, take_all, length-drop, taken_are_pieces)
 
 module _ (settings : Settings) (range : AreInRange settings) (first : ℕ) (machine : Machine) (k : IsKept settings first machine) where
   -- the CPU has taken no more blocks than were made
@@ -134,9 +119,7 @@ pub polls_are_in_order : HoldsOfRuns (λ settings first events machine. PollsOf 
 polls_are_in_order settings first events machine range run = (invariant settings range first events machine run).polls
 
 pub newest_poll_rounds : HoldsOfRuns (λ settings first events machine. PollsReceivedHaveRounds first machine)
-newest_poll_rounds settings first events machine range run =
-    let i = invariant settings range first events machine run in
-    record { numbers = i.received.numbered; at_most = i.at_most }
+newest_poll_rounds settings first events machine range run = grind (arith, nat_tests, invariant)
 
 pub newest_poll_made_newest_block : HoldsWithoutRestart (λ settings first machine. NewestPollMadeNewestBlock settings machine)
 newest_poll_made_newest_block settings first events machine range run none =

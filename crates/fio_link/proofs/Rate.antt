@@ -1,15 +1,15 @@
 -- Links that are polled at a pace of their line lose nothing and are never late.
-use Rattle.fio_link.proofs.Names.{◌≡◌, ℕ, ◌+◌, ◌-◌, ◌*◌, ◌≤◌, Bool, true, false, List, [], ◌∷◌, ◌++◌, drop, refl, ap, sym, subst, ◌∙◌, arith, append_assoc, append_cancel_right, AllByRecursion, HasFewOpen, if◌then◌else◌, nat_lt, nat_tests, Settings, AreInRange, Life, life_of, scans_of, filter_events, log_of, Machine, end_recorded, IsSettled, LeadsInTime, LeadsOn, IsWithin, left_behind}
+use Rattle.fio_link.proofs.Names.{◌≡◌, ℕ, ◌+◌, ◌-◌, ◌*◌, ◌≤◌, Bool, true, false, List, [], ◌∷◌, ◌++◌, refl, ap, sym, subst, ◌∙◌, arith, append_assoc, append_cancel_right, AllByRecursion, HasFewOpen, if◌then◌else◌, nat_lt, nat_tests, Settings, AreInRange, Life, life_of, Machine, IsSettled, left_behind}
 use Rattle.std.proofs.Common.{◌/◌}
 use Rattle.fio_module.proofs.Pace.{each_before}
 use Rattle.fio_link.specs.declared.line.TimedLine.{TimedLine}
-use Rattle.fio_link.specs.KeptUp.{Arrives, IsLateBy}
-use Rattle.fio_link.specs.Pace.{IsPace, traffic_of, clean_pace, most_behind, most_changes, round_scans}
-use Rattle.fio_link.specs.Rate.{ArrivesAtRate, ArrivesInTimeAtARate, IsNoLater, IsPolledAtAPace, RoundsOnLine}
+use Rattle.fio_link.specs.KeptUp.{IsLateBy}
+use Rattle.fio_link.specs.Pace.{IsPace, traffic_of, clean_pace, most_apart, most_behind, most_changes, round_scans}
+use Rattle.fio_link.specs.Rate.{ArrivesInTimeAtARate, IsNoLater, RoundsOnLine}
 use Rattle.fio_link.specs.Sound.{HoldsWhateverRestarts}
 use Rattle.fio_link.proofs.AllArrives.{all_arrives_where_kept_up_with}
 use Rattle.fio_link.proofs.Grown.{grows}
-use Rattle.fio_link.proofs.LinePauses.{IsFew, IsPunctual, next, next_leads_on, no_fewer, none_yet, time}
+use Rattle.fio_link.proofs.LinePauses.{IsFew, IsPunctual, ends_before, next, next_leads_on, no_fewer, none_yet, time}
 use Rattle.fio_link.proofs.MadeBlocks.{each-map}
 use Rattle.fio_link.proofs.PaceNumbers.{no_more_scans}
 use Rattle.fio_link.proofs.Promises.{opens}
@@ -63,6 +63,7 @@ arrives_in_time_at_a_rate settings first events machine range run line opened fi
     λ l is. subst (IsFew settings range first machine o line opened filter pace p polled.some_wait polled.some polled.settled)
     (append_cancel_right later l (life_of machine.history) (sym polled.since ∙ is)) polled.few_open in
     let t = punctual settings range first machine o line opened filter pace p polled.some_wait polled.some polled.settled losses begin receipt last polled.rounds polled.few_lost few in
+    let ends = ends_before settings range first machine o line opened filter pace p polled.some_wait polled.some polled.settled in
     let a = all_arrives_where_kept_up_with settings range first machine o opened filter (clean_pace line pace) (most_behind line pace) t.pauses receipt last later
     (record {
       some_wait = polled.some_wait;
@@ -74,7 +75,7 @@ arrives_in_time_at_a_rate settings first events machine range run line opened fi
         since = polled.since;
         few_change = record { nothing_waits = polled.settled.nothing_waits; some = polled.some; few_open = polled.few_open; enough = p.enough };
       };
-      heard_near = omega (arith, t.ends, t.left, p.ends);
+      heard_near = omega (arith, t.ends, t.left, ends);
     }) in
     record {
       ends = t.ends;
@@ -85,7 +86,7 @@ arrives_in_time_at_a_rate settings first events machine range run line opened fi
           let grown = no_fewer settings first last now on in
           late_by (nat_lt settings.per_block (most_changes (traffic_of settings opened filter) (clean_pace line pace))) settings opened filter
           (clean_pace line pace) (most_behind line pace) (between + left_behind (clean_pace line pace) t.pauses)
-          (line.lost * pace + clean_pace line pace + round_scans line (traffic_of settings opened filter) pace) machine last now later
+          (line.lost * most_apart line pace + clean_pace line pace + round_scans line (traffic_of settings opened filter) pace) machine last now later
           polled.some_open polled.some (omega (arith, t.ends, t.left, t.order)) refl
           (a.at between now (record { leads_on = on; in_time = omega arith }));
     }

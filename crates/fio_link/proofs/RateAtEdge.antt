@@ -1,6 +1,6 @@
 -- A link at the edge of its rate, by computation: 64 open inputs with filters of 5, polled every 4 scans over a synchronous
 -- line of 614,400 bit/s.
-use Rattle.fio_link.proofs.Names.{◌≡◌, ℕ, List, [], ◌∷◌, ◌++◌, drop, slice_get, Some, refl, ap, sym, ◌∙◌, arith, true, false, Poll, NoneIsApplied, none_applied, Life, Commanded, life_of, scans_of, filter_events, log_of, Machine, after, Leads, clean_round, LeadsOn, end_recorded}
+use Rattle.fio_link.proofs.Names.{◌≡◌, [], ◌∷◌, drop, slice_get, Some, refl, ap, arith, false, Poll, Life, Commanded, life_of, scans_of, filter_events, log_of, Machine, after, Leads, clean_round, LeadsOn, end_recorded}
 use Rattle.fio_message.specs.Bits.{is_set}
 use Rattle.fio_message.specs.Decoding.{message_in}
 use Rattle.fio_input.proofs.FewStayOpen.{all_may_open, filters_stay}
@@ -11,11 +11,11 @@ use Rattle.fio_link.specs.declared.event.Event.TheVariants as events
 use Rattle.fio_link.specs.declared.line.TimedLine.{TimedLine}
 use Rattle.fio_link.specs.Sharpness.{IsAsLateAtARate}
 use Rattle.fio_link.proofs.DenseRuns.{done, dense, leads_scans, no_restart}
-use Rattle.fio_link.proofs.Sharpness.{standard, beginning, machine0, run0, taken0, waits0, life0, filters0, polls0}
+use Rattle.fio_link.proofs.Sharpness.{standard, beginning, machine0, run0, taken0, waits0, filters0, polls0}
 use Rattle.fio_link.proofs.WithinRounds.{nothing_between_is_clean}
 
 abbrev pub fast : TimedLine
-fast = record { kind = Synchronous; rate = 614400; answer = 0; other = 0; lost = 0 }
+fast = record { kind = Synchronous; rate = 614400; answer = 0; other = 0; lost = 0; drift = 0; jitter = 0 }
 
 -- one round in which nothing is taken, and 8 scans, the last 4 of them while the next round goes on
 unfoldable last1 : Machine

@@ -1,6 +1,6 @@
 -- A link beyond its rate, by computation: 64 open inputs with filters of 1, blocks of 64 entries, and rounds of 2 scans where
 -- each scan should have one.
-use Rattle.fio_link.proofs.Names.{◌≡◌, ℕ, ◌+◌, ◌*◌, ◌≤◌, List, [], ◌∷◌, ◌++◌, length, slice_get, Some, refl, ap, sym, subst, ◌∙◌, arith, ConfigureInputs, Poll, OpenHaveFiltersOf, NoneIsApplied, none_applied, Settings, AreInRange, Life, Commanded, life_of, scans_of, filter_events, waiting_of, opened, Event, Machine, start, after, Leads, IsRun, next_round, HasTakenAll, LeadsOn, IsCleanRound}
+use Rattle.fio_link.proofs.Names.{◌≡◌, ℕ, ◌+◌, ◌*◌, ◌≤◌, List, [], ◌∷◌, ◌++◌, length, slice_get, Some, refl, ap, sym, subst, ◌∙◌, arith, ConfigureInputs, Poll, OpenHaveFiltersOf, NoneIsApplied, none_applied, Settings, Life, Commanded, life_of, scans_of, filter_events, waiting_of, opened, Event, Machine, start, after, IsRun, next_round, HasTakenAll, LeadsOn, IsCleanRound}
 use Rattle.fio_message.specs.Bits.{is_set}
 use Rattle.fio_message.specs.Decoding.{message_in}
 use Rattle.fio_input.proofs.FewStayOpen.{all_may_open, filters_stay}
@@ -20,7 +20,7 @@ abbrev pub settings : Settings
 settings = record { id = 0; per_block = 64; waiting = 128 }
 
 abbrev pub slow : TimedLine
-slow = record { kind = Synchronous; rate = 2000000; answer = 0; other = 1900; lost = 0 }
+slow = record { kind = Synchronous; rate = 2000000; answer = 0; other = 1900; lost = 0; drift = 0; jitter = 0 }
 
 abbrev beginning : List Event
 beginning = events.Send (ConfigureInputs (record { items = items_below 1 64 })) ∷ events.ToModule 1 ∷ []

@@ -1,5 +1,5 @@
 -- What a frame that the module receives does to its life and gets as its answer.
-use Rattle.fio_link.proofs.Names.{◌≡◌, ℕ, ◌^◌, ◌<◌, ◌≤◌, false, List, [], ◌∷◌, ◌++◌, length, map, Option, Some, None, refl, ap, sym, subst, ◌∙◌, arith, option_map, AllByRecursion, nat_tests, same_Some, length-map, Command, Answer, IsEntry, answer_octets, says_again, says_out_of_sequence, polled_number, answered_block, block_in, Settings, Life, entry_of, MadeBlock, newest_poll, is_new, blocks_of, next_block, Sending, answer_of_sending, first_sending, repeat_of, latest_sending, answer_if, CarriesBlock}
+use Rattle.fio_link.proofs.Names.{◌≡◌, ℕ, ◌≤◌, false, List, [], ◌∷◌, ◌++◌, Option, Some, None, refl, ap, sym, subst, ◌∙◌, arith, option_map, AllByRecursion, nat_tests, same_Some, length-map, Command, Answer, answer_octets, says_again, says_out_of_sequence, polled_number, answered_block, block_in, Settings, Life, MadeBlock, newest_poll, is_new, blocks_of, next_block, Sending, answer_of_sending, first_sending, repeat_of, latest_sending, answer_if, CarriesBlock}
 use Rattle.fio_message.specs.declared.commands.Command.TheVariants as commands
 use Rattle.fio_message.proofs.StatusBits.{status_back}
 use Rattle.fio_module.specs.Replies.{answer_to}
@@ -23,8 +23,7 @@ pub no_block_reply : (settings : Settings) (life : Life) (command : Option Comma
     → (answer : Answer) → answer_if settings life command ≡ Some answer
     → block_in (answer_octets answer) ≡ None
 no_block_reply settings life None other answer is = absurd (cc is)
-no_block_reply settings life (Some command) other answer is =
-    no_block_in answer (no_block_answer settings life command other answer is)
+no_block_reply settings life (Some command) other answer is = grind (arith, nat_tests, no_block_in, no_block_answer)
 
 -- a poll that is not new has the number of the poll before it
 pub same_number : (latest : Option ℕ) (number : ℕ) → is_new latest number ≡ false → latest ≡ Some number
@@ -46,15 +45,7 @@ pub carried_back : (per_block : ℕ) (sending : Sending) (block : MadeBlock) →
     → sending.number ≤ 255
     → FitsAnswer per_block block → Carries sending block
     → block_in (answer_octets (answer_of_sending sending)) ≡ Some (said sending)
-carried_back per_block sending block few number fits carried =
-    let count : length sending.entries ≡ length (map entry_of block.transitions) = ap length carried.entries in
-    let stamp : sending.stamp ≡ block.stamp = carried.stamp in
-    let low : block.stamp < 2 ^ 32 = fits.stamp in
-    let room : length block.transitions ≤ per_block = fits.count in
-    sending_back sending (omega arith)
-    (omega (arith, length-map block.transitions entry_of))
-    (subst (AllByRecursion IsEntry) (sym carried.entries) (entries_fit block.transitions fits.inputs))
-    (omega arith)
+carried_back per_block sending block few number fits carried = grind (arith, nat_tests, sending_back, length-map, entries_fit)
 
 -- and what is read carries the block
 pub carried_says : (sending : Sending) (block : MadeBlock) → Carries sending block

@@ -2,7 +2,7 @@
 use Rattle.fio_link.proofs.Names.{◌≡◌, ℕ, ◌+◌, ◌≤◌, Bool, true, false, List, [], ◌∷◌, ◌++◌, length, map, Option, Some, slice_get, refl, ap, sym, subst, ◌∙◌, arith, length-append, append_assoc, option_map, map-append, Command, answer_octets, command_in, polled_number, Settings, AreInRange, History, Life, life_of, life_after_command, Transition, whole_log, MadeBlock, newest_poll, is_new, blocks_of, end_of_blocks, newest_end, next_block, Sending, answer_of_sending, is_out_of_sequence, first_sending, repeat_of, answer_if, SentFrame, Machine, number_of, answer_frames, polls_with, after_delivery_to_module, HasPoll, with_poll_number, received_numbers, next_round}
 use Rattle.fio_message.specs.declared.commands.Command.TheVariants as commands
 use Rattle.fio_module.proofs.Ends.{last_end-append}
-use Rattle.fio_link.proofs.Places.{get_push}
+use Rattle.fio_module.proofs.ListParts.{get_last}
 use Rattle.fio_link.proofs.RoundNumbers.{number_of-fits}
 use Rattle.fio_link.proofs.Spelled.{said}
 use Rattle.fio_link.proofs.MadeBlocks.{next_fits}
@@ -70,7 +70,7 @@ module _ (settings : Settings) (range : AreInRange settings) (first : ℕ) (mach
         place = length makers;
         round = round;
         last = length-append makers (round ∷ []);
-        made_by = get_push makers round;
+        made_by = get_last makers round;
         newest = refl;
       })
       (carry-new first all makers machine.to_cpu (behind past block) round i.carry)
@@ -79,8 +79,8 @@ module _ (settings : Settings) (range : AreInRange settings) (first : ℕ) (mach
         in_sequence = said_out_of_sequence sending ∙ met;
         place = length all;
         block = behind past block;
-        is_made = get_push all (behind past block);
-        made_by = ap (slice_get (makers ++ round ∷ [])) (sym i.received.makers_in_order.count) ∙ get_push makers round;
+        is_made = get_last all (behind past block);
+        made_by = ap (slice_get (makers ++ round ∷ [])) (sym i.received.makers_in_order.count) ∙ get_last makers round;
         carried = record { entries = carries.entries; more = carries.more; lost = carries.lost; stamp = carries.stamp };
       })
       (rises-new log all makers (reached settings h) limit machine.round round machine.items
@@ -136,7 +136,7 @@ module _ (settings : Settings) (range : AreInRange settings) (first : ℕ) (mach
         in_sequence = said_out_of_sequence again;
         place = length earlier;
         block = behind past block;
-        is_made = ap (λ blocks. slice_get blocks (length earlier)) split ∙ get_push earlier (behind past block);
+        is_made = ap (λ blocks. slice_get blocks (length earlier)) split ∙ get_last earlier (behind past block);
         made_by = ap (slice_get makers) (sym there) ∙ m.made_by ∙ ap Some this;
         carried = record { entries = carries.entries; more = carries.more; lost = carries.lost; stamp = carries.stamp };
       })

@@ -10,7 +10,7 @@ last_end-split start [] ys = refl
 last_end-split start (x ∷ xs) ys = last_end-split x.end xs ys
 
 -- if blocks follow one another, so do those after a first part
-follow-behind : (log : List Transition) (per_block start : ℕ) (xs ys : List MadeBlock)
+pub follow-behind : (log : List Transition) (per_block start : ℕ) (xs ys : List MadeBlock)
     → FollowOneAnother log per_block start (xs ++ ys) → FollowOneAnother log per_block (last_end start xs) ys
 follow-behind log per_block start [] ys f = f
 follow-behind log per_block start (x ∷ xs) ys f = follow-behind log per_block x.end xs ys f.2
@@ -132,15 +132,7 @@ has_before settings part stretch =
 few_of : (per_block waiting : ℕ) (after waits before : List Transition) → (after ≡ []) ⊎ (before ≡ [])
     → length after ≤ per_block → length waits ≤ waiting → length before ≤ per_block
     → length (after ++ (waits ++ before)) ≤ waiting + per_block
-few_of per_block waiting after waits before one few_after few_wait few_before =
-    elim one as (λ _. length (after ++ (waits ++ before)) ≤ waiting + per_block) [
-      | inl none ↦
-          let empty : length after ≡ 0 = ap length none in
-          omega (arith, length-append after (waits ++ before), length-append waits before)
-      | inr none ↦
-          let empty : length before ≡ 0 = ap length none in
-          omega (arith, length-append after (waits ++ before), length-append waits before)
-    ]
+few_of per_block waiting after waits before one few_after few_wait few_before = grind (arith, nat_tests, length-append)
 
 -- a restart loses few
 loses_few : (settings : Settings) (old new : TakenLife) → IsOneStretch settings old → IsOneStretch settings new
@@ -172,7 +164,6 @@ loses_few settings old new left right one =
 -- so does each
 pub restarts_lose_few : (settings : Settings) (lives : List TakenLife) → AllByRecursion (IsOneStretch settings) lives
     → AtEachRestart NotBoth lives → AtEachRestart (LosesFew settings) lives
-restarts_lose_few settings [] stretches ones = tt
-restarts_lose_few settings (part ∷ []) stretches ones = tt
 restarts_lose_few settings (old ∷ (new ∷ later)) stretches ones =
     (loses_few settings old new stretches.0 stretches.1.0 ones.0, restarts_lose_few settings (new ∷ later) stretches.1 ones.1)
+restarts_lose_few settings _ stretches ones = tt

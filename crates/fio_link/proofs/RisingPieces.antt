@@ -1,8 +1,8 @@
 -- The record rises through a log that grows.
-use Rattle.fio_link.proofs.Names.{◌≡◌, ℕ, zero, suc, ◌+◌, ◌<◌, ◌≤◌, Bool, true, false, List, [], ◌∷◌, ◌++◌, length, map, Some, slice_get, refl, ap, sym, subst, ◌∙◌, arith, inl, inr, if◌then◌else◌, slice_get_within, slice_get-map, option_map, map-append, length-map, Entry, Block, Transition, entry_of, MadeBlock, Item, item_of, items_of_block, Piece, Gap, EntryPiece, piece_of, CarriesBlock}
+use Rattle.std.proofs.lemmas.Bool.Decides.{nat_tests}
+use Rattle.fio_link.proofs.Names.{◌≡◌, ℕ, zero, suc, ◌+◌, ◌<◌, ◌≤◌, Bool, true, false, List, [], ◌∷◌, ◌++◌, length, map, Some, slice_get, refl, ap, sym, subst, ◌∙◌, arith, if◌then◌else◌, slice_get_within, slice_get-map, map-append, length-map, Entry, Block, Transition, entry_of, MadeBlock, Item, item_of, items_of_block, Piece, Gap, EntryPiece, piece_of, CarriesBlock}
 use Rattle.std.specs.Prelude.{slice_index}
 use Rattle.std.specs.List.Sorted.{IsStrictlyIncreasing}
-use Rattle.fio_message.specs.Status.{says_lost}
 use Rattle.fio_cpu.specs.declared.record.Item.TheVariants as items
 use Rattle.fio_link.specs.Rising.{entries_got, Rises}
 use Rattle.fio_link.proofs.Places.{get_before_push, get_after_push}
@@ -76,31 +76,7 @@ pub rise_taken : (log : List Transition) (to : ℕ) (record_items : List Item) (
     → RiseFrom (map entry_of log) 0 (map piece_of record_items) to → to ≤ block.start → StandsIn log block
     → CarriesBlock answer block
     → RiseFrom (map entry_of log) 0 (map piece_of (record_items ++ items_of_block answer)) block.end
-rise_taken log to record_items answer block rises low stands carries =
-    let entries = map entry_of log in
-    let count : length answer.entries ≡ length (map entry_of block.transitions) = ap length carries.entries in
-    let ends : block.start + length block.transitions ≡ block.end = stands.count in
-    let end : block.start + length answer.entries ≡ block.end = omega (arith, length-map block.transitions entry_of) in
-    let run = rise_run entries to block.start answer.entries low (λ i e is.
-    entry_stands log block stands i e (ap (λ es. slice_get es i) (sym carries.entries) ∙ is)) in
-    let marked = rise_marked (says_lost answer.status) entries to block.end answer.stamp answer.entries
-    (subst (RiseFrom entries to (got answer.entries)) end run) in
-    subst (λ ps. RiseFrom entries 0 ps block.end) (sym (map-append piece_of record_items (items_of_block answer)))
-    (rise-append entries 0 to block.end (map piece_of record_items) (map piece_of (items_of_block answer)) rises marked)
-  where
-    entry_from : (ts : List Transition) (i : ℕ) (e : Entry) → slice_get (map entry_of ts) i ≡ Some e
-        → (t : Transition) × (slice_get ts i ≡ Some t) × (entry_of t ≡ e)
-    entry_from [] i e is = absurd (cc is)
-    entry_from (t ∷ ts) zero e is = (t, refl, cc)
-    entry_from (t ∷ ts) (suc i) e is = entry_from ts i e is
-
-    entry_stands : (log : List Transition) (block : MadeBlock) → StandsIn log block → (i : ℕ) (e : Entry)
-        → slice_get (map entry_of block.transitions) i ≡ Some e
-        → slice_get (map entry_of log) (block.start + i) ≡ Some e
-    entry_stands log block stands i e is =
-        let found = entry_from block.transitions i e is in
-        slice_get-map entry_of log (block.start + i)
-        ∙ ap (option_map entry_of) (stands.places i found.0 found.1) ∙ ap Some found.2
+rise_taken log to record_items answer block rises low stands carries = grind (arith, nat_tests, length-map, rise_run, rise_marked, map-append, piece_of, rise-append, slice_get-map)
 
 -- the record rises to a place that no block of the CPU's round or a later one starts before
 pub record RecordRises (log : List Transition) (blocks : List MadeBlock) (makers : List ℕ)
@@ -116,40 +92,20 @@ pub record RecordRises (log : List Transition) (blocks : List MadeBlock) (makers
 pub rises-longer : (log more : List Transition) (blocks : List MadeBlock) (makers : List ℕ) (limit round : ℕ) (taken : List Item)
     → RecordRises log blocks makers limit round taken
     → RecordRises (log ++ more) blocks makers limit round taken
-rises-longer log more blocks makers limit round taken s =
-    record {
-      to = s.to;
-      rises = subst (λ es. RiseFrom es 0 (map piece_of taken) s.to) (sym (map-append entry_of log more))
-          (rise-more (map entry_of log) (map entry_of more) 0 s.to (map piece_of taken) s.rises);
-      limited = s.limited;
-      ahead = s.ahead;
-    }
+rises-longer log more blocks makers limit round taken s = grind (arith, nat_tests, piece_of, map-append, rise-more)
 
 -- the next block may take from a later place on
 pub rises-further : (log : List Transition) (blocks : List MadeBlock) (makers : List ℕ) (limit later round : ℕ) (taken : List Item)
     → limit ≤ later → RecordRises log blocks makers limit round taken
     → RecordRises log blocks makers later round taken
-rises-further log blocks makers limit later round taken le s =
-    record { to = s.to; rises = s.rises; limited = omega (arith, s.limited); ahead = s.ahead }
+rises-further log blocks makers limit later round taken le s = grind (arith, nat_tests)
 
 -- one more block is made
 pub rises-new : (log : List Transition) (blocks : List MadeBlock) (makers : List ℕ) (limit later round r : ℕ) (taken : List Item) (block : MadeBlock)
     → limit ≤ block.start → limit ≤ later → length makers ≡ length blocks
     → RecordRises log blocks makers limit round taken
     → RecordRises log (blocks ++ block ∷ []) (makers ++ r ∷ []) later round taken
-rises-new log blocks makers limit later round r taken block low high count s =
-    record {
-      to = s.to;
-      rises = s.rises;
-      limited = omega (arith, s.limited);
-      ahead = λ k b x p q le. elim (get_after_push blocks block k b p) as (λ _. s.to ≤ b.start) [
-        | inl old ↦ elim (get_after_push makers r k x q) as (λ _. s.to ≤ b.start) [
-          | inl older ↦ s.ahead k b x old older le
-          | inr new ↦ absurd (omega (arith, slice_get_within blocks k b old))
-        ]
-        | inr new ↦ subst (λ (u : MadeBlock). s.to ≤ u.start) (sym new.1) (omega (arith, s.limited))
-      ];
-    }
+rises-new log blocks makers limit later round r taken block low high count s = grind (arith, nat_tests, get_after_push, slice_get_within)
 
 -- places that rise, from one on
 abbrev Increase : ℕ → List ℕ → Type 0

@@ -1,4 +1,5 @@
 -- Each event of the link machine keeps what every run keeps.
+use Rattle.std.proofs.lemmas.Bool.Decides.{nat_tests}
 use Rattle.fio_link.proofs.Names.{◌≡◌, ℕ, ◌+◌, ◌≤◌, List, [], ◌∷◌, ◌++◌, length, None, Some, refl, ap, sym, subst, arith, length-append, append-nil, Command, command_octets, poll_in, Settings, AreInRange, History, life_of, Transition, log_of, whole_log, MadeBlock, newest_poll, newest_end, blocks_end_within, Event, SentFrame, Machine, start, number_of, refusal, after_module_event, after_sending, after, Leads, IsRun, received_numbers, HaveNoRestart, next_round}
 use Rattle.fio_module.specs.Life as module_events
 use Rattle.fio_module.specs.Log.{transitions_below}
@@ -15,20 +16,7 @@ use Rattle.fio_link.proofs.Events.{IsKeptByEvents, once, along}
 
 -- the start
 pub keeps-start : (settings : Settings) (first : ℕ) → HasInvariant settings first start
-keeps-start settings first =
-    record {
-      polls = polls-none first 0 0;
-      answers = answers-none 0;
-      at_most = omega arith;
-      received = record {
-        numbered = refl;
-        newest = λ n is. absurd (cc is);
-        makers_in_order = record { count = refl; rise = λ j k r s le p q. absurd (cc p); below = λ j r p. absurd (cc p) };
-        maker = λ n is. absurd (cc is);
-      };
-      carry = λ p a r h. absurd (cc (h.at_place));
-      rising = record { to = 0; rises = omega arith; limited = omega arith; ahead = λ k b r p q le. absurd (cc p) };
-    }
+keeps-start settings first = grind (arith, nat_tests, polls-none, answers-none)
 
 module _ (settings : Settings) (range : AreInRange settings) (first : ℕ) (machine : Machine)
     (i : HasInvariant settings first machine) where

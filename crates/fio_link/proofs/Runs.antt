@@ -1,5 +1,5 @@
 -- Every run keeps what each event keeps, and what follows whatever restarts.
-use Rattle.fio_link.proofs.Names.{◌≡◌, ℕ, ◌+◌, ◌==◌, Bool, true, false, List, [], ◌∷◌, refl, ap, sym, ◌∙◌, arith, if◌then◌else◌, nat_tests, Block, Settings, AreInRange, Event, ToCpu, Machine, start, number_of, after_delivered_block, after_delivery_to_cpu, after, Leads, HasBlock, IsRising}
+use Rattle.fio_link.proofs.Names.{◌≡◌, ℕ, ◌+◌, ◌==◌, Bool, true, false, List, [], ◌∷◌, refl, ap, sym, ◌∙◌, arith, if◌then◌else◌, nat_tests, Block, Settings, AreInRange, Event, ToCpu, Machine, start, number_of, after, Leads, HasBlock, IsRising}
 use Rattle.std.proofs.Common.{◌↔◌}
 use Rattle.fio_link.specs.Claims.{TakesPresentRound, IsInSequence}
 use Rattle.fio_link.specs.Sound.{LeadToOneMachine}
@@ -40,10 +40,7 @@ round_heard : (settings : Settings) (first : ℕ) (machine : Machine) (place : �
     → HasBlock machine.to_cpu place block round
     → (after settings first machine (ToCpu (place + 1))).round
     ≡ (if block.number == number_of first machine.round then machine.round + 1 else machine.round)
-round_heard settings first machine place block round has =
-    ap (λ frame. (after_delivery_to_cpu first machine (place + 1) frame).round) (frame_at_place machine.to_cpu place ∙ has.at_place)
-    ∙ ap (λ found. (after_delivered_block first (record machine { last_to_cpu = place + 1 }) found).round) has.spells
-    ∙ round_taken machine place block (block.number == number_of first machine.round)
+round_heard settings first machine place block round has = grind (arith, nat_tests, frame_at_place, round_taken)
 
 -- a round is over exactly if the numbers are equal
 over_if_same : (number present round : ℕ)

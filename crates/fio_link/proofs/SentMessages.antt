@@ -1,5 +1,6 @@
 -- Messages among frames and one frame more.
-use Rattle.fio_link.proofs.Names.{◌≡◌, ℕ, ◌≤◌, List, [], ◌∷◌, ◌++◌, length, Option, Some, None, sym, subst, arith, inl, inr, slice_get_within, SentFrame}
+use Rattle.std.proofs.lemmas.Bool.Decides.{nat_tests}
+use Rattle.fio_link.proofs.Names.{◌≡◌, ℕ, ◌≤◌, List, [], ◌∷◌, ◌++◌, length, Option, Some, None, arith, slice_get_within, SentFrame}
 use Rattle.fio_link.specs.Frames.{HasMessage}
 use Rattle.fio_link.proofs.Places.{get_after_push}
 
@@ -9,14 +10,7 @@ module _ {A : Type 0} (decoded : List ℕ → Option A) (frames : List SentFrame
       → ((p : ℕ) (a : A) (r : ℕ) → HasMessage decoded frames p a r → P p a r)
       → ((a : A) → decoded f.octets ≡ Some a → P (length frames) a f.round)
       → (p : ℕ) (a : A) (r : ℕ) → HasMessage decoded (frames ++ f ∷ []) p a r → P p a r
-  each_more P old new p a r h =
-      elim (get_after_push frames f p h.frame h.at_place) as (λ _. P p a r) [
-        | inl at ↦ old p a r (record { frame = h.frame; at_place = at; spells = h.spells; of_round = h.of_round })
-        | inr last ↦
-            let spells : decoded f.octets ≡ Some a = subst (λ (g : SentFrame). decoded g.octets ≡ Some a) last.1 h.spells in
-            let round : f.round ≡ r = subst (λ (g : SentFrame). g.round ≡ r) last.1 h.of_round in
-            subst (λ n. P n a r) (sym last.0) (subst (P (length frames) a) round (new a spells))
-      ]
+  each_more P old new p a r h = grind (arith, nat_tests, get_after_push)
 
   -- the messages among frames and one more are those among the frames, if the last frame is no message
   pub none_more : decoded f.octets ≡ None

@@ -1,5 +1,6 @@
 -- Settled points, and what holds since one, whatever came before it.
-use Rattle.fio_link.proofs.Names.{◌≡◌, ℕ, ◌+◌, ◌-◌, List, [], ◌∷◌, ◌++◌, length, take, ap, sym, ◌∙◌, arith, length-append, append-nil, take_all, Settings, AreInRange, life_of, newest_poll, newest_end, end_of_blocks, Event, Machine, Leads, HaveNoRestart, blocks_in, next_round, IsCleanRound, newest_number, HasTakenAll, end_recorded}
+use Rattle.std.proofs.lemmas.Bool.Decides.{nat_tests}
+use Rattle.fio_link.proofs.Names.{◌≡◌, ℕ, ◌+◌, ◌-◌, List, [], ◌∷◌, ◌++◌, length, ap, sym, ◌∙◌, arith, length-append, append-nil, take_all, Settings, AreInRange, life_of, newest_poll, newest_end, Event, Machine, Leads, HaveNoRestart, blocks_in, next_round, IsCleanRound, newest_number, HasTakenAll, end_recorded}
 use Rattle.fio_link.specs.Settled.{StandsWithoutRestart, CleanRoundTakesAll, RoundsMakeBlocks}
 use Rattle.fio_link.specs.declared.event.Event.TheVariants as events
 use Rattle.fio_link.proofs.Kept.{HasInvariant}
@@ -15,22 +16,12 @@ use Rattle.fio_link.proofs.SinceRound.{IsSince, since_all}
 -- if the CPU has taken all blocks, the record goes to the end of the newest
 pub recorded_end : (settings : Settings) (machine : Machine) → next_round machine.polls ≡ machine.round
     → end_recorded settings machine ≡ newest_end settings (life_of machine.history)
-recorded_end settings machine all =
-    let blocks = blocks_in settings machine in
-    let whole : length blocks - (next_round machine.polls - machine.round) ≡ length blocks = omega (arith, all) in
-    ap end_of_blocks (ap (λ n. take n blocks) whole ∙ take_all (length blocks) blocks (omega arith))
+recorded_end settings machine all = grind (arith, nat_tests, take_all)
 
 -- without restarts
 pub stands_without_restart : (settings : Settings) (first : ℕ) (machine : Machine) → IsKept settings first machine
     → StandsWithoutRestart settings first machine
-stands_without_restart settings first machine k =
-    let blocks = blocks_in settings machine in
-    let made : next_round machine.polls ≡ length blocks = k.one_life.made in
-    let upto : length blocks - (next_round machine.polls - machine.round) ≡ machine.round = omega (arith, k.always.answers.behind) in
-    record {
-      all = (λ (t : HasTakenAll first machine). sym t.answered ∙ made, λ all. record { answered = made ∙ sym all; present = k.one_life.polled });
-      end = ap (λ n. end_of_blocks (take n blocks)) upto;
-    }
+stands_without_restart settings first machine k = grind (arith, nat_tests)
 
 module _ (settings : Settings) (range : AreInRange settings) (first : ℕ) where
   -- what holds of a machine, whatever was restarted

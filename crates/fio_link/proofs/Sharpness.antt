@@ -1,4 +1,5 @@
 -- How late the densest traffic is on a standard link, by computation: 64 open inputs with filters of 5.
+use Rattle.std.proofs.lemmas.Bool.Decides.{nat_tests}
 use Rattle.fio_link.proofs.Names.{◌≡◌, ℕ, List, [], ◌∷◌, ◌++◌, drop, slice_get, Some, None, refl, ap, sym, subst, ◌∙◌, arith, ConfigureInputs, Poll, OpenHaveFiltersOf, NoneIsApplied, Settings, standard_settings, Life, Commanded, life_of, scans_of, filter_events, waiting_of, log_of, opened, none_applied, Event, Machine, start, refusal, after, Leads, IsRun, clean_round, IsWithin, LeadsInTime, next_round, end_recorded, HasTakenAll, Pause, true}
 use Rattle.fio_message.specs.Bits.{is_set}
 use Rattle.fio_message.specs.Decoding.{message_in}
@@ -218,8 +219,7 @@ scans_late2 = refl
 
 not_applied2 : NoneIsApplied (filter_events later2)
 unfolding densest
-not_applied2 = none_applied 5 23 19 (Commanded (Poll 0) ∷ (densest 5 4 19 ++ Commanded (Poll 0) ∷ []))
-    (none_applied 5 4 19 (Commanded (Poll 0) ∷ []) tt)
+not_applied2 = grind (arith, nat_tests, none_applied)
 
 pub late_41 : StandardLinkIsAsLate 19 19 41
 late_41 = record {

@@ -1,4 +1,5 @@
 -- Which rounds the CPU takes of each life.
+use Rattle.std.proofs.lemmas.Bool.Decides.{nat_tests}
 use Rattle.fio_link.proofs.Names.{◌≡◌, ℕ, zero, suc, ◌+◌, ◌-◌, ◌<◌, ◌≤◌, ◌⊎◌, List, [], ◌∷◌, ◌++◌, length, take, drop, map, Some, slice_get, refl, ap, sym, subst, ◌∙◌, arith, inl, inr, append_assoc, append-nil, flat_map, slice_get_within, MadeBlock}
 use Rattle.fio_link.proofs.Places.{take_one_more}
 
@@ -73,8 +74,7 @@ pub record Moved (low next round : ℕ) (spans : List Span) : Type 0 where
 
 move : (low next round : ℕ) (spans : List Span) → round < low → Chain low round spans next round
     → Moved low next round spans
-move low next round [] less c =
-    record { moved = []; same_blocks = refl; same_rounds = refl; chain = (c.0, refl); none = refl; none_moved = refl }
+move low next round [] less c = grind (arith, nat_tests)
 move low next round (Of [] base to ∷ spans) less c =
     let low_to : round ≤ to = c.0 in
     let high = chain_within low to next round spans c.2 in

@@ -1,16 +1,15 @@
 -- What the octets of commands and answers are read as.
-use Rattle.fio_link.proofs.Names.{◌≡◌, ℕ, ◌+◌, ◌^◌, ◌<◌, ◌≤◌, Bool, true, false, List, ◌∷◌, length, Some, None, refl, arith, if◌then◌else◌, AllByRecursion, Command, Answer, IsEntry, command_octets, answer_octets, Block, polled_number, poll_in, answered_block, block_in, Sending, answer_of_sending}
-use Rattle.std.proofs.Common.{◌&&◌}
-use Rattle.std.specs.Prelude.{nat_le}
+use Rattle.std.proofs.lemmas.Bool.Decides.{nat_tests}
+use Rattle.fio_link.proofs.Names.{◌≡◌, ℕ, ◌^◌, ◌<◌, ◌≤◌, Bool, true, false, List, ◌∷◌, length, Some, None, refl, arith, if◌then◌else◌, AllByRecursion, Command, Answer, IsEntry, command_octets, answer_octets, Block, polled_number, poll_in, answered_block, block_in, Sending, answer_of_sending}
 use Rattle.fio_message.specs.declared.commands.Command.TheVariants as commands
 use Rattle.fio_message.specs.declared.commands.OtherCommand.TheVariants as other_commands
 use Rattle.fio_message.specs.declared.answers.Answer.TheVariants as answers
 use Rattle.fio_message.specs.declared.answers.OtherAnswer.TheVariants as other_answers
-use Rattle.fio_message.specs.Commands.{command_code, command_fields, command_length}
-use Rattle.fio_message.specs.Answers.{answer_code, answer_fields, answer_length}
+use Rattle.fio_message.specs.Commands.{command_code, command_fields}
+use Rattle.fio_message.specs.Answers.{answer_code, answer_fields}
 use Rattle.fio_message.specs.Status.{block_status}
 use Rattle.fio_message.specs.Reading.{command_at, answer_at}
-use Rattle.fio_message.specs.Decoding.{is_length, message_in}
+use Rattle.fio_message.specs.Decoding.{message_in}
 use Rattle.fio_message.proofs.MessageLaws.{block_back}
 use Rattle.fio_link.specs.Link.{sending_refusal}
 
@@ -24,9 +23,7 @@ polled-if false command other = refl
 no_poll_at : (code : ℕ) (fields : List ℕ) → polled_number (Some (command_at code fields)) ≡ None
     → poll_in (code ∷ fields) ≡ None
 unfolding message_in
-no_poll_at code fields other =
-    polled-if (nat_le (length fields) 772 && is_length (command_length (code ∷ fields)) (1 + length fields))
-    (command_at code fields) other
+no_poll_at code fields other = grind (arith, nat_tests, polled-if)
 
 -- a command that may be handed in is not read as a poll
 pub no_poll_in : (command : Command) → sending_refusal command ≡ None
@@ -45,9 +42,7 @@ answered-if false answer other = refl
 no_block_at : (code : ℕ) (fields : List ℕ) → answered_block (Some (answer_at code fields)) ≡ None
     → block_in (code ∷ fields) ≡ None
 unfolding message_in
-no_block_at code fields other =
-    answered-if (nat_le (length fields) 772 && is_length (answer_length (code ∷ fields)) (1 + length fields))
-    (answer_at code fields) other
+no_block_at code fields other = grind (arith, nat_tests, answered-if)
 
 -- an answer that is no block answer is not read as one
 pub no_block_in : (answer : Answer) → answered_block (Some answer) ≡ None

@@ -1,6 +1,7 @@
 -- What the CPU has taken of each life is one stretch of its blocks.
-use Rattle.fio_link.proofs.Names.{◌≡◌, ℕ, suc, ◌+◌, ◌-◌, ◌≤◌, ◌⊎◌, List, [], ◌∷◌, ◌++◌, length, take, drop, map, refl, ap, sym, ◌∙◌, arith, inl, inr, length-take, length-drop, AllByRecursion, cases_lt, Settings, Life, MadeBlock, blocks_of, TakenLife, IsOneStretch, taken_in, AtEachRestart}
-use Rattle.std.proofs.lemmas.List.{take-append-drop}
+use Rattle.std.proofs.lemmas.Bool.Decides.{nat_tests}
+use Rattle.fio_link.proofs.Names.{◌≡◌, ℕ, suc, ◌+◌, ◌-◌, ◌≤◌, ◌⊎◌, List, [], ◌∷◌, ◌++◌, length, take, drop, map, refl, ap, arith, inl, inr, length-take, length-drop, AllByRecursion, cases_lt, Settings, Life, MadeBlock, blocks_of, TakenLife, IsOneStretch, taken_in, AtEachRestart}
+use Rattle.std.proofs.lemmas.List.{take-append-drop, nil_from_length}
 use Rattle.fio_link.specs.Restarts.{BeginsAtStart}
 use Rattle.fio_link.proofs.Spans.{Span, Of, made_in, taken_from, Fits, low_after, Chain}
 
@@ -31,11 +32,6 @@ pub record AreParts (settings : Settings) (from : ℕ) (lives : List Life) (span
   pub blocks : taken_in taken ≡ taken_from from spans
   pub restarts : AtEachRestart NotBoth taken
 
--- a list of no length
-nothing : {A : Type 0} (xs : List A) → length xs ≡ 0 → xs ≡ []
-nothing [] is = refl
-nothing (x ∷ xs) is = absurd (omega arith)
-
 -- few blocks lie around what is taken
 pub record IsAround (from base to count : ℕ) : Type 0 where
   pub before : (from - base ≤ 1) ⊎ (count ≡ 0)
@@ -44,31 +40,13 @@ pub record IsAround (from base to count : ℕ) : Type 0 where
 around : (low from : ℕ) (blocks : List MadeBlock) (base to : ℕ) → from ≤ to → Fits low from blocks base to
     → IsAround from base to (length blocks)
 around low from [] base to le f = record { before = inr refl; after = omega arith }
-around low from (block ∷ blocks) base to le f =
-    let begins : base ≤ from = f.begins in
-    let soon : from ≤ base + 1 = f.begins_soon in
-    let late : base + suc (length blocks) ≤ to + 1 = f.ends_late in
-    record { before = inl (omega arith); after = omega arith }
+around low from (block ∷ blocks) base to le f = grind (arith, nat_tests)
 
 -- so it is one contiguous run
 one_stretch : (settings : Settings) (low from : ℕ) (life : Life) (blocks : List MadeBlock) (base to : ℕ)
     → blocks ≡ blocks_of settings life → from ≤ to → Fits low from blocks base to
     → IsOneStretch settings (part_of life from blocks base to)
-one_stretch settings low from life blocks base to is le f =
-    let a = around low from blocks base to le f in
-    let left = drop (from - base) blocks in
-    let before : length (take (from - base) blocks) ≤ 1 =
-    elim a.before as (λ _. length (take (from - base) blocks) ≤ 1) [
-      | inl few ↦ omega (arith, length-take (from - base) blocks)
-      | inr none ↦ omega (arith, length-take (from - base) blocks)
-    ] in
-    let after : length blocks ≤ ((from - base) + (to - from)) + 1 = a.after in
-    record {
-      blocks = sym is ∙ sym (take-append-drop (from - base) blocks)
-          ∙ ap (λ bs. take (from - base) blocks ++ bs) (sym (take-append-drop (to - from) left));
-      one_before = before;
-      one_after = omega (arith, length-drop (to - from) left, length-drop (from - base) blocks);
-    }
+one_stretch settings low from life blocks base to is le f = grind (arith, nat_tests, around, length-take, take-append-drop, length-drop)
 
 -- if neither the last block of one life nor the first of the next is taken, the next would follow from an earlier round
 not_both : (low from : ℕ) (life next : Life) (blocks : List MadeBlock) (base to : ℕ) (more : List MadeBlock) (b t : ℕ)
@@ -76,27 +54,26 @@ not_both : (low from : ℕ) (life next : Life) (blocks : List MadeBlock) (base t
     → NotBoth (part_of life from blocks base to) (part_of next to more b t)
 not_both low from life next blocks base to [] b t le f g =
     let none : List MadeBlock = [] in
-    inr (nothing (take (to - b) []) (omega (arith, length-take (to - b) none)))
+    inr (nil_from_length (take (to - b) []) (omega (arith, length-take (to - b) none)))
 not_both low from life next [] base to (other ∷ more) b t le f g =
     let none : List MadeBlock = [] in
-    inl (nothing (drop (to - from) (drop (from - base) []))
+    inl (nil_from_length (drop (to - from) (drop (from - base) []))
     (omega (arith, length-drop (to - from) (drop (from - base) none), length-drop (from - base) none)))
 not_both low from life next (block ∷ blocks) base to (other ∷ more) b t le f g =
     let all = block ∷ blocks in
     let begins : base ≤ from = f.begins in
     let follows : base + suc (length blocks) ≤ b + 1 = g.follows in
     elim (cases_lt b to) as (λ _. NotBoth (part_of life from (block ∷ blocks) base to) (part_of next to (other ∷ more) b t)) [
-      | inl less ↦ inl (nothing (drop (to - from) (drop (from - base) all))
+      | inl less ↦ inl (nil_from_length (drop (to - from) (drop (from - base) all))
           (omega (arith, length-drop (to - from) (drop (from - base) all), length-drop (from - base) all)))
-      | inr not_less ↦ inr (nothing (take (to - b) (other ∷ more)) (omega (arith, length-take (to - b) (other ∷ more))))
+      | inr not_less ↦ inr (nil_from_length (take (to - b) (other ∷ more)) (omega (arith, length-take (to - b) (other ∷ more))))
     ]
 
 -- what a chain of spans takes of each life
 pub are_parts : (settings : Settings) (low from next round : ℕ) (lives : List Life) (spans : List Span)
     → map made_in spans ≡ map (blocks_of settings) lives → Chain low from spans next round
     → AreParts settings from lives spans (parts from lives spans)
-are_parts settings low from next round [] [] same c =
-    record { all = refl; stretches = tt; blocks = refl; restarts = tt }
+are_parts settings low from next round [] [] same c = grind (arith, nat_tests)
 are_parts settings low from next round [] (Of blocks base to ∷ spans) same c = absurd (cc same)
 are_parts settings low from next round (life ∷ lives) [] same c = absurd (cc same)
 are_parts settings low from next round (life ∷ []) (Of blocks base to ∷ (Of others b t ∷ spans)) same c = absurd (cc same)
@@ -124,6 +101,4 @@ are_parts settings low from next round (life ∷ (other ∷ lives)) (Of blocks b
 pub begins_at_start : (lives : List Life) (spans : List Span) → BeginsAtStart (parts 0 lives spans)
 begins_at_start [] spans = tt
 begins_at_start (life ∷ lives) [] = tt
-begins_at_start (life ∷ lives) (Of blocks base to ∷ spans) =
-    let none : 0 - base ≡ 0 = omega arith in
-    ap (λ n. take n blocks) none
+begins_at_start (life ∷ lives) (Of blocks base to ∷ spans) = grind (arith, nat_tests)

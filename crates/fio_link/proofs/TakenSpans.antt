@@ -1,7 +1,8 @@
 -- Each event of the link machine keeps which rounds the CPU has taken of each life.
-use Rattle.fio_link.proofs.Names.{◌≡◌, ℕ, zero, suc, ◌+◌, ◌≤◌, ◌⊎◌, Bool, true, false, List, [], ◌∷◌, ◌++◌, length, map, Option, Some, None, slice_get, refl, ap, sym, subst, ◌∙◌, arith, inl, inr, append_assoc, append-nil, option_map, flat_map, flat_map-append, map-append, slice_get-map, Command, Block, command_in, polled_number, Settings, AreInRange, Restart, History, Life, Commanded, life_of, life_after_command, MadeBlock, newest_poll, is_new, blocks_of, next_block, Item, items_of_block, Event, SentFrame, Machine, start, number_of, polls_with, after_module_event, after_delivery_to_module, IsRun, HasPoll, HasBlock, next_round, past_lives, newest_number}
+use Rattle.std.proofs.lemmas.Bool.Decides.{nat_tests}
+use Rattle.fio_link.proofs.Names.{◌≡◌, ℕ, zero, suc, ◌+◌, ◌≤◌, ◌⊎◌, Bool, true, false, List, [], ◌∷◌, ◌++◌, map, Option, Some, None, slice_get, refl, ap, sym, subst, ◌∙◌, arith, inl, inr, append_assoc, append-nil, option_map, flat_map, flat_map-append, map-append, slice_get-map, Command, Block, command_in, polled_number, Settings, AreInRange, Restart, History, Life, Commanded, life_of, life_after_command, MadeBlock, newest_poll, is_new, blocks_of, next_block, Item, items_of_block, Event, SentFrame, Machine, start, number_of, polls_with, after_module_event, after_delivery_to_module, IsRun, HasPoll, HasBlock, next_round, past_lives, newest_number}
 use Rattle.fio_message.specs.declared.commands.Command.TheVariants as commands
-use Rattle.fio_link.proofs.AllLives.{past_log, behind, past_blocks, all_blocks}
+use Rattle.fio_link.proofs.AllLives.{behind, past_blocks, all_blocks}
 use Rattle.fio_link.proofs.Makers.{makers_of, makers_after}
 use Rattle.fio_link.proofs.Kept.{HasInvariant, meets, blocks_if, makers_if}
 use Rattle.fio_link.proofs.HeardRows.{after_taken}
@@ -38,15 +39,7 @@ spans-start settings =
 -- the module restarts
 spans-restart : (made : List (List MadeBlock)) (own : List MadeBlock) (makers : List ℕ) (next round : ℕ) (items : List Item)
     → InSpans made own makers next round items → InSpans (made ++ own ∷ []) [] makers next round items
-spans-restart made own makers next round items o =
-    let b = begun 0 0 next round o.spans o.chain in
-    record {
-      spans = o.spans ++ Of [] 0 round ∷ [];
-      blocks = map-append made_in o.spans (Of [] 0 round ∷ []) ∙ ap (λ bss. bss ++ [] ∷ []) o.blocks;
-      rounds = o.rounds ∙ sym b.rounds;
-      chain = b.chain;
-      kept = o.kept ∙ ap (flat_map recorded_of) (sym b.taken);
-    }
+spans-restart made own makers next round items o = grind (arith, nat_tests, begun, map-append)
 
 -- a poll of this round makes a block
 spans-new : (made : List (List MadeBlock)) (own : List MadeBlock) (makers : List ℕ) (next round polled : ℕ) (items : List Item)
@@ -121,13 +114,7 @@ ArePastRecorded settings history =
 with_own : (settings : Settings) (history : History) → ArePastRecorded settings history
     → map recorded_of (all_blocks settings history)
     ≡ map recorded_of (joined_lists (past_made settings history ++ blocks_of settings (life_of history) ∷ []))
-with_own settings history past =
-    let own = blocks_of settings (life_of history) in
-    map-append recorded_of (past_blocks settings history) (map (behind (length (past_log history))) own)
-    ∙ ap (λ is. is ++ map recorded_of (map (behind (length (past_log history))) own)) past
-    ∙ ap (λ is. map recorded_of (joined_lists (past_made settings history)) ++ is) (recorded_behind (length (past_log history)) own)
-    ∙ sym (map-append recorded_of (joined_lists (past_made settings history)) own)
-    ∙ ap (map recorded_of) (sym (joined_lists-push (past_made settings history) own))
+with_own settings history past = grind (arith, nat_tests, map-append, behind, recorded_behind, joined_lists-push)
 
 past_recorded : (settings : Settings) (history : History) → ArePastRecorded settings history
 past_recorded settings [] = refl

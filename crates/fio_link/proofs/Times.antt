@@ -1,5 +1,6 @@
 -- The times of recorded items.
-use Rattle.fio_link.proofs.Names.{◌≡◌, ℕ, zero, suc, ◌+◌, ◌-◌, ◌%◌, ◌^◌, ◌<◌, ◌≤◌, Bool, true, false, List, [], ◌∷◌, ◌++◌, drop, map, Option, Some, None, refl, ap, sym, ◌∙◌, arith, if◌then◌else◌, flat_map, AllByRecursion, AllZip, Command, asked_number, one_more_if_loaded, is_reported, Settings, Life, Scanned, LineSynced, Commanded, counter_events, scans_of, loads_of, filter_events, Transition, entry_of, log_of, transition_at, MadeBlock, blocks_of, newest_end, next_block, start_after, count_from, item_of, sources_of, IsInTime, IsTimed}
+use Rattle.std.proofs.lemmas.Bool.Decides.{nat_tests}
+use Rattle.fio_link.proofs.Names.{◌≡◌, ℕ, zero, suc, ◌+◌, ◌-◌, ◌%◌, ◌^◌, ◌<◌, ◌≤◌, Bool, true, false, List, [], ◌∷◌, ◌++◌, map, Option, Some, None, refl, arith, if◌then◌else◌, flat_map, AllByRecursion, AllZip, Command, asked_number, one_more_if_loaded, is_reported, Settings, Life, Scanned, LineSynced, Commanded, counter_events, scans_of, loads_of, filter_events, Transition, entry_of, log_of, transition_at, MadeBlock, blocks_of, next_block, item_of, sources_of, IsInTime, IsTimed}
 use Rattle.std.specs.Prelude.{unwrap_or}
 use Rattle.fio_message.specs.declared.commands.Command.TheVariants.{LoadCounter}
 use Rattle.fio_input.specs.Counter.{loaded_number, ticks_unless_loaded, ticks_after_load}
@@ -25,16 +26,7 @@ Timely life transition = IsTimely (counter_of life) (scans_of life) (loads_of li
 
 -- it is so after a scan
 timely-scan : (life : Life) (raw : ℕ) (t : Transition) → Timely life t → Timely (Scanned raw ∷ life) t
-timely-scan life raw t p =
-    record {
-      fits = p.fits;
-      scanned_before = omega (arith, p.scanned_before);
-      loaded_before = p.loaded_before;
-      on = λ same.
-          let before : counter_of life ≡ (t.counter + (scans_of life - t.scans)) % 2 ^ 32 = p.on same in
-          let low : t.scans ≤ scans_of life = p.scanned_before in
-          omega arith;
-    }
+timely-scan life raw t p = grind (arith, nat_tests)
 
 -- after a line sync, whether it loads or not
 timely-sync : (life : Life) (t : Transition) (asked : Option ℕ) → Timely life t
@@ -43,13 +35,7 @@ timely-sync : (life : Life) (t : Transition) (asked : Option ℕ) → Timely lif
     ((unwrap_or asked (loaded_number before) + ticks_unless_loaded asked (ticks_after_load before)) % 2 ^ 32)
     (scans_of life) (one_more_if_loaded asked (loads_of life)) t
 timely-sync life t None p = p
-timely-sync life t (Some number) p =
-    record {
-      fits = p.fits;
-      scanned_before = p.scanned_before;
-      loaded_before = omega (arith, p.loaded_before);
-      on = λ same. absurd (omega (arith, p.loaded_before));
-    }
+timely-sync life t (Some number) p = grind (arith, nat_tests)
 
 -- after a command
 timely-command : (life : Life) (command : Command) (t : Transition) → Timely life t
@@ -60,8 +46,7 @@ timely-command life other t p = p
 -- a new transition is
 timely-new : (reported : Bool) (life : Life) (input : ℕ)
     → AllByRecursion (Timely life) (if reported then transition_at life input ∷ [] else [])
-timely-new true life input =
-    (record { fits = omega arith; scanned_before = omega arith; loaded_before = omega arith; on = λ same. omega arith }, tt)
+timely-new true life input = grind (arith, nat_tests)
 timely-new false life input = tt
 
 -- those of a scan are
@@ -93,10 +78,7 @@ BlockTimely block = AllByRecursion (IsTimely block.stamp block.scans block.loads
 
 -- the block that a new poll makes next
 next_timely : (settings : Settings) (life : Life) → BlockTimely (next_block settings life)
-next_timely settings life =
-    let log = log_of life in
-    let start = start_after settings log (newest_end settings life) in
-    each-take (Timely life) (count_from settings log start) (drop start log) (each-drop (Timely life) start log (log_timely life))
+next_timely settings life = grind (arith, nat_tests, each-take, each-drop, log_timely)
 
 -- each block of a life
 pub blocks_timely : (settings : Settings) (life : Life)
@@ -114,11 +96,7 @@ widened_back counter age fits recent =
 pub wide_time : (block : MadeBlock) (t : Transition) → IsTimely block.stamp block.scans block.loads t
     → IsInTime t block
     → wide_time_of block.stamp (t.counter % 2 ^ 16) ≡ t.counter
-wide_time block t p q =
-    let low : t.scans ≤ block.scans = p.scanned_before in
-    let few : block.scans < t.scans + 2 ^ 16 = q.few_scans in
-    ap (λ stamp. wide_time_of stamp (t.counter % 2 ^ 16)) (p.on q.no_load)
-    ∙ sym (widened_back t.counter (block.scans - t.scans) p.fits (omega arith))
+wide_time block t p q = grind (arith, nat_tests, widened_back)
 
 -- two pairs of lists that agree one by one
 zip-append : {A B : Type 0} (R : A → B → Type 0) (xs ys : List A) (us vs : List B) → AllZip R xs us

@@ -1,5 +1,6 @@
 -- The record is whole if no block says that entries were lost.
-use Rattle.fio_link.proofs.Names.{◌≡◌, ℕ, suc, ◌+◌, ◌-◌, ◌≤◌, false, List, [], ◌∷◌, length, take, drop, map, refl, ap, sym, subst, ◌∙◌, arith, Contains, AllByRecursion, Settings, AreInRange, Life, life_of, entry_of, log_of, MadeBlock, blocks_of, NeverTooMany, nothing_is_lost, Machine, Piece, Gap, EntryPiece, piece_of, ArePieces, end_taken}
+use Rattle.std.proofs.lemmas.Bool.Decides.{nat_tests}
+use Rattle.fio_link.proofs.Names.{◌≡◌, ℕ, suc, ◌+◌, ◌-◌, ◌≤◌, false, List, [], ◌∷◌, take, drop, map, ap, sym, subst, ◌∙◌, arith, Contains, AllByRecursion, Settings, AreInRange, Life, life_of, entry_of, log_of, MadeBlock, blocks_of, NeverTooMany, nothing_is_lost, Machine, Piece, Gap, EntryPiece, piece_of, ArePieces, end_taken}
 use Rattle.std.proofs.lemmas.Option.{slice_get_read}
 use Rattle.fio_module.specs.Delivery.{NoBlockLost}
 use Rattle.fio_module.proofs.Polling.{polled_often_stays_few}
@@ -12,8 +13,7 @@ use Rattle.fio_link.proofs.PieceLaws.{drop_found}
 -- what holds of each element holds of one that is contained
 each-contained : (P : MadeBlock → Type 0) (blocks : List MadeBlock) (block : MadeBlock) → AllByRecursion P blocks
     → Contains blocks block → P block
-each-contained P blocks block all here =
-    each-at P blocks here.0 block all (slice_get_read blocks (length blocks) here.0 block refl here.1 (sym here.2))
+each-contained P blocks block all here = grind (arith, nat_tests, each-at, slice_get_read)
 
 -- pieces without gap marks, from one place of a list of entries to another
 abbrev pub ArePart : Settings → Life → ℕ → List Piece → ℕ → Type 0
@@ -28,9 +28,7 @@ IsEntry (EntryPiece entry) = Unit {0}
 -- pieces without gap marks are a part of the log
 pub part_of_entries : (settings : Settings) (life : Life) (from : ℕ) (pieces : List Piece) (to : ℕ) → AllByRecursion IsEntry pieces
     → ArePieces settings life from pieces to → ArePart settings life from pieces to
-part_of_entries settings life from [] to none p =
-    let nothing : to - from ≡ 0 = omega arith in
-    (omega arith, ap (λ n. map EntryPiece (take n (drop from (map entry_of (log_of life))))) (sym nothing))
+part_of_entries settings life from [] to none p = grind (arith, nat_tests)
 part_of_entries settings life from (EntryPiece entry ∷ pieces) to none p =
     let rest = part_of_entries settings life (from + 1) pieces to none.1 p.1 in
     let further : from + 1 ≤ to = rest.0 in
@@ -59,19 +57,12 @@ RecordIsPieces settings machine =
 -- the record is whole
 pub whole_unless_full : (settings : Settings) (machine : Machine) → RecordIsPieces settings machine
     → IsWholeUnlessFull settings machine
-whole_unless_full settings machine pieces few =
-    let life = life_of machine.history in
-    let to = end_taken settings machine in
-    let all : to - 0 ≡ to = omega arith in
-    (part_of_entries settings life 0 (map piece_of machine.items) to (no_gaps settings life 0 (map piece_of machine.items) to (nothing_is_lost settings life few) pieces) pieces).1
-    ∙ ap (λ n. map EntryPiece (take n (map entry_of (log_of life)))) all
+whole_unless_full settings machine pieces few = grind (arith, nat_tests, part_of_entries, piece_of, no_gaps, nothing_is_lost)
 
 -- if the module is polled often
 pub whole_where_polled_often : (settings : Settings) → AreInRange settings → (machine : Machine)
     → RecordIsPieces settings machine → IsWholeWherePolledOften settings machine
-whole_where_polled_often settings range machine pieces opened filter scans life later is few often =
-    whole_unless_full settings machine pieces
-    (subst (NeverTooMany settings) (sym is) (polled_often_stays_few settings opened filter scans life later range often few))
+whole_where_polled_often settings range machine pieces opened filter scans life later is few often = grind (arith, nat_tests, whole_unless_full, polled_often_stays_few)
 
 -- if it is polled often for each input
 pub whole_where_polled_for_each : (settings : Settings) (machine : Machine)
@@ -83,6 +74,4 @@ whole_where_polled_for_each settings machine pieces plan scans life later is few
 -- after an outage
 pub whole_after_outage : (settings : Settings) (machine : Machine)
     → RecordIsPieces settings machine → IsWholeAfterOutage settings machine
-whole_after_outage settings machine pieces opened filter life later is few outage =
-    whole_unless_full settings machine pieces
-    (subst (NeverTooMany settings) (sym is) (outage_stays_few settings opened filter life later outage few))
+whole_after_outage settings machine pieces opened filter life later is few outage = grind (arith, nat_tests, whole_unless_full, outage_stays_few)

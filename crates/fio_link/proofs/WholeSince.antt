@@ -1,5 +1,6 @@
 -- Since a settled point nothing is lost unless the buffer was full.
-use Rattle.fio_link.proofs.Names.{◌≡◌, ℕ, suc, ◌+◌, ◌-◌, ◌≤◌, Bool, true, false, List, [], ◌∷◌, ◌++◌, length, take, drop, map, slice_get, refl, ap, sym, subst, ◌∙◌, arith, append_assoc, append-nil, AllByRecursion, flat_map, map-append, if◌then◌else◌, Poll, Settings, AreInRange, Life, Commanded, life_of, Transition, entry_of, log_of, MadeBlock, newest_poll, is_new, blocks_of, next_block, last_end, newest_end, FewBeyond, holds_now, blocks_new, blocks_old, blocks_follow, FollowOneAnother, nothing_left, Machine, EntryPiece, piece_of, pieces_of, blocks_in, next_round, end_recorded, IsSettled}
+use Rattle.std.proofs.lemmas.Bool.Decides.{nat_tests}
+use Rattle.fio_link.proofs.Names.{◌≡◌, ℕ, suc, ◌+◌, ◌-◌, ◌≤◌, Bool, true, false, List, [], ◌∷◌, ◌++◌, length, take, drop, map, slice_get, refl, ap, sym, subst, ◌∙◌, arith, append_assoc, append-nil, AllByRecursion, flat_map, map-append, Poll, Settings, AreInRange, Life, Commanded, life_of, Transition, entry_of, log_of, MadeBlock, newest_poll, is_new, blocks_of, next_block, last_end, newest_end, FewBeyond, holds_now, blocks_new, blocks_old, blocks_follow, FollowOneAnother, nothing_left, Machine, EntryPiece, piece_of, pieces_of, blocks_in, next_round, end_recorded, IsSettled}
 use Rattle.std.proofs.lemmas.List.{append_cancel_left, drop-take, take-map, drop-map}
 use Rattle.std.proofs.lemmas.Simd.{map-map}
 use Rattle.fio_module.proofs.ListParts.{each-push, get_from_back}
@@ -14,6 +15,7 @@ use Rattle.fio_link.proofs.WholeRecords.{IsEntry, part_of_entries}
 use Rattle.fio_link.proofs.OneLife.{record_of}
 use Rattle.fio_link.proofs.WholeLives.{got_blocks}
 use Rattle.fio_link.proofs.Settled.{IsOpen, at_base, along, count_blocks}
+use Rattle.fio_link.proofs.RestartLosses.{follow-behind}
 
 abbrev NotLost : MadeBlock → Type 0
 NotLost block = block.lost ≡ false
@@ -40,12 +42,6 @@ made settings (Commanded (Poll number) ∷ later) life few =
     (holds_now (λ l. FewBeyond settings (l ++ life)) later few.1) (made settings later life few.1)
 made settings (other ∷ later) life few = made settings later life few.1
 
--- what follows the last of some blocks follows from where they end
-follow-back : (log : List Transition) (per_block before : ℕ) (blocks more : List MadeBlock)
-    → FollowOneAnother log per_block before (blocks ++ more) → FollowOneAnother log per_block (last_end before blocks) more
-follow-back log per_block before [] more follow = follow
-follow-back log per_block before (block ∷ blocks) more follow = follow-back log per_block block.end blocks more follow.2
-
 ends-append : (before n : ℕ) (blocks more : List MadeBlock)
     → last_end before (take (length blocks + n) (blocks ++ more)) ≡ last_end (last_end before blocks) (take n more)
 ends-append before n [] more = let same : 0 + n ≡ n = omega arith in ap (λ k. last_end before (take k more)) same
@@ -59,9 +55,7 @@ pieces-entries [] = tt
 pieces-entries (t ∷ ts) = (tt, pieces-entries ts)
 
 pieces-kept : (block : MadeBlock) → NotLost block → AllByRecursion IsEntry (pieces_of block)
-pieces-kept block kept =
-    subst (λ lost. AllByRecursion IsEntry ((if lost then Rattle.fio_link.specs.Pieces.Gap ∷ [] else []) ++ map (λ transition. EntryPiece (entry_of transition)) block.transitions))
-    (sym kept) (pieces-entries block.transitions)
+pieces-kept block kept = grind (arith, nat_tests, pieces-entries)
 
 blocks-kept : (blocks : List MadeBlock) → AllByRecursion NotLost blocks → AllByRecursion IsEntry (flat_map pieces_of blocks)
 blocks-kept [] all = tt
@@ -94,7 +88,7 @@ module _ (settings : Settings) (range : AreInRange settings) (first : ℕ) (mach
       let log = log_of (life_of now.history) in
       let start = newest_end settings life in
       let left : start ≡ length (log_of life) = nothing_left settings some life (ap length s.nothing_waits) in
-      let follow = follow-back log settings.per_block 0 before rest (subst (FollowOneAnother log settings.per_block 0) a.since.split (blocks_follow settings (life_of now.history))) in
+      let follow = follow-behind log settings.per_block 0 before rest (subst (FollowOneAnother log settings.per_block 0) a.since.split (blocks_follow settings (life_of now.history))) in
       let end = last_end start (take k rest) in
       let count : length (blocks_in settings now) - (next_round now.polls - now.round) ≡ length before + k =
       (let c = count_blocks settings range first machine now a in omega (arith, s.all_taken.answered, a.since.started, a.is_open.always.answers.behind)) in

@@ -4,7 +4,6 @@ use Rattle.fio_message.specs.declared.commands.Command.TheVariants as commands
 use Rattle.fio_link.specs.declared.event.Event.TheVariants as events
 use Rattle.fio_link.specs.Delivery.{IsWithinRound, RoundWithNothingBetweenIsClean, TakesOne}
 use Rattle.fio_link.proofs.MadeBlocks.{each-append}
-use Rattle.fio_link.proofs.Places.{get_push}
 use Rattle.fio_link.proofs.RoundNumbers.{number_of-fits}
 use Rattle.fio_link.proofs.Spelled.{said}
 use Rattle.fio_link.proofs.Received.{latest_sent, newest_fits, carried_back}
@@ -13,6 +12,7 @@ use Rattle.fio_link.proofs.Events.{frame_at_place}
 use Rattle.fio_link.proofs.Rows.{keeps, keeps_all}
 use Rattle.fio_link.proofs.Runs.{takes}
 use Rattle.fio_link.proofs.WithoutPolls.{HasMore, IsTaken, IsInRound, round_once, round_all, in_round_start}
+use Rattle.fio_module.proofs.ListParts.{get_last}
 
 -- events that lead over a machine between
 pub leads-parts : (settings : Settings) (first : ℕ) (events later : List Event) (machine last : Machine) → Leads settings first machine (events ++ later) last
@@ -63,7 +63,7 @@ poll_answered settings range first round machine place at =
     ∙ ap (λ latest. after_poll machine place frame (answer_frames (option_map answer_of_sending latest) round)) l.is) in
     subst (IsAnswered settings first round machine) same (record {
       answer = said sending;
-      answered = record { frame = answer_frame; at_place = get_push machine.to_cpu answer_frame; spells = reads; of_round = refl };
+      answered = record { frame = answer_frame; at_place = get_last machine.to_cpu answer_frame; spells = reads; of_round = refl };
       polls = refl;
       life = ap (λ command. life_after_command command (life_of machine.history)) spelled;
     })
@@ -126,7 +126,7 @@ module _ (settings : Settings) (range : AreInRange settings) (first : ℕ) (begi
 
   -- the poll is still among the frames
   pub poll_stays : slice_get receipt.to_module (length begin.to_module) ≡ Some (poll_frame first begin.round)
-  poll_stays = o_receipt.more.to_module (length begin.to_module) (poll_frame first begin.round) (get_push begin.to_module (poll_frame first begin.round))
+  poll_stays = o_receipt.more.to_module (length begin.to_module) (poll_frame first begin.round) (get_last begin.to_module (poll_frame first begin.round))
 
   is_answered : IsAnswered settings first begin.round receipt polled
   is_answered = poll_answered settings range first begin.round receipt (length begin.to_module) poll_stays

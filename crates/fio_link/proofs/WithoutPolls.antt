@@ -1,4 +1,5 @@
 -- What holds while the CPU does not poll: it takes one block at most.
+use Rattle.std.proofs.lemmas.Bool.Decides.{nat_tests}
 use Rattle.fio_link.proofs.Names.{◌≡◌, ℕ, ◌+◌, ◌≤◌, ◌⊎◌, List, [], ◌∷◌, ◌++◌, Option, Some, None, slice_get, refl, ap, sym, subst, ◌∙◌, arith, inl, inr, AllByRecursion, Command, command_octets, Block, poll_in, Settings, AreInRange, items_of_block, Event, SentFrame, Machine, refusal, polls_with, after_delivery_to_module, after_delivery_to_cpu, after, Leads, HasPoll, HasBlock, next_round}
 use Rattle.fio_link.specs.declared.event.Event.TheVariants as events
 use Rattle.fio_link.specs.Delivery.{IsWithinRound, TakesOne}
@@ -42,11 +43,7 @@ taken-more base machine last round items more (inr one) =
     })
 
 pub more-then : (base machine last : Machine) → HasMore base machine → HasMore machine last → HasMore base last
-more-then base machine last m n =
-    record {
-      to_module = λ place frame at. n.to_module place frame (m.to_module place frame at);
-      to_cpu = λ place frame at. n.to_cpu place frame (m.to_cpu place frame at);
-    }
+more-then base machine last m n = grind (arith, nat_tests)
 
 pub more-none : (machine : Machine) → HasMore machine machine
 more-none machine = record { to_module = λ place frame at. at; to_cpu = λ place frame at. at }

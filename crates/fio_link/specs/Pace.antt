@@ -23,13 +23,22 @@ abbrev pub answer_scans : TimedLine → ℕ → ℕ
 answer_scans line octets =
     line.answer + scans_on_line line.rate (most_bits line.kind 2 + most_bits line.kind octets + line.other)
 
+-- how many scans come at most between two polls in a row, if the CPU polls every `pace` scans by its own clock: this may be slow, and
+-- the second poll late
+abbrev pub most_apart : TimedLine → ℕ → ℕ
+most_apart line pace = (pace * (1000000 + line.drift) + 999999) / 1000000 + line.jitter
+
+-- and how many at least: its clock may be fast, and the first poll late
+abbrev pub least_apart : TimedLine → ℕ → ℕ
+least_apart line pace = pace * (1000000 - line.drift) / 1000000 - line.jitter
+
 -- how many scans come at most from one clean round's poll to that of the next
 abbrev pub clean_pace : TimedLine → ℕ → ℕ
-clean_pace line pace = (line.lost + 1) * pace
+clean_pace line pace = (line.lost + 1) * most_apart line pace
 
 -- how many scans the blocks are behind at most when the module receives a clean round's poll
 abbrev pub most_behind : TimedLine → ℕ → ℕ
-most_behind line pace = line.lost * pace + clean_pace line pace + poll_scans line
+most_behind line pace = line.lost * most_apart line pace + clean_pace line pace + poll_scans line
 
 -- the most changes that the open inputs can report in so many scans
 abbrev pub most_changes : Traffic → ℕ → ℕ
@@ -43,11 +52,11 @@ most_entries line traffic pace = min traffic.per_block (most_changes traffic (mo
 abbrev pub round_scans : TimedLine → Traffic → ℕ → ℕ
 round_scans line traffic pace = answer_scans line (8 + 3 * most_entries line traffic pace)
 
--- A pace of a line: if the CPU polls each `pace` scans, each round ends before the next one, the blocks make up for all
--- scans, and the buffer has room for what comes between two blocks.
+-- A pace of a line: if the CPU polls every `pace` scans by its own clock, each round ends before the next one, the blocks make up
+-- for all scans, and the buffer has room for what comes between two blocks.
 pub record IsPace (line : TimedLine) (traffic : Traffic) (pace : ℕ) : Type 0 where
   pub some_rate : 1 ≤ line.rate
-  pub ends : round_scans line traffic pace ≤ pace
+  pub ends : round_scans line traffic pace ≤ least_apart line pace
   pub enough : traffic.opened * clean_pace line pace ≤ traffic.per_block * traffic.filter
   pub room : traffic.opened * (most_behind line pace + (traffic.filter - 1)) ≤ traffic.waiting * traffic.filter
 
@@ -64,11 +73,12 @@ held_over line traffic pace =
 -- how many scans a transition is late at most, until it is in the record
 abbrev pub most_late : TimedLine → Traffic → ℕ → ℕ
 most_late line traffic pace =
-    line.lost * pace + clean_pace line pace + round_scans line traffic pace + held_over line traffic pace - 1
+    line.lost * most_apart line pace + clean_pace line pace + round_scans line traffic pace + held_over line traffic pace - 1
 
 -- how much of the line's time a round's bits take at most, in thousandths, rounded up
 abbrev pub most_load : TimedLine → Traffic → ℕ → ℕ
 most_load line traffic pace =
     let octets = 8 + 3 * most_entries line traffic pace in
     let bits = most_bits line.kind 2 + most_bits line.kind octets + line.other in
-    (1000 * (1000 * bits) + (line.rate * pace - 1)) / (line.rate * pace)
+    let time = line.rate * least_apart line pace in
+    (1000 * (1000 * bits) + (time - 1)) / time

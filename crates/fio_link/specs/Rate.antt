@@ -1,6 +1,6 @@
 -- Links over a line that takes its time: the CPU polls at a pace, and what it sends and hears is on the line as long as its
 -- bits.
-use Rattle.std.specs.Prelude.{◌≡◌, ℕ, ◌+◌, ◌-◌, ◌*◌, ◌≤◌, max, List, [], ◌∷◌, ◌++◌, drop, length, Option, Some, None}
+use Rattle.std.specs.Prelude.{◌≡◌, ℕ, ◌+◌, ◌*◌, ◌≤◌, max, List, [], ◌∷◌, ◌++◌, drop, length, Option, Some, None}
 use Rattle.std.specs.List.{AllByRecursion}
 use Rattle.fio_input.specs.Delivery.{FewStayOpen}
 use Rattle.fio_module.specs.Settings.{Settings}
@@ -12,7 +12,7 @@ use Rattle.fio_link.specs.Link.{SentFrame, Machine, after, item_numbered}
 use Rattle.fio_link.specs.Rounds.{next_round}
 use Rattle.fio_link.specs.Delivery.{IsCleanRound}
 use Rattle.fio_link.specs.Settled.{IsSettled, end_recorded, IsWithin, LeadsOn, HasGainedAll, HaveTheirTimes}
-use Rattle.fio_link.specs.Pace.{IsPace, traffic_of, poll_scans, answer_scans, clean_pace, most_behind, most_late, round_scans}
+use Rattle.fio_link.specs.Pace.{IsPace, traffic_of, poll_scans, answer_scans, clean_pace, most_apart, most_behind, most_late, round_scans}
 
 -- how many octets this frame has
 abbrev pub frame_length : Option SentFrame → ℕ
@@ -35,17 +35,17 @@ pub record IsRoundOnLine (settings : Settings) (first : ℕ) (line : TimedLine) 
 -- The next clean round, after one that began at `earlier` and ended at `done`. `lost` rounds between them are lost.
 pub record IsNextRound (settings : Settings) (first : ℕ) (line : TimedLine) (pace lost : ℕ)
     (earlier done begin receipt last : Machine) : Type 0 where
-  -- the CPU polls again `pace` scans after the poll before, or as soon as it has heard the answer, if that is later; until
-  -- then the module receives no other poll
+  -- the CPU polls again as many scans after the poll before as may come at its pace, or as soon as it has heard the answer, if that
+  -- is later; until then the module receives no other poll
   pub again : Machine
   pub leads_on : LeadsOn settings first done again
   pub all_taken : next_round again.polls ≤ begin.round
   pub paced :
       scans_of (life_of again.history)
-      ≤ max (scans_of (life_of earlier.history) + pace) (scans_of (life_of done.history))
-  -- rounds that are lost begin `pace` scans apart
+      ≤ max (scans_of (life_of earlier.history) + most_apart line pace) (scans_of (life_of done.history))
+  -- rounds that are lost begin as far apart
   pub repeats : LeadsOn settings first again begin
-  pub lost_paced : IsWithin (lost * pace) again begin
+  pub lost_paced : IsWithin (lost * most_apart line pace) again begin
   pub round : IsRoundOnLine settings first line begin receipt last
 
 -- Clean rounds on a line since a machine, given newest first by how many rounds were lost before each. The newest began at

@@ -272,7 +272,8 @@ pub fn links_are_kept_up_with_after_restarts()
 /// Over a line of a rate, from a settled point on, after restarts too: if the bits of a poll, of its answer and of other
 /// traffic, and the time that the module takes, fit into the pace, and blocks keep up at that pace, each round ends before the
 /// next one, the record gains each transition once, in order, and no gap mark, and none is later than `most_late` scans, the
-/// time on the line included. This holds also if the line loses rounds, as many in a row as it may.
+/// time on the line included. This holds also if the CPU's clock drifts and its polls are late, both as much as they may, and if
+/// the line loses rounds, as many in a row as it may.
 pub fn arrives_in_time_at_a_rate()
     ensures { HoldsWhateverRestarts ArrivesInTimeAtARate }
 {}
@@ -281,7 +282,7 @@ pub fn arrives_in_time_at_a_rate()
 /// takes the whole of a pace of 4 scans, and a transition can be 7 scans late.
 #[tactic(auto, using(crate::proofs::RateAtEdge::late_7))]
 pub fn links_at_a_rate_are_as_late()
-    ensures { IsAsLateAtARate (record { kind = Synchronous; rate = 614400; answer = 0; other = 0; lost = 0 }) 64 5 4 7 }
+    ensures { IsAsLateAtARate (record { kind = Synchronous; rate = 614400; answer = 0; other = 0; lost = 0; drift = 0; jitter = 0 }) 64 5 4 7 }
 {}
 
 /// If a round takes one scan more than the pace, a link can lose transitions: with 64 open inputs, filters of 1, blocks of 64,
@@ -289,7 +290,7 @@ pub fn links_at_a_rate_are_as_late()
 #[tactic(auto, using(crate::proofs::RateBeyond::loses))]
 pub fn links_beyond_their_rate_lose()
     ensures { LosesWhereARoundIsLonger (record { id = 0; per_block = 64; waiting = 128 })
-        (record { kind = Synchronous; rate = 2000000; answer = 0; other = 1900; lost = 0 }) 64 1 1 }
+        (record { kind = Synchronous; rate = 2000000; answer = 0; other = 1900; lost = 0; drift = 0; jitter = 0 }) 64 1 1 }
 {}
 
 /// Scans that come while a poll or its answer is under way lead to the same machine as scans before the poll is sent, and

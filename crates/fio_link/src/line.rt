@@ -13,6 +13,10 @@ pub struct TimedLine {
     pub other: u32,
     /// At most how many rounds in a row it loses.
     pub lost: u16,
+    /// By at most how many parts in a million the CPU's clock is faster or slower than the module's counter.
+    pub drift: u16,
+    /// At most how many scans a poll is late by the CPU's clock.
+    pub jitter: u16,
 }
 
 /// What the module may have to report.

@@ -2,17 +2,19 @@
 ghost use Rattle.std.specs.Prelude.{◌≡◌, ◌≤◌, ◌<◌, ◌*◌, ◌+◌, ◌-◌, ◌^◌, ℕ, true, false, Some, None};
 ghost use Rattle.fio_wire.specs.Lengths.{most_bits};
 ghost use Rattle.fio_link.specs.declared.planning.Pace.{Pace};
-ghost use Rattle.fio_link.specs.Pace.{HasNoPaceBelow, IsPace, answer_scans, clean_pace, held_over, most_behind, most_changes, most_entries, most_late, most_load, poll_scans, round_scans, scans_on_line};
+ghost use Rattle.fio_link.specs.Pace.{HasNoPaceBelow, IsPace, answer_scans, clean_pace, held_over, least_apart, most_apart, most_behind, most_changes, most_entries, most_late, most_load, poll_scans, round_scans, scans_on_line};
 
 use crate::line::{TimedLine, Traffic};
 
 // More scans than a block makes up for: 255 entries, at filters of 255.
 const MORE_THAN_ANY: u32 = 255 * 255 + 1;
 
+const MILLION: u64 = 1_000_000;
+
 /// A pace of a line.
 #[derive(Clone, Copy, Debug, PartialEq, Eq)]
 pub struct Pace {
-    /// How many scans apart polls are sent.
+    /// How many scans apart polls are sent, by the CPU's clock.
     pub scans: u64,
     /// How many scans a round takes at most.
     pub round: u64,
@@ -68,14 +70,43 @@ fn times(a: u32, b: u32) -> u64
     u64::from(a) * u64::from(b)
 }
 
+/// Returns how many scans come at most between two polls in a row.
+fn most_apart(line: TimedLine, pace: u32) -> u32
+    requires few { pace < 2 ^ 17 }
+    ensures value { result ≡ most_apart line pace }
+{
+    let slow = u64::from(pace) * (MILLION + u64::from(line.drift));
+    ((slow + (MILLION - 1)) / MILLION) as u32 + u32::from(line.jitter)
+}
+
+/// Returns how many scans come at least between two polls in a row.
+fn least_apart(line: TimedLine, pace: u32) -> u32
+    requires few { pace < 2 ^ 17 }
+    ensures value { result ≡ least_apart line pace }
+{
+    let fast = u64::from(pace) * (MILLION - u64::from(line.drift));
+    let scans = (fast / MILLION) as u32;
+    let jitter = u32::from(line.jitter);
+    if scans < jitter { 0 } else { scans - jitter }
+}
+
+/// Returns how many scans come at most from one clean round's poll to that of the next.
+fn clean_pace(line: TimedLine, pace: u32) -> u64
+    requires few { pace < 2 ^ 17 }
+    ensures value { result ≡ clean_pace line pace }
+    ensures within { result < 2 ^ 49 }
+{
+    times(u32::from(line.lost) + 1, most_apart(line, pace))
+}
+
 /// Returns how many scans the blocks are behind at most when the module receives a clean round's poll.
 fn most_behind(line: TimedLine, pace: u32) -> u64
     requires some { 1 ≤ line.rate }
+    requires few { pace < 2 ^ 17 }
     ensures value { result ≡ most_behind line pace }
     ensures within { result < 2 ^ 51 }
 {
-    let lost = u32::from(line.lost);
-    times(lost, pace) + times(lost + 1, pace) + poll_scans(line)
+    times(u32::from(line.lost), most_apart(line, pace)) + clean_pace(line, pace) + poll_scans(line)
 }
 
 /// Returns a number of scans for each open input.
@@ -100,6 +131,7 @@ fn most_changes(traffic: Traffic, scans: u64) -> u64
 fn most_octets(line: TimedLine, traffic: Traffic, pace: u32) -> u16
     requires some_rate { 1 ≤ line.rate }
     requires some { 1 ≤ traffic.filter }
+    requires few { pace < 2 ^ 17 }
     ensures value { result ≡ 8 + 3 * most_entries line traffic pace }
 {
     let changes = most_changes(traffic, most_behind(line, pace));
@@ -115,6 +147,7 @@ fn most_octets(line: TimedLine, traffic: Traffic, pace: u32) -> u16
 fn round_scans(line: TimedLine, traffic: Traffic, pace: u32) -> u64
     requires some_rate { 1 ≤ line.rate }
     requires some { 1 ≤ traffic.filter }
+    requires few { pace < 2 ^ 17 }
     ensures value { result ≡ round_scans line traffic pace }
     ensures within { result < 2 ^ 46 }
 {
@@ -123,10 +156,11 @@ fn round_scans(line: TimedLine, traffic: Traffic, pace: u32) -> u64
 
 /// Returns whether blocks make up for all scans at this pace.
 fn is_enough(line: TimedLine, traffic: Traffic, pace: u32) -> bool
+    requires few { pace < 2 ^ 17 }
     ensures yes { result ≡ true → traffic.opened * clean_pace line pace ≤ traffic.per_block * traffic.filter }
     ensures no { result ≡ false → traffic.per_block * traffic.filter < traffic.opened * clean_pace line pace }
 {
-    for_each(traffic, times(u32::from(line.lost) + 1, pace))
+    for_each(traffic, clean_pace(line, pace))
         <= u64::from(traffic.per_block) * u64::from(traffic.filter)
 }
 
@@ -134,6 +168,7 @@ fn is_enough(line: TimedLine, traffic: Traffic, pace: u32) -> bool
 fn has_room(line: TimedLine, traffic: Traffic, pace: u32) -> bool
     requires some_rate { 1 ≤ line.rate }
     requires some { 1 ≤ traffic.filter }
+    requires few { pace < 2 ^ 17 }
     ensures yes { result ≡ true → traffic.opened * (most_behind line pace + (traffic.filter - 1)) ≤ traffic.waiting * traffic.filter }
     ensures no { result ≡ false → traffic.waiting * traffic.filter < traffic.opened * (most_behind line pace + (traffic.filter - 1)) }
 {
@@ -145,10 +180,11 @@ fn has_room(line: TimedLine, traffic: Traffic, pace: u32) -> bool
 fn is_pace(line: TimedLine, traffic: Traffic, pace: u32) -> bool
     requires some_rate { 1 ≤ line.rate }
     requires some { 1 ≤ traffic.filter }
+    requires few { pace < 2 ^ 17 }
     ensures yes { result ≡ true → IsPace line traffic pace }
     ensures no { result ≡ false → IsPace line traffic pace → ⊥ }
 {
-    round_scans(line, traffic, pace) <= u64::from(pace)
+    round_scans(line, traffic, pace) <= u64::from(least_apart(line, pace))
         && is_enough(line, traffic, pace)
         && has_room(line, traffic, pace)
 }
@@ -156,10 +192,11 @@ fn is_pace(line: TimedLine, traffic: Traffic, pace: u32) -> bool
 /// Returns how many scans a change that waits for the block after the next can be older.
 fn held_over(line: TimedLine, traffic: Traffic, pace: u32) -> u64
     requires some { 1 ≤ traffic.filter }
+    requires few { pace < 2 ^ 17 }
     ensures value { result ≡ held_over line traffic pace }
     ensures within { result < 2 ^ 8 }
 {
-    let changes = most_changes(traffic, times(u32::from(line.lost) + 1, pace));
+    let changes = most_changes(traffic, clean_pace(line, pace));
     if u64::from(traffic.per_block) < changes {
         u64::from(traffic.filter - 1)
     } else {
@@ -171,12 +208,12 @@ fn held_over(line: TimedLine, traffic: Traffic, pace: u32) -> u64
 fn most_load(line: TimedLine, traffic: Traffic, pace: u32) -> u64
     requires some_rate { 1 ≤ line.rate }
     requires some { 1 ≤ traffic.filter }
-    requires some_pace { 1 ≤ pace }
     requires few { pace < 2 ^ 17 }
+    requires some_apart { 1 ≤ least_apart line pace }
     ensures { result ≡ most_load line traffic pace }
 {
     let bits = round_bits(line, most_octets(line, traffic, pace));
-    let time = times(pace, line.rate);
+    let time = times(least_apart(line, pace), line.rate);
     (1000 * (1000 * bits) + (time - 1)) / time
 }
 
@@ -184,16 +221,16 @@ fn most_load(line: TimedLine, traffic: Traffic, pace: u32) -> u64
 fn at_pace(line: TimedLine, traffic: Traffic, pace: u32) -> Pace
     requires some_rate { 1 ≤ line.rate }
     requires some { 1 ≤ traffic.filter }
-    requires some_pace { 1 ≤ pace }
     requires few { pace < 2 ^ 17 }
+    requires is_pace { IsPace line traffic pace }
     ensures scans { result.scans ≡ pace }
     ensures round { result.round ≡ round_scans line traffic pace }
     ensures late { result.late ≡ most_late line traffic pace }
     ensures load { result.load ≡ most_load line traffic pace }
 {
-    let lost = u32::from(line.lost);
     let round = round_scans(line, traffic, pace);
-    let behind = times(lost, pace) + times(lost + 1, pace) + round + held_over(line, traffic, pace);
+    let lost = times(u32::from(line.lost), most_apart(line, pace));
+    let behind = lost + clean_pace(line, pace) + round + held_over(line, traffic, pace);
     Pace {
         scans: u64::from(pace),
         round,

@@ -26,10 +26,9 @@ use Rattle.fio_log.specs.declared.verdict.Reason.TheVariants as reasons
 pub messages_read : (forms : List LineForm) (line tail : List ℕ) (state after : Rows) → after ≡ read_in forms line tail state → SaysMessages after
 messages_read forms line tail state after is = rw is (read_right forms line tail state)
 
-closed_open : (pending : Open) → is_message_open pending ≡ false → is_message_whole pending ≡ false
+pub closed_open : (pending : Open) → is_message_open pending ≡ false → is_message_whole pending ≡ false
 closed_open opens.Nothing closed = refl
-closed_open opens.Begun closed = absurd (cc)
-closed_open opens.Whole closed = absurd (cc)
+closed_open _ closed = absurd (cc)
 
 -- what is read of a line, by equal forms
 pub read_by : (forms other : List LineForm) (line : List ℕ) (above : Rows) (heard : LineSaid) (after : Reading) → forms ≡ other

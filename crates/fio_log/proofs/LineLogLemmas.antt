@@ -1,30 +1,26 @@
 -- What is said of lines by themselves.
-use Rattle.std.proofs.Common.{◌≡◌, ◌∙◌, ◌<◌, ◌≤◌, ◌+◌, ◌-◌, ℕ, Bool, true, false, not, ◌&&◌, ◌||◌, List, [], ◌∷◌, length, drop, Option, Some, None, MatchBool, slice_get, refl, sym, ap, arith, inl, inr}
-use Rattle.std.specs.Prelude.{if◌then◌else◌, nat_le, unwrap_or, zero, suc}
+use Rattle.std.proofs.Common.{◌≡◌, ◌∙◌, ◌<◌, ◌≤◌, ◌+◌, ◌-◌, ℕ, Bool, true, false, ◌&&◌, ◌||◌, List, [], ◌∷◌, length, drop, Option, Some, None, MatchBool, slice_get, refl, sym, ap, arith, inl, inr}
+use Rattle.std.specs.Prelude.{nat_le, zero, suc}
 use Rattle.std.specs.List.{AllByRecursion}
-use Rattle.std.proofs.lemmas.Bool.{cases_Bool}
+use Rattle.std.proofs.lemmas.Bool.{cases_Bool, and_parts, not-true}
 use Rattle.std.proofs.lemmas.List.{length-drop}
 use Rattle.fio_form.specs.Bare.{is_cut_short}
 use Rattle.fio_form.specs.Reading.{octets_by}
 use Rattle.fio_form.specs.declared.form.LineForm.{LineForm}
 use Rattle.fio_form.specs.declared.form.LineRows.TheVariants.{One}
 use Rattle.fio_form.specs.declared.octets.TheConstants.{OCTETS}
-use Rattle.fio_form.specs.declared.reading.Whole.{Whole}
-use Rattle.fio_form.specs.declared.reading.Whole.TheVariants as wholes
-use Rattle.fio_rows.proofs.LinesByThemselves.{itself_said}
+use Rattle.fio_rows.proofs.LinesByThemselves.{itself_said, begun_closed}
 use Rattle.fio_form.specs.Messages.{is_message}
 use Rattle.fio_rows.proofs.OtherLines.{none_other}
-use Rattle.fio_rows.specs.GoingOn.{is_full, may_go_on}
+use Rattle.fio_rows.proofs.ClosedLines.{broken_closed, goes_on_closed, places_closed}
 use Rattle.fio_rows.specs.Laws.{is_other}
-use Rattle.fio_rows.specs.Lines.{begun_line, first_line_in, has, is_message_broken, is_message_open, is_message_whole, is_stray, is_stream, offset_after, offset_of, read_in, row_of, says_message}
+use Rattle.fio_rows.specs.Lines.{first_line_in, has, is_message_open, read_in, says_message}
 use Rattle.fio_rows.specs.Places.{Places, first_places, places_in}
 use Rattle.fio_rows.specs.RowLaws.{IsReadInRows}
-use Rattle.fio_rows.specs.Rows.{Rows, open_after, say, say_whole, whole_before}
+use Rattle.fio_rows.specs.Rows.{Rows}
 use Rattle.fio_rows.specs.declared.rows.Reading.{Reading}
 use Rattle.fio_rows.specs.declared.said.Said.{Said}
 use Rattle.fio_rows.specs.declared.said.Said.TheVariants as said
-use Rattle.fio_rows.specs.declared.saying.Open.{Open}
-use Rattle.fio_rows.specs.declared.saying.Open.TheVariants as opens
 use Rattle.fio_log.specs.Blanks.{Texts}
 use Rattle.fio_log.specs.Following.{TellsLine}
 use Rattle.fio_log.specs.Heard.{Above, HasNoOther, HasRowRoom, IsHeardOf, Known, Tells, TellsEcho, TellsMessage, TellsSaid, is_lost, is_odd_by, is_of_echoes, is_of_message, is_of_others, is_spoilt, is_whole_text, says_octets}
@@ -36,43 +32,10 @@ use Rattle.fio_log.specs.declared.verdict.Kind.{Kind}
 use Rattle.fio_log.specs.declared.verdict.Kind.TheVariants as kinds
 use Rattle.fio_log.specs.declared.verdict.Reason.{Reason}
 use Rattle.fio_log.proofs.LineVerdictLemmas.{false_unless, none_ends}
-use Rattle.fio_log.proofs.LostLineLemmas.{by_false, gone_told, goes_on_never, places_first, spoilt_told}
+use Rattle.fio_log.proofs.LostLineLemmas.{by_false, gone_told, spoilt_told}
+use Rattle.fio_log.proofs.HeardLemmas.{closed_open}
 
 -- ---- No message is open below a line of such forms
-
-no_row : (form : LineForm) (row : ℕ) (tail : List ℕ) → form.rows ≡ One → may_go_on form row tail ≡ false
-unfolding may_go_on
-no_row form row tail one = rw one refl
-
-none_full : (form : LineForm) (row : ℕ) (tail : List ℕ) → form.rows ≡ One → is_full form row tail ≡ false
-unfolding is_full may_go_on
-none_full form row tail one = rw one refl
-
-whole_closed : (form : LineForm) (row : ℕ) (tail : List ℕ) (state : Rows) (whole : Whole) → is_full form row tail ≡ false
-    → may_go_on form row tail ≡ false → is_message_open (say_whole form row tail state whole).pending ≡ false
-whole_closed form row tail state (wholes.Message start end) ends goes = refl
-whole_closed form row tail state (wholes.Any start end) ends goes = rw ends refl
-whole_closed form row tail state wholes.Lacking ends goes = rw goes refl
-whole_closed form row tail state wholes.Idle ends goes =
-    rw goes (elim form.is_framed as (λ b. is_message_open (open_after (if not b && false then said.Part else said.Idle) wholes.Idle) ≡ false) [ true ↦ refl | false ↦ refl ])
-whole_closed form row tail state wholes.Damaged ends goes = refl
-
-say_closed : (form : LineForm) (row : ℕ) (tail : List ℕ) (state : Rows) → form.rows ≡ One → is_message_open (say form row tail state).pending ≡ false
-unfolding say
-say_closed form row tail state one =
-    whole_closed form row tail state (whole_before form state.octets tail) (none_full form row tail one) (no_row form row tail one)
-
-begun_closed : (at : ℕ) (form : LineForm) (line tail : List ℕ) (state : Rows) → form.rows ≡ One
-    → is_message_open (begun_line at form line tail state).pending ≡ false
-unfolding begun_line
-begun_closed at form line tail state one =
-    let stream : is_stream form.rows ≡ false = rw one refl in
-    let stray : is_stray form.rows (unwrap_or (offset_of form line) 0) ≡ false = rw one refl in
-    rw (stream, stray) (say_closed form (length (row_of form line)) tail (record state {
-      form = at;
-      next = offset_after (Some (unwrap_or (offset_of form line) 0)) (length (row_of form line));
-      octets = row_of form line;
-    }) one)
 
 first_closed : (at : ℕ) (forms : List LineForm) (line tail : List ℕ) (state : Rows) → AreOfOneLine forms
     → is_message_open (first_line_in at forms line tail state).pending ≡ false
@@ -103,11 +66,6 @@ below_closed forms text above kind reason frames below ends are none tells = fal
     sym (heard_closed forms text above.state tells.heard tells.after are none tells.is)
     ∙ sym (ap (λ (r : Rows). is_message_open r.pending) (tells.left.open_message opened)) ∙ opened)
 
-closed_whole : (pending : Open) → is_message_open pending ≡ false → is_message_whole pending ≡ false
-closed_whole opens.Nothing closed = refl
-closed_whole opens.Begun closed = refl
-closed_whole opens.Whole closed = closed
-
 -- what is said of the line is what was heard of it
 told_here : (ends : Bool) (forms : List LineForm) (text : Text) (above : Above) (kind : Kind) (reason : Reason) (frames : List (List ℕ)) (below : Above)
     → ends ≡ false → (tells : TellsLine ends forms text above kind reason frames below)
@@ -118,24 +76,14 @@ told_here false forms text above kind reason frames below never tells = tells.te
 -- ---- A line that no form has
 
 said_other : (says : Said) → is_other says ≡ true → says ≡ said.Other
-said_other said.Frame is = absurd (cc)
-said_other said.Part is = absurd (cc)
-said_other said.Stream is = absurd (cc)
-said_other said.Idle is = absurd (cc)
-said_other said.Stray is = absurd (cc)
-said_other said.Damaged is = absurd (cc)
 said_other said.Other is = refl
+said_other _ is = absurd (cc)
 
 other_or_lost : (lost : Bool) (says : Said) (known : Known) (line : List ℕ) (heard : LineHeard) (kind : Kind) (reason : Reason) (frames : List (List ℕ))
     → says ≡ said.Other → MatchBool lost (kind ≡ kinds.Damaged) (TellsSaid says known line heard kind reason frames) → is_of_others kind ≡ true
 other_or_lost true says known line heard kind reason frames is tells = ap is_of_others tells
 other_or_lost false said.Other known line heard kind reason frames is tells = tells
-other_or_lost false said.Frame known line heard kind reason frames is tells = absurd (cc)
-other_or_lost false said.Part known line heard kind reason frames is tells = absurd (cc)
-other_or_lost false said.Stream known line heard kind reason frames is tells = absurd (cc)
-other_or_lost false said.Idle known line heard kind reason frames is tells = absurd (cc)
-other_or_lost false said.Stray known line heard kind reason frames is tells = absurd (cc)
-other_or_lost false said.Damaged known line heard kind reason frames is tells = absurd (cc)
+other_or_lost false _ known line heard kind reason frames is tells = absurd (cc)
 
 other_told : (known : Known) (text : Text) (above : Rows) (heard : LineHeard) (after : Reading) (kind : Kind) (reason : Reason) (frames : List (List ℕ))
     → AllByRecursion (λ form. has form text.octets ≡ false) known.forms → is_message_open above.pending ≡ false
@@ -173,10 +121,6 @@ not_cut : (tail : List ℕ) → tail ≡ [] → is_cut_short tail ≡ false
 unfolding is_cut_short
 not_cut tail none = rw none refl
 
-broken_never : (forms : List LineForm) (line : List ℕ) (state : Rows) → is_message_open state.pending ≡ false → is_message_broken forms line state ≡ false
-unfolding is_message_broken
-broken_never forms line state none = rw none refl
-
 front_place : (at : ℕ) (line front : List ℕ) → at ≤ length line → drop at line ≡ front → at ≡ length line - length front
 front_place at line front within same =
     let left : length front ≡ length line - at = sym (ap (λ (l : List ℕ). length l) same) ∙ length-drop at line in
@@ -193,24 +137,7 @@ message_by : (says : Said) (known : Known) (line : List ℕ) (heard : LineHeard)
     → MatchBool (is_of_echoes (slice_get known.forms heard.said.form)) (TellsEcho known.message known.last kind)
     (TellsMessage known.forms known.message line known.rows heard kind reason frames)
 message_by said.Frame known line heard kind reason frames is tells = tells
-message_by said.Part known line heard kind reason frames is tells = absurd (cc)
-message_by said.Stream known line heard kind reason frames is tells = absurd (cc)
-message_by said.Idle known line heard kind reason frames is tells = absurd (cc)
-message_by said.Stray known line heard kind reason frames is tells = absurd (cc)
-message_by said.Damaged known line heard kind reason frames is tells = absurd (cc)
-message_by said.Other known line heard kind reason frames is tells = absurd (cc)
-
-and_true_left : (a b : Bool) → (a && b) ≡ true → a ≡ true
-and_true_left true b is = refl
-and_true_left false b is = is
-
-and_true_right : (a b : Bool) → (a && b) ≡ true → b ≡ true
-and_true_right true b is = is
-and_true_right false b is = absurd (cc)
-
-not_true : (b : Bool) → not b ≡ true → b ≡ false
-not_true true is = absurd (cc)
-not_true false is = refl
+message_by _ known line heard kind reason frames is tells = absurd (cc)
 
 and_false : (a b c : Bool) → c ≡ false → (a && b && c) ≡ false
 and_false true true c is = is
@@ -225,7 +152,7 @@ message_told : (known : Known) (text : Text) (above : Rows) (heard : LineHeard) 
     → IsHeardOf known.forms text above heard after → Tells known text.octets heard kind reason frames → IsToldAs (Message message) kind reason frames
 message_told known text above heard after kind reason frames message are line closed same is tells =
     let read = is.read line.whole in
-    let places = places_first known.forms text.octets above closed in
+    let places = places_closed known.forms text.octets above closed in
     let tail : (places_in known.forms text.octets above).end ≡ [] = ap (λ (p : Places). p.end) places ∙ line.end in
     let says : IsReadInRows message (read_in known.forms text.octets (places_in known.forms text.octets above).end above) =
     itself_said known.forms text.octets (places_in known.forms text.octets above).end message above closed
@@ -236,8 +163,8 @@ message_told known text above heard after kind reason frames message are line cl
     let begins : heard.said.found.front ≡ length text.octets - length (first_places known.forms text.octets).front =
     front_place heard.said.found.front text.octets _ (omega (arith, read.within.0, read.within.1, read.within.2))
     (read.places.0 ∙ ap (λ (p : Places). p.front) places) in
-    let short : heard.is_long ≡ false = is.long ∙ not_true text.is_long (and_true_left _ _ line.whole) in
-    let there : heard.has_gap ≡ false = is.gap ∙ not_true _ (and_true_right _ _ line.whole) in
+    let short : heard.is_long ≡ false = is.long ∙ not-true text.is_long ((and_parts _ _ line.whole).0) in
+    let there : heard.has_gap ≡ false = is.gap ∙ not-true _ ((and_parts _ _ line.whole).1) in
     let odd : is_odd_by (slice_get known.forms heard.said.form) (drop heard.said.found.end text.octets) ≡ false =
     rw (read.places.2, tail) (nothing_odd (slice_get known.forms heard.said.form)) in
     let found : is_lost known.forms text.octets heard ≡ false =
@@ -248,14 +175,14 @@ message_told known text above heard after kind reason frames message are line cl
     by_false (TellsEcho known.message known.last kind) (TellsMessage known.forms known.message text.octets known.rows heard kind reason frames)
     (is_of_echoes (slice_get known.forms heard.said.form)) (none_echoes known.forms heard.said.form are)
     (message_by heard.said.said known text.octets heard kind reason frames frame told) in
-    let off : heard.said.goes_on ≡ false = read.on ∙ goes_on_never known.forms text.octets above closed in
+    let off : heard.said.goes_on ≡ false = read.on ∙ goes_on_closed known.forms text.octets above closed in
     let room : HasRowRoom known.rows heard = λ on.
-    let never : false ≡ true = sym off ∙ and_true_left heard.said.goes_on (is_of_message heard.said.said) (sym is.row ∙ on) in absurd (cc) in
+    let never : false ≡ true = sym off ∙ (and_parts heard.said.goes_on (is_of_message heard.said.said) (sym is.row ∙ on)).0 in absurd (cc) in
     let right : is_message after.message.items ≡ true = is.messages.said (ap says_message frame) in
     let given : kind ≡ kinds.Frames = own.given (ap is_message same ∙ right) room in
     let no_other : HasNoOther known.message heard reason frames = own.only given (record { before = rw begins line.before; end = ends }) in (
       given,
-      no_other.none (read.broken ∙ broken_never known.forms text.octets above closed),
+      no_other.none (read.broken ∙ broken_closed known.forms text.octets above closed),
       no_other.only ∙ ap (λ (one : List ℕ). one ∷ []) (same ∙ kept),
     )
 
@@ -280,6 +207,6 @@ told_right texts told above [] closed are tell = tt
 told_right texts told above (line ∷ lines) closed are (below, tells, more) =
     let shut = below_closed line.forms (texts (told + 1)) above line.kind line.reason line.frames below _ are.0 closed tells in (
       line_told line.is line.forms (texts (told + 1)) above line.kind line.reason line.frames below _ are.0 closed are.1
-          (none_ends line.forms (texts (told + 2)) below.state (closed_whole below.state.pending shut)) tells,
+          (none_ends line.forms (texts (told + 2)) below.state (closed_open below.state.pending shut)) tells,
       told_right texts (told + 1) below lines shut are.2 more,
     )

@@ -1,6 +1,7 @@
 -- What a verdict says of the next line of a log.
 use Rattle.std.proofs.Common.{◌≡◌, ◌≤◌, ◌<◌, ◌+◌, ◌∙◌, ◌==◌, ◌&&◌, ℕ, Bool, true, false, List, Option, Some, None, if◌then◌else◌, length, sym, ap, refl, arith, inl, inr}
 use Rattle.std.proofs.lemmas.Bool.Decides.{leb_tells, eqb_tells}
+use Rattle.std.proofs.lemmas.Bool.{and_parts}
 use Rattle.fio_form.specs.Messages.{is_message}
 use Rattle.fio_form.specs.declared.form.LineForm.{LineForm}
 use Rattle.fio_rows.specs.Lines.{ends_above, is_ended, is_message_open, is_message_whole, open_form}
@@ -31,22 +32,14 @@ line_told reader text octets is_long above below heard kind reason frames same i
   left = rw rows left;
 }
 
-and_first : (a b : Bool) → (a && b) ≡ true → a ≡ true
-and_first true b both = refl
-and_first false b both = both
-
-and_second : (a b : Bool) → (a && b) ≡ true → b ≡ true
-and_second true b both = both
-and_second false b both = absurd (cc)
-
 -- what ends above a line is whole
 ends_whole : (form : Option LineForm) (line : List ℕ) (state : Rows) → ends_above form line state ≡ true → is_message_whole state.pending ≡ true
 ends_whole None line state ends = ends
-ends_whole (Some form) line state ends = and_first (is_message_whole state.pending) _ ends
+ends_whole (Some form) line state ends = (and_parts (is_message_whole state.pending) _ ends).0
 
 ended_whole : (forms : List LineForm) (line : List ℕ) (state : Rows) → is_ended forms line state ≡ true → is_message_whole state.pending ≡ true
 unfolding is_ended
-ended_whole forms line state ends = ends_whole (open_form forms state) line state (and_second (is_message_open state.pending) _ ends)
+ended_whole forms line state ends = ends_whole (open_form forms state) line state ((and_parts (is_message_open state.pending) _ ends).1)
 
 pub heard_whole : (forms : List LineForm) (text : Text) (above : Rows) (heard : LineHeard) (after : Reading)
     → IsHeardOf forms text above heard after → heard.said.is_ended ≡ true → is_message_whole above.pending ≡ true
@@ -58,8 +51,7 @@ heard_whole forms text above heard after is ends = by_text (is_whole_text text) 
 
 whole_open : (pending : Open) → is_message_whole pending ≡ true → is_message_open pending ≡ true
 whole_open opens.Nothing whole = whole
-whole_open opens.Begun whole = refl
-whole_open opens.Whole whole = refl
+whole_open _ whole = refl
 
 -- a verdict that reports the message that ends with a line
 pub end_told : (forms : List LineForm) (text : Text) (above below : Above) (kind more : Kind) (reason other : Reason) (frames others : List (List ℕ)) (message : List ℕ)
@@ -139,7 +131,7 @@ heard_ends forms text above heard after is = by_text (is_whole_text text) refl
 pub not_last : (is_ended : Bool) (read told : ℕ) (b : Bool) → told + 2 ≤ read → (is_ended && told + 1 == read) ≡ true → b ≡ false
 not_last is_ended read told b more last = elim (eqb_tells (told + 1) read) [
   | inl same ↦ absurd (omega (arith, same.1, more))
-  | inr other ↦ let no : false ≡ true = sym other.0 ∙ and_second is_ended _ last in absurd (cc)
+  | inr other ↦ let no : false ≡ true = sym other.0 ∙ (and_parts is_ended _ last).1 in absurd (cc)
 ]
 
 -- the last line of a log has no other below it

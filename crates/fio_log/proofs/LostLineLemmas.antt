@@ -3,8 +3,7 @@ use Rattle.std.proofs.Common.{◌≡◌, ◌∙◌, ◌≤◌, ℕ, Bool, true, 
 use Rattle.std.specs.Prelude.{nat_le}
 use Rattle.std.proofs.lemmas.Bool.{cases_Bool}
 use Rattle.std.proofs.lemmas.Bool.Decides.{nat_tests}
-use Rattle.fio_form.specs.declared.form.LineForm.{LineForm}
-use Rattle.fio_rows.specs.Lines.{first, is_message_open, line_goes_on, read_in}
+use Rattle.fio_rows.specs.Lines.{first, is_message_open, read_in}
 use Rattle.fio_rows.specs.Places.{Places, first_places, places_in}
 use Rattle.fio_rows.specs.Rows.{Rows, rows_of}
 use Rattle.fio_rows.specs.declared.rows.Reading.{Reading}
@@ -17,6 +16,7 @@ use Rattle.fio_log.specs.declared.by_forms.LineHeard.{LineHeard}
 use Rattle.fio_log.specs.declared.verdict.Kind.{Kind}
 use Rattle.fio_log.specs.declared.verdict.Kind.TheVariants as kinds
 use Rattle.fio_log.specs.declared.verdict.Reason.{Reason}
+use Rattle.fio_rows.proofs.ClosedLines.{places_closed, read_closed}
 
 -- ---- A line that is too long, or of which a part is gone
 
@@ -40,30 +40,11 @@ gone_told known text above heard after kind reason frames gone is tells =
 
 -- ---- A line whose octets are damaged
 
-pub goes_on_never : (forms : List LineForm) (line : List ℕ) (state : Rows) → is_message_open state.pending ≡ false → line_goes_on forms line state ≡ false
-unfolding line_goes_on
-goes_on_never forms line state none = rw none refl
-
-pub places_first : (forms : List LineForm) (line : List ℕ) (state : Rows) → is_message_open state.pending ≡ false
-    → places_in forms line state ≡ first_places forms line
-unfolding places_in
-places_first forms line state none = rw (goes_on_never forms line state none) refl
-
-read_first : (forms : List LineForm) (line tail : List ℕ) (state : Rows) → is_message_open state.pending ≡ false
-    → read_in forms line tail state ≡ first forms line tail state
-unfolding read_in
-read_first forms line tail state none = rw none refl
-
 damaged_or_lost : (lost : Bool) (says : Said) (known : Known) (line : List ℕ) (heard : LineHeard) (kind : Kind) (reason : Reason) (frames : List (List ℕ))
     → says ≡ said.Damaged → MatchBool lost (kind ≡ kinds.Damaged) (TellsSaid says known line heard kind reason frames) → kind ≡ kinds.Damaged
 damaged_or_lost true says known line heard kind reason frames is tells = tells
 damaged_or_lost false said.Damaged known line heard kind reason frames is tells = tells
-damaged_or_lost false said.Frame known line heard kind reason frames is tells = absurd (cc)
-damaged_or_lost false said.Part known line heard kind reason frames is tells = absurd (cc)
-damaged_or_lost false said.Stream known line heard kind reason frames is tells = absurd (cc)
-damaged_or_lost false said.Idle known line heard kind reason frames is tells = absurd (cc)
-damaged_or_lost false said.Stray known line heard kind reason frames is tells = absurd (cc)
-damaged_or_lost false said.Other known line heard kind reason frames is tells = absurd (cc)
+damaged_or_lost false _ known line heard kind reason frames is tells = absurd (cc)
 
 lost_if_odd : (long nul odd : Bool) → odd ≡ true → (long || (nul || odd)) ≡ true
 lost_if_odd true nul odd is = refl
@@ -80,9 +61,9 @@ spoilt_told known text above heard after kind reason frames spoilt closed is tel
   | inr gone ↦ gone_told known text above heard after kind reason frames gone is tells
   | inl whole ↦
       let read = is.read whole in
-      let places = places_first known.forms text.octets above closed in
+      let places = places_closed known.forms text.octets above closed in
       let first_read : read_in known.forms text.octets (places_in known.forms text.octets above).end above ≡ read_alone known.forms text above =
-      read_first known.forms text.octets (places_in known.forms text.octets above).end above closed
+      read_closed known.forms text.octets (places_in known.forms text.octets above).end above closed
       ∙ ap (λ (p : Places). first known.forms text.octets p.end above) places in
       let rows : rows_of heard.said.said after ≡ read_alone known.forms text above = read.rows ∙ first_read in
       let says : heard.said.said ≡ (read_alone known.forms text above).said = ap (λ (r : Rows). r.said) rows in

@@ -2,8 +2,11 @@
 use Rattle.std.specs.Prelude.{ℕ, ◌+◌, ◌-◌, ◌*◌, ◌/◌, ◌%◌, ◌&&◌, ◌||◌, ◌==◌, Bool, true, false, not, nat_le, nat_lt, if◌then◌else◌, List, [], ◌∷◌, Option, Some, None, codes, length, drop, is_some, option_and_then, slice_index}
 use Rattle.fio_log.specs.Digits.{digit_of, is_between, is_letter}
 use Rattle.fio_log.specs.declared.time_forms.Number.{Number}
+use Rattle.fio_log.specs.declared.clock.Moment.{Moment}
 use Rattle.fio_log.specs.declared.clock.Time.{Time}
 use Rattle.fio_log.specs.declared.time_forms.TimeRead.{TimeRead}
+use Rattle.fio_log.specs.declared.parts.TimeKind.{TimeKind}
+use Rattle.fio_log.specs.declared.parts.TimeKind.TheVariants as kinds
 use Rattle.fio_log.specs.declared.parts.TimeParts.{TimeParts}
 
 -- The forms of times: `Y` has four digits, `m` and `s` two, `M`, `D` and `h` one or two, `N` is the name of a month, `_` a gap,
@@ -17,7 +20,7 @@ time_forms =
 
 -- what a time has of which nothing is read
 abbrev pub no_parts : TimeParts
-no_parts = record { year = 1970; month = 0; day = 0; hour = 0; minute = 0; second = 0; microseconds = 0 }
+no_parts = record { kind = kinds.Day; year = 1970; month = 0; day = 0; hour = 0; minute = 0; second = 0; microseconds = 0 }
 
 -- nothing is read
 abbrev pub none_read : TimeRead
@@ -69,14 +72,21 @@ month_by a b c =
     else if a == 100 && (b == 101 && c == 99) then 12
     else 0
 
--- a time with the number of a sign: `Y` is 89, `M` 77, `D` 68, `h` 104, `m` 109
+-- what a time counts from that has a day of a month: a day of 0 is no date
+abbrev pub kind_of_day : ℕ → TimeKind
+kind_of_day day = if day == 0 then kinds.Day else kinds.Date
+
+-- a time with the number of a sign: `Y` is 89, `M` 77, `D` 68, `h` 104, `m` 109, `E` 69, `F` 70; a day or seconds since 1970 are a
+-- date, seconds with a fraction count from a start
 abbrev pub with_part : TimeParts → ℕ → ℕ → TimeParts
 with_part parts sign value =
     if sign == 89 then record parts { year = value }
     else if sign == 77 then record parts { month = value }
-    else if sign == 68 then record parts { day = value }
+    else if sign == 68 then record parts { day = value; kind = kind_of_day value }
     else if sign == 104 then record parts { hour = value }
     else if sign == 109 then record parts { minute = value }
+    else if sign == 69 then record parts { second = value; kind = kinds.Date }
+    else if sign == 70 then record parts { second = value; kind = kinds.Start }
     else record parts { second = value }
 
 -- how many digits a sign allows: `E` is 69, `F` 70
@@ -279,14 +289,18 @@ days_of parts =
     else if nat_lt parts.month 3 then days_from_march (parts.year - 1) (parts.month + 9) parts.day
     else days_from_march parts.year (parts.month - 3) parts.day
 
--- the microseconds of a time since 1970; without a date since midnight, or since a start
+-- the microseconds of a time since what it counts from
 unfoldable pub microseconds_in : TimeParts → ℕ
 microseconds_in parts =
     (((days_of parts * 24 + parts.hour) * 60 + parts.minute) * 60 + parts.second) * 1000000 + parts.microseconds
 
+-- the moment of a time
+abbrev pub moment_in : TimeParts → Moment
+moment_in parts = record { microseconds = microseconds_in parts; kind = parts.kind }
+
 -- the time that is read from a place on
 abbrev pub time_from : ℕ → TimeRead → Time
-time_from start read = record { start = start; end = start + read.count; microseconds = microseconds_in read.parts }
+time_from start read = record { start = start; end = start + read.count; moment = moment_in read.parts }
 
 -- a time, or else another one
 abbrev pub time_or : Option TimeRead → ℕ → Option Time → Option Time

@@ -35,10 +35,7 @@ abbrev pub says_octets : Said → Bool
 says_octets said.Frame = true
 says_octets said.Part = true
 says_octets said.Stream = true
-says_octets said.Idle = false
-says_octets said.Stray = false
-says_octets said.Damaged = false
-says_octets said.Other = false
+says_octets _ = false
 
 -- What is read of a line below what is known above it: what the forms say of it, and where its octets are.
 pub record IsReadOf (forms : List LineForm) (line : List ℕ) (above : Rows) (heard : LineSaid) (after : Reading) : Type 0 where
@@ -62,11 +59,8 @@ pub record IsPassed (above : Rows) (heard : LineSaid) (after : Reading) : Type 0
 abbrev pub is_of_message : Said → Bool
 is_of_message said.Frame = true
 is_of_message said.Part = true
-is_of_message said.Stream = false
-is_of_message said.Idle = false
-is_of_message said.Stray = false
 is_of_message said.Damaged = true
-is_of_message said.Other = false
+is_of_message _ = false
 
 -- What was heard of a line, below what was known above it: what is read of it, if it is not too long and no part of it is gone. A
 -- message that it says is one, and so are those that end with it, and above it.
@@ -163,21 +157,16 @@ pub record TellsPart (rows : ℕ) (heard : LineHeard) (kind : Kind) : Type 0 whe
 
 -- whether a line of a stream may be of a kind
 abbrev pub is_of_stream : Kind → Bool
-is_of_stream kinds.Blank = false
 is_of_stream kinds.Frames = true
 is_of_stream kinds.Part = true
-is_of_stream kinds.Possible = false
 is_of_stream kinds.Damaged = true
-is_of_stream kinds.PassedOver = false
+is_of_stream _ = false
 
 -- whether a line that no form has may be of a kind
 abbrev pub is_of_others : Kind → Bool
-is_of_others kinds.Blank = true
 is_of_others kinds.Frames = false
 is_of_others kinds.Part = false
-is_of_others kinds.Possible = true
-is_of_others kinds.Damaged = true
-is_of_others kinds.PassedOver = true
+is_of_others _ = true
 
 -- what a kind and a reason, with these frames, say of a line that says a message
 abbrev pub TellsFrame : Known → List ℕ → LineHeard → Kind → Reason → List (List ℕ) → Type 0

@@ -29,13 +29,11 @@ with_all text octets = fold pushed text octets
 
 -- The octets that begin what may be taken out: ESC is 27, a no-break space is 194 160, a byte order mark is 239 187 191.
 abbrev pub held_octets : Held → List ℕ
-held_octets Nothing = []
-held_octets Nul = []
 held_octets Escape = 27 ∷ []
-held_octets Colour = []
 held_octets NoBreak = 194 ∷ []
 held_octets Mark = 239 ∷ []
 held_octets SecondMark = 239 ∷ 187 ∷ []
+held_octets _ = []
 
 -- whether an octet continues what is held; `[` is 91, and a NUL goes on with others
 abbrev pub goes_on_held : Held → ℕ → Bool
@@ -49,13 +47,11 @@ goes_on_held SecondMark octet = octet == 191
 
 -- what is held after that octet: a colour sequence ends with a letter
 abbrev pub held_next : Held → ℕ → Held
-held_next Nothing octet = Nothing
 held_next Nul octet = Nul
 held_next Escape octet = Colour
 held_next Colour octet = if is_between 65 90 octet || is_between 97 122 octet then Nothing else Colour
-held_next NoBreak octet = Nothing
 held_next Mark octet = SecondMark
-held_next SecondMark octet = Nothing
+held_next _ octet = Nothing
 
 -- what the line gets in place of what is held, if an octet continues it: a blank for a no-break space, and each NUL after a NUL
 abbrev pub held_text : Held → List ℕ

@@ -10,15 +10,9 @@ use Rattle.fio_log.specs.Digits.{digit_of, is_letter}
 -- how many digits an octet has in a notation, if that is always the same
 abbrev pub width_of : Digits → Option ℕ
 width_of digits.Pairs = Some 2
-width_of digits.Short = None
-width_of digits.Prefixed = None
-width_of digits.Decimal = None
-width_of digits.Columns = None
 width_of digits.Octal = Some 3
 width_of digits.Binary = Some 8
-width_of (digits.Text quote) = None
-width_of digits.Cells = None
-width_of digits.Sextets = None
+width_of _ = None
 
 -- how many digits there are, with those that a text begins with, before a character that belongs to no word; none if its first
 -- word has another character
@@ -31,12 +25,7 @@ digits_after count (character ∷ text) =
 -- whether a message is one row
 abbrev pub is_one : LineRows → Bool
 is_one rows.One = true
-is_one (rows.Offset number base width begins_at_zero) = false
-is_one (rows.Wrapped width) = false
-is_one rows.Bare = false
-is_one rows.Pieces = false
-is_one rows.Stream = false
-is_one rows.Flags = false
+is_one _ = false
 
 -- whether this many digits are no octets of this width: too few, or more than a row has
 abbrev pub are_odd : LineRows → ℕ → Option ℕ → Bool

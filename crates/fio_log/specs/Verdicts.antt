@@ -8,62 +8,40 @@ use Rattle.fio_log.specs.declared.verdict.LineVerdict.{LineVerdict}
 
 -- whether a line has frames
 abbrev pub is_frames : Kind → Bool
-is_frames kinds.Blank = false
 is_frames kinds.Frames = true
-is_frames kinds.Part = false
-is_frames kinds.Possible = false
-is_frames kinds.Damaged = false
-is_frames kinds.PassedOver = false
+is_frames _ = false
 
 -- whether a line may have held a frame, but gave none
 abbrev pub is_damaged : Kind → Bool
-is_damaged kinds.Blank = false
-is_damaged kinds.Frames = false
-is_damaged kinds.Part = false
-is_damaged kinds.Possible = false
 is_damaged kinds.Damaged = true
-is_damaged kinds.PassedOver = false
+is_damaged _ = false
 
 -- whether no form has a line that may have held a frame
 abbrev pub is_possible : Kind → Bool
-is_possible kinds.Blank = false
-is_possible kinds.Frames = false
-is_possible kinds.Part = false
 is_possible kinds.Possible = true
-is_possible kinds.Damaged = false
-is_possible kinds.PassedOver = false
+is_possible _ = false
 
 -- whether a line is none of these, nor blank, nor a part
 abbrev pub is_passed_over : Kind → Bool
-is_passed_over kinds.Blank = false
-is_passed_over kinds.Frames = false
-is_passed_over kinds.Part = false
-is_passed_over kinds.Possible = false
-is_passed_over kinds.Damaged = false
 is_passed_over kinds.PassedOver = true
+is_passed_over _ = false
 
 -- whether a line of a kind has this many frames: one or more, or none
 abbrev pub has_frames : Kind → ℕ → Bool
 has_frames kinds.Frames count = nat_lt 0 count
-has_frames kinds.Blank count = count == 0
-has_frames kinds.Part count = count == 0
-has_frames kinds.Possible count = count == 0
-has_frames kinds.Damaged count = count == 0
-has_frames kinds.PassedOver count = count == 0
+has_frames _ count = count == 0
 
 -- whether a line of a kind may have a reason
 abbrev pub has_reason : Kind → Reason → Bool
 has_reason kind reasons.None = not (is_damaged kind || is_possible kind || is_passed_over kind)
 has_reason kind reasons.Broken = not (is_damaged kind || is_possible kind)
-has_reason kind reasons.NoOctets = is_passed_over kind
 has_reason kind reasons.NoMessage = is_damaged kind || is_passed_over kind
 has_reason kind reasons.NoForm = is_possible kind
+has_reason kind reasons.UnreadFrame = is_possible kind
 has_reason kind reasons.More = is_frames kind
 has_reason kind reasons.TooLong = is_damaged kind
 has_reason kind reasons.BadLine = is_damaged kind
-has_reason kind reasons.Loss = is_passed_over kind
-has_reason kind reasons.Heading = is_passed_over kind
-has_reason kind reasons.Copy = is_passed_over kind
+has_reason kind _ = is_passed_over kind
 
 -- Kind and reason of a verdict agree, and with this many frames.
 pub record Agrees (verdict : LineVerdict) (count : ℕ) : Type 0 where

@@ -12,9 +12,11 @@ ghost use Rattle.fio_log.specs.Verdicts.{Agrees, has_reason};
 ghost use Rattle.fio_log.specs.Wordings.{SaysWords};
 ghost use Rattle.fio_log.specs.declared.verdict.Kind.TheVariants.{Frames};
 
+use crate::ahead::look_ahead;
 use crate::counts::{Counts, ReadAs};
 use crate::header::Headers;
 use crate::heading::{Heading, LineAbove};
+use crate::heads::Heads;
 use crate::known_forms::KnownForms;
 use crate::lines::NumberedLine;
 use crate::quiet::is_plain_quiet;
@@ -24,7 +26,7 @@ use crate::told::Told;
 use crate::verdict::{Kind, LineVerdict, Reason};
 use arrayvec::ArrayVec;
 use fio_form::{LineForm, Octets, Piece};
-use fio_guess::hash_of;
+use fio_guess::{Window, hash_of};
 use fio_rows::{LineSaid, Next, Reading, Said, Stream};
 use fio_sniff::Forms;
 
@@ -66,6 +68,7 @@ pub(crate) struct FormReader {
     octets: Octets,
     held: Octets,
     shapes: Shapes,
+    heads: Heads,
     /// Whether the last line that no form has had octets that may be a message.
     is_loud: bool,
     /// How many forms were given by samples.
@@ -128,6 +131,7 @@ impl FormReader {
             octets: ArrayVec::new(),
             held: ArrayVec::new(),
             shapes: Shapes::new(),
+            heads: Heads::new(),
             is_loud: false,
             given: 0,
         }
@@ -148,6 +152,7 @@ impl FormReader {
         self.headers.clear();
         self.last.clear();
         self.shapes.clear();
+        self.heads.clear();
         self.is_loud = false;
         self.given = 0;
     }
@@ -173,6 +178,22 @@ impl FormReader {
                 self.counts.add();
             }
         }
+    }
+
+    /// Learns from the lines of the window what is above octets, and which shapes of lines recur.
+    pub(crate) fn look_ahead(&mut self, window: &Window)
+        ensures reading { self.new.reading ≡ self.old.reading }
+        ensures rows { self.new.rows ≡ self.old.rows }
+    {
+        look_ahead(
+            window,
+            self.forms.list(),
+            &mut self.heads,
+            &mut self.counts,
+            &mut self.shapes,
+            &mut self.octets,
+            &mut self.held,
+        );
     }
 
     /// Adds forms that are given by samples: they stay, and come before those that are learnt.
@@ -332,8 +353,8 @@ impl FormReader {
         if is_whole {
             return self.tell_ended(last, true, told);
         }
-        let top = self.stream_rows.top();
-        if let Next::Message(count) = self.stream.end() {
+        let is_flags = self.is_of_flags();
+        if !is_flags && let Next::Message(count) = self.stream.end() {
             self.tell_of_stream(count, told);
         }
         match told.frames() {
@@ -341,8 +362,8 @@ impl FormReader {
             1 if last.kind != Kind::Frames => LineVerdict {
                 kind: Kind::Frames,
                 reason: Reason::None,
-                said: top.said,
-                time: top.time,
+                said: self.begun.said,
+                time: self.begun.time,
                 ..last
             },
             _ => LineVerdict {

@@ -3,8 +3,18 @@ ghost use Rattle.std.specs.Prelude.{◌≡◌, ◌≤◌, IfSome, length, map, t
 ghost use Rattle.fio_log.specs.Clock.{can_be, first_form, first_time_of, may_be_before, may_begin, may_begin_digits, may_begin_name, time_at};
 
 use crate::digits::{is_decimal, is_letter};
+use crate::parts::TimeKind;
 use crate::time_ends::fitting;
 use crate::time_forms::{TimeRead, character, form_in, number_in, small};
+
+/// A moment, in microseconds since what it counts from.
+#[derive(Clone, Copy, Debug, PartialEq, Eq)]
+pub struct Moment {
+    /// The microseconds.
+    pub microseconds: u64,
+    /// What it counts from.
+    pub kind: TimeKind,
+}
 
 /// A time in a line.
 #[derive(Clone, Copy, Debug, PartialEq, Eq)]
@@ -13,8 +23,8 @@ pub struct Time {
     pub start: usize,
     /// Where the time ends.
     pub end: usize,
-    /// The time in microseconds since 1970; without a date since midnight, or since a start.
-    pub microseconds: u64,
+    /// The moment that it says.
+    pub moment: Moment,
 }
 
 /// The forms of times: `Y` has four digits, `m` and `s` two, `M`, `D` and `h` one or two, `N` is the name of a month, `_` a
@@ -49,7 +59,10 @@ pub fn time_in(line: &[u8]) -> Option<Time>
             return Some(Time {
                 start,
                 end: start + read.count,
-                microseconds: read.parts.total(),
+                moment: Moment {
+                    microseconds: read.parts.total(),
+                    kind: read.parts.kind,
+                },
             });
         }
         is_free = may_be_before(line[start]);

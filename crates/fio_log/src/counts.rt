@@ -106,6 +106,16 @@ fn is_of_words(line: &[u8]) -> bool {
     has_word
 }
 
+/// Returns whether a line is what ends a list that is open above: brackets, and what separates lists.
+fn is_of_closers(line: &[u8]) -> bool {
+    for character in line {
+        if !matches!(*character, b' ' | b'\t' | b'}' | b']' | b')' | b',' | b';') {
+            return false;
+        }
+    }
+    true
+}
+
 /// Returns whether a character may begin a text: it is a letter, a digit or what opens a bracket, or a sign of times.
 fn begins_text(character: u8) -> bool {
     matches!(character, b'0'..=b'9' | b'A'..=b'Z' | b'a'..=b'z' | b'(' | b'[' | b'{' | b'<' | b'-')
@@ -181,19 +191,25 @@ impl Counts {
         lines > SHOWN && self.odd <= lines / REGULAR
     }
 
-    /// Returns how many lines are of forms, or of a shape that others above them have.
+    /// Returns how many lines are of forms and not damaged, or of a shape that others above them have.
     fn usual(&self) -> u64 {
         let mut lines = self.others - self.odd.min(self.others);
         for count in self.all.as_slice() {
-            lines = lines.saturating_add(count.lines);
+            lines = lines.saturating_add(count.lines - count.damaged.min(count.lines));
         }
         lines
     }
 
+    /// Takes that a line which no form has is below.
+    pub(crate) fn expect(&mut self, line: &[u8]) {
+        self.shapes.expect(line, false);
+    }
+
     /// Counts a line that no form has; returns whether it is odd, in a log that is regular: then it may be what damage left of a line of a
-    /// form. A number by itself is not, nor are words alone, unless it begins as the lines of a form do and does not end so, or ends as they do and
+    /// form. A number by itself is not, nor are words or the ends of lists alone, unless it begins as the lines of a form do and does not end so, or ends as they do and
     /// does not begin so.
     pub(crate) fn has_odd(&mut self, line: &[u8]) -> bool {
+        let is_known = self.shapes.are_known(line, false);
         let is_usual = self.shapes.are_usual(line, false);
         let is_regular = self.is_regular();
         self.others = self.others.saturating_add(1);
@@ -202,8 +218,10 @@ impl Counts {
         }
         self.odd = self.odd.saturating_add(1);
         is_regular
+            && !is_known
             && !is_number(line)
-            && (!is_of_words(line) || self.all.iter().any(|count| count.ends.are_parted(line)))
+            && (!is_of_words(line) && !is_of_closers(line)
+                || self.all.iter().any(|count| count.ends.are_parted(line)))
     }
 
     /// Counts a blank line; returns whether it is the first one below many lines, in a log that is regular: it may be what is left of
@@ -219,6 +237,15 @@ impl Counts {
     {
         match self.all.get(form) {
             Some(count) => count.is_near(past_fill(tail)),
+            None => false,
+        }
+    }
+
+    /// Returns whether a row has a part of its offset alone: the first row of the form has four zeros or more, and this one a shorter
+    /// front.
+    pub(crate) fn lacks_offset(&self, form: usize, front: &[u8]) -> bool {
+        match self.all.get(form) {
+            Some(count) => count.front.starts_with(b"0000") && front.len() < count.front.len(),
             None => false,
         }
     }

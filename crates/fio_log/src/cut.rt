@@ -61,9 +61,13 @@ fn is_in_form(form: &LineForm, octets: &Octets, held: &mut Octets) -> bool {
         )
 }
 
-/// Returns whether a line begins within the front of a form, and has after it a message, or octets that begin one.
+/// Returns whether a line begins within the front of a form, and has after it a message, or octets that begin one. A number by itself
+/// is the last offset of a dump.
 fn begins_within(form: &LineForm, line: &[u8], octets: &mut Octets, held: &mut Octets) -> bool {
     let count = form.front().len();
+    if matches!(form.rows, LineRows::Offset { .. }) && is_number(line) && line.len() > FEW_DIGITS {
+        return false;
+    }
     'pieces: for above in 0..count {
         if let Some(place) = pieces_in(form, above + 1, count, line)
             && has_message(form, line, place, octets, held)

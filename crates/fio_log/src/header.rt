@@ -76,13 +76,10 @@ fn header_inside(has_escapes: bool, octets: &[u8]) -> FrameHeader {
     }
 }
 
-/// Returns the header of a frame of the wire with this many octets, which begins with these and holds a message with this many: octets
-/// beside that, header, check and flags are escapes. The first flag counts, the last one does not.
+/// Returns the header of a frame of the wire with this many octets between its flags, which begin with these and hold a message with
+/// this many: octets beside that, header and check are escapes.
 pub(crate) fn frame_header(count: usize, message: usize, octets: &[u8]) -> FrameHeader {
-    match octets {
-        [0x7e, rest @ ..] => header_inside(count != message.saturating_add(5), rest),
-        _ => two_of(octets),
-    }
+    header_inside(count != message.saturating_add(4), octets)
 }
 
 /// Returns the header of the octets of a form, which hold a message with this many.
@@ -97,7 +94,10 @@ pub(crate) fn header_in(form: &LineForm, octets: &[u8], message: usize) -> Frame
         return NO_HEADER;
     }
     let (_, frame) = octets.split_at(before);
-    frame_header(frame.len() - 1, message, frame)
+    match frame {
+        [0x7e, rest @ ..] => frame_header(rest.len().saturating_sub(1), message, rest),
+        _ => two_of(frame),
+    }
 }
 
 /// Returns where the word before a place begins, if there is one.

@@ -60,6 +60,7 @@
 //! this is tested by `tests/fiolog-reader.py` and `tests/real-logs.py`.
 #![tactic(auto)]
 
+mod ahead;
 mod blanks;
 mod by_forms;
 mod clock;
@@ -71,6 +72,7 @@ mod ends;
 mod foreign;
 mod header;
 mod heading;
+mod heads;
 mod known_forms;
 pub mod laws;
 mod learning;
@@ -94,12 +96,13 @@ mod told;
 mod verdict;
 mod wordings;
 
-pub use clock::{Time, time_in};
+pub use clock::{Moment, Time, time_in};
 pub use counts::{ReadAs, SAMPLE_CHARACTERS};
 pub use directions::Direction;
 pub use header::FrameHeader;
 pub use lines::{LINE_OCTETS, LineMaker};
 pub use own_texts::{OwnForm, OwnLine, read_own_line};
+pub use parts::TimeKind;
 pub use places::Place;
 pub use reader::Reader;
 pub use verdict::{Form, Kind, LineVerdict, Reason};

@@ -1,13 +1,25 @@
 //! The parts of a time, and their sum in microseconds.
 ghost use Rattle.std.specs.Prelude.{◌≡◌, ◌≤◌, ◌<◌, true};
-ghost use Rattle.fio_log.specs.Clock.{can_be, days_from_march, days_of, microseconds_in, no_parts, with_part};
+ghost use Rattle.fio_log.specs.Clock.{can_be, days_from_march, days_of, kind_of_day, microseconds_in, no_parts, with_part};
 
 /// The days from 1 March of the year 0 to 1970.
 const DAYS_TO_1970: u64 = 719_468;
 
+/// What a time counts from.
+#[derive(Clone, Copy, Debug, PartialEq, Eq)]
+pub enum TimeKind {
+    /// From 1970: it has a date.
+    Date,
+    /// From midnight: it is a time of day without a date.
+    Day,
+    /// From a start that the log does not name: it is seconds alone.
+    Start,
+}
+
 /// The parts of a time. A day of 0 says that it has no date.
 #[derive(Clone, Copy)]
 pub(crate) struct TimeParts {
+    pub kind: TimeKind,
     pub year: u64,
     pub month: u64,
     pub day: u64,
@@ -23,6 +35,7 @@ impl TimeParts {
         ensures { result ≡ no_parts }
     {
         TimeParts {
+            kind: TimeKind::Day,
             year: 1970,
             month: 0,
             day: 0,
@@ -41,9 +54,20 @@ impl TimeParts {
         match sign {
             b'Y' => parts.year = value,
             b'M' => parts.month = value,
-            b'D' => parts.day = value,
+            b'D' => {
+                parts.day = value;
+                parts.kind = kind_of_day(value);
+            }
             b'h' => parts.hour = value,
             b'm' => parts.minute = value,
+            b'E' => {
+                parts.second = value;
+                parts.kind = TimeKind::Date;
+            }
+            b'F' => {
+                parts.second = value;
+                parts.kind = TimeKind::Start;
+            }
             _ => parts.second = value,
         }
         parts
@@ -77,7 +101,7 @@ impl TimeParts {
         }
     }
 
-    /// Returns the microseconds since 1970, or since midnight.
+    /// Returns the microseconds since what the time counts from.
     #[tactic(auto, unfolding(crate::specs::Clock::microseconds_in))]
     pub(crate) fn total(self) -> u64
         requires { can_be self ≡ true }
@@ -86,6 +110,17 @@ impl TimeParts {
         let hours = self.days() * 24 + self.hour;
         let minutes = hours * 60 + self.minute;
         (minutes * 60 + self.second) * 1_000_000 + self.microseconds
+    }
+}
+
+/// Returns what a time counts from that has a day of a month.
+fn kind_of_day(day: u64) -> TimeKind
+    ensures { result ≡ kind_of_day day }
+{
+    if day == 0 {
+        TimeKind::Day
+    } else {
+        TimeKind::Date
     }
 }
 

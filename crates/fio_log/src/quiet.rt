@@ -2,11 +2,15 @@
 ghost use Rattle.std.specs.Prelude.{◌≤◌, length};
 
 use crate::digits::is_letter;
+use arrayvec::ArrayVec;
 use fio_form::{
-    Digits, LineForm, OCTETS, Octets, Piece, Size, Step, find, front_in, is_decimal, is_hex,
-    is_message, is_space_or_tab, run_in, size_of, swap,
+    Digits, LineForm, OCTETS, Octets, Piece, Size, Step, find, framed_in, front_in, is_decimal,
+    is_hex, is_message, is_space_or_tab, run_in, size_of, swap,
 };
 use fio_guess::may_begin;
+
+/// What is before and after a frame.
+const FLAG: u8 = 0x7e;
 
 /// What a text has in the notations of some forms.
 #[derive(Clone, Copy, Debug, PartialEq, Eq)]
@@ -17,16 +21,24 @@ pub(crate) enum Hidden {
     Beginning,
     /// A message of two octets or more, whose length is known.
     Message,
+    /// A message between two flags, with a right check.
+    Frame,
 }
 
 impl Hidden {
     /// Returns the greater of two.
     fn or(self, other: Hidden) -> Hidden {
         match (self, other) {
+            (Hidden::Frame, _) | (_, Hidden::Frame) => Hidden::Frame,
             (Hidden::Message, _) | (_, Hidden::Message) => Hidden::Message,
             (Hidden::Beginning, _) | (_, Hidden::Beginning) => Hidden::Beginning,
             _ => Hidden::Nothing,
         }
+    }
+
+    /// Returns whether it is a message.
+    pub(crate) fn is_message(self) -> bool {
+        matches!(self, Hidden::Message | Hidden::Frame)
     }
 }
 
@@ -43,6 +55,28 @@ fn held_by(octets: &[u8]) -> Hidden {
         Size::Any if is_message(octets) => Hidden::Beginning,
         _ => Hidden::Nothing,
     }
+}
+
+/// Returns whether a message is between the flag with which octets begin and the next one, with a right check.
+fn begins_frame(octets: &[u8], held: &mut Octets) -> bool {
+    for end in 1..octets.len() {
+        if octets[end] == FLAG {
+            let (frame, _) = octets.split_at(end + 1);
+            return framed_in(frame, held) && is_message(held);
+        }
+    }
+    false
+}
+
+/// Returns whether a message is between two flags of octets, with a right check.
+fn has_frame(octets: &[u8]) -> bool {
+    let mut held: Octets = ArrayVec::new();
+    for first in 0..octets.len() {
+        if octets[first] == FLAG && begins_frame(octets.split_at(first).1, &mut held) {
+            return true;
+        }
+    }
+    false
 }
 
 /// Returns whether what a text has up to a place may be octets of a notation: it is no part of a longer word, and a literal has
@@ -115,6 +149,9 @@ fn held_in(form: &LineForm, text: &[u8], octets: &mut Octets) -> Hidden {
                 held = held.or(held_by(octets));
                 if octets.len() > before {
                     held = held.or(held_by(&octets[before..]));
+                }
+                if has_frame(octets) {
+                    held = Hidden::Frame;
                 }
             }
             if count > 1 && count <= text.len() - place {

@@ -2,6 +2,7 @@
 ghost use Rattle.std.specs.Prelude.{◌≡◌, ◌+◌, ◌<◌, ◌↔◌, [], IsTrue, length};
 ghost use Rattle.fio_log.specs.declared.rows.TheConstants.{ROWS};
 
+use crate::clock::Moment;
 use crate::directions::Direction;
 use crate::heading::Heading;
 use crate::places::Place;
@@ -65,8 +66,7 @@ pub(crate) struct StreamRow {
     end: u32,
     octets: u16,
     said: Option<Direction>,
-    has_time: bool,
-    time: u64,
+    time: Option<Moment>,
 }
 
 impl StreamRow {
@@ -78,15 +78,14 @@ impl StreamRow {
             end: place.end.min(u32::MAX as usize) as u32,
             octets: octets.min(u16::MAX as usize) as u16,
             said: heading.said,
-            has_time: heading.time.is_some(),
-            time: heading.time.unwrap_or(0),
+            time: heading.time,
         }
     }
 
     /// Returns what its line says of its octets.
     pub(crate) fn heading(self) -> Heading {
         Heading {
-            time: if self.has_time { Some(self.time) } else { None },
+            time: self.time,
             said: self.said,
         }
     }

@@ -13,12 +13,15 @@ const USUAL: u16 = 3;
 /// The most lines that are counted of a shape.
 const COUNTED: u16 = 1_000;
 
-/// A shape, how many lines have it, and how many of these a message.
+/// A shape, how many lines above have it, and how many of these a message.
 #[derive(Clone, Copy, Debug, Default)]
 struct Shape {
     sum: u64,
     lines: u16,
     messages: u16,
+    /// How many lines that are not told yet have it, and how many of these a message.
+    ahead: u16,
+    messages_ahead: u16,
 }
 
 impl Shape {
@@ -30,9 +33,25 @@ impl Shape {
         }
     }
 
+    /// Takes that a line is told now.
+    fn reach(&mut self, has_message: bool) {
+        self.ahead = self.ahead.saturating_sub(1);
+        self.messages_ahead = self
+            .messages_ahead
+            .saturating_sub(u16::from(has_message))
+            .min(self.ahead);
+    }
+
     /// Returns whether the lines are a neighbour's.
     fn is_usual(self) -> bool {
         self.lines >= USUAL && self.messages < self.lines - self.messages.min(self.lines)
+    }
+
+    /// Returns whether the lines above and those that are known below, at least this many, are a neighbour's.
+    fn is_known(self, least: u16) -> bool {
+        let lines = self.lines.saturating_add(self.ahead);
+        let messages = self.messages.saturating_add(self.messages_ahead);
+        lines >= least && messages < lines - messages.min(lines)
     }
 }
 
@@ -61,11 +80,25 @@ impl Shapes {
         let _fits = self.shapes.try_extend_from_slice(&other.shapes);
     }
 
+    /// Returns whether enough lines have the shape of a line to show it, with those that are known below: more than `USUAL`, or so
+    /// many without octets.
+    pub(crate) fn are_known(&self, line: &[u8], has_octets: bool) -> bool {
+        let least = USUAL + u16::from(has_octets);
+        let sum = sum_of(line);
+        for shape in self.shapes.as_slice() {
+            if shape.sum == sum {
+                return shape.is_known(least);
+            }
+        }
+        false
+    }
+
     /// Returns whether enough lines above have the shape of a line to show it, and counts this one.
     pub(crate) fn are_usual(&mut self, line: &[u8], has_message: bool) -> bool {
         let sum = sum_of(line);
         for shape in self.shapes.as_mut_slice() {
             if shape.sum == sum {
+                shape.reach(has_message);
                 let is_usual = shape.is_usual();
                 shape.count(has_message);
                 return is_usual;
@@ -75,8 +108,30 @@ impl Shapes {
             sum,
             lines: 1,
             messages: u16::from(has_message),
+            ..Shape::default()
         });
         false
+    }
+
+    /// Takes that a line is below which is not told yet.
+    pub(crate) fn expect(&mut self, line: &[u8], has_message: bool) {
+        let sum = sum_of(line);
+        for shape in self.shapes.as_mut_slice() {
+            if shape.sum == sum {
+                shape.ahead = shape.ahead.saturating_add(1).min(COUNTED);
+                shape.messages_ahead = shape
+                    .messages_ahead
+                    .saturating_add(u16::from(has_message))
+                    .min(shape.ahead);
+                return;
+            }
+        }
+        let _fits = self.shapes.try_push(Shape {
+            sum,
+            ahead: 1,
+            messages_ahead: u16::from(has_message),
+            ..Shape::default()
+        });
     }
 }
 

@@ -193,6 +193,7 @@ impl Teller {
         }
         if let Some(forms) = self.learning.look() {
             self.by_forms.add(&forms);
+            self.by_forms.look_ahead(&self.learning.window);
             self.drain(at);
         }
     }
@@ -210,6 +211,7 @@ impl Teller {
         if !self.is_known {
             let forms = self.learning.last_look(at.is_ended);
             self.by_forms.add(&forms);
+            self.by_forms.look_ahead(&self.learning.window);
             self.drain(at);
         }
     }

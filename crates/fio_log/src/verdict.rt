@@ -1,6 +1,7 @@
 //! What a reader says of the lines of a log.
 ghost use Rattle.std.specs.Prelude.{◌≡◌};
 
+use crate::clock::Moment;
 use crate::directions::Direction;
 use crate::header::{FrameHeader, NO_HEADER};
 
@@ -44,6 +45,8 @@ pub enum Reason {
     NoMessage,
     /// No form has the line, and it has octets that may be a message.
     NoForm,
+    /// No form has the line, and it has a message between two flags, with a right check.
+    UnreadFrame,
     /// Beside its frames the line has octets that may be a message.
     More,
     /// The line is longer than a line that is kept, or its octets are more than are kept of several lines.
@@ -73,8 +76,8 @@ pub struct LineVerdict {
     pub frames: usize,
     /// At how many places the octets of the frames are written.
     pub places: usize,
-    /// The line's time, in microseconds since 1970; without a date since midnight, or since a start.
-    pub time: Option<u64>,
+    /// The time of its frames.
+    pub time: Option<Moment>,
     /// Who sent the octets of its frames, as the line says by the words before them; `None` if it does not. A transcript
     /// says it in each line.
     pub said: Option<Direction>,

@@ -10,7 +10,7 @@ use lib.Pow.{shl-shr, field, mod-mod-pow}
 use Rattle.std.proofs.Math.Pow.{pow_pos}
 
 -- what holds at 0 and at 1 holds at each number below 2
-bit_cases : (P : ℕ → Type 0) → P 0 → P 1 → (x : ℕ) → x < 2 → P x
+pub bit_cases : (P : ℕ → Type 0) → P 0 → P 1 → (x : ℕ) → x < 2 → P x
 bit_cases P p q zero h = p
 bit_cases P p q (suc zero) h = q
 bit_cases P p q (suc (suc r)) h = absurd (not-suc-le-zero (le_of_suc-le-suc (le_of_suc-le-suc h)))

@@ -22,4 +22,3 @@ pub mod LawList
 pub mod Fronts
 pub mod Marks
 pub mod Bits
-mod Examples

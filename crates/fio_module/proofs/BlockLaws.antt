@@ -1,5 +1,5 @@
 -- Blocks follow one another through the transition log.
-use Rattle.fio_module.proofs.Names.{◌≡◌, ℕ, ◌+◌, ◌-◌, ◌<◌, ◌≤◌, min, max, Bool, true, false, List, [], ◌∷◌, ◌++◌, length, take, drop, refl, ap, sym, ◌∙◌, arith, length-append, if◌then◌else◌, nat_lt, take-append-le, drop-append-le, length-drop, nat_tests, Poll, Settings, Life, Scanned, Commanded, Transition, log_of, transitions_below, MadeBlock, newest_poll, is_new, blocks_of, newest_end, next_block, last_end, end_of_blocks, start_after, count_from, BlocksEndWithin, IsPartOf, FollowOneAnother, BlocksFollow, LossesLeaveMore}
+use Rattle.fio_module.proofs.Names.{◌≡◌, ℕ, ◌+◌, ◌-◌, ◌<◌, ◌≤◌, min, max, Bool, true, false, List, [], ◌∷◌, ◌++◌, length, refl, arith, length-append, if◌then◌else◌, nat_lt, take-append-le, drop-append-le, length-drop, nat_tests, Poll, Settings, Life, Scanned, Commanded, Transition, log_of, transitions_below, MadeBlock, newest_poll, is_new, blocks_of, newest_end, next_block, last_end, end_of_blocks, BlocksEndWithin, IsPartOf, FollowOneAnother, BlocksFollow, LossesLeaveMore}
 use Rattle.fio_module.proofs.Ends.{last_end-append, end-within}
 
 end_within-if : (new : Bool) (len : ℕ) (blocks : List MadeBlock) (block : MadeBlock)
@@ -27,22 +27,7 @@ blocks_end_within = newest_end_within
 -- a part of a log is a part of a longer one
 part-longer : (log more : List Transition) (per_block : ℕ) (block : MadeBlock)
     → IsPartOf log per_block block → IsPartOf (log ++ more) per_block block
-part-longer log more per_block block part =
-    let inside : block.start ≤ length log = omega (arith, part.ends, part.within) in
-    let size = block.end - block.start in
-    let room : size ≤ length (drop block.start log) =
-    omega (arith, part.within, length-drop block.start log) in
-    record {
-      forward = part.forward;
-      ends = part.ends;
-      few = part.few;
-      within = omega (arith, part.within, length-append log more);
-      transitions =
-          part.transitions
-          ∙ sym (take-append-le size (drop block.start log) more room)
-          ∙ ap (take size) (sym (drop-append-le block.start log more inside));
-      lost = part.lost;
-    }
+part-longer log more per_block block part = grind (arith, nat_tests, length-drop, length-append, take-append-le, drop-append-le)
 
 follow-longer : (log more : List Transition) (per_block before : ℕ) (blocks : List MadeBlock)
     → FollowOneAnother log per_block before blocks → FollowOneAnother (log ++ more) per_block before blocks
@@ -66,20 +51,7 @@ follow-if false log per_block blocks block follow begins part = follow
 -- the block that a new poll makes is a part of the transition log
 pub next_is_part : (settings : Settings) (life : Life)
     → IsPartOf (log_of life) settings.per_block (next_block settings life)
-next_is_part settings life =
-    let log = log_of life in
-    let within = newest_end_within settings life in
-    let start = start_after settings log (newest_end settings life) in
-    let count = count_from settings log start in
-    let size : start + count - start ≡ count = omega arith in
-    record {
-      forward = omega arith;
-      ends = omega arith;
-      few = omega arith;
-      within = omega arith;
-      transitions = ap (λ n. take n (drop start log)) (sym size);
-      lost = refl;
-    }
+next_is_part settings life = grind (arith, nat_tests, newest_end_within)
 
 -- the blocks follow one another through the present transition log
 pub blocks_follow : BlocksFollow
@@ -108,6 +80,4 @@ takes_rest before len limit count within fits = grind (arith, nat_tests)
 -- a block without C takes all that waits
 pub blocks_without_more_take_all : (settings : Settings) (life : Life) → (next_block settings life).more ≡ false
     → (next_block settings life).end ≡ length (log_of life)
-blocks_without_more_take_all settings life fits =
-    takes_rest (newest_end settings life) (length (log_of life)) settings.waiting settings.per_block
-    (newest_end_within settings life) fits
+blocks_without_more_take_all settings life fits = grind (arith, nat_tests, takes_rest, newest_end_within)

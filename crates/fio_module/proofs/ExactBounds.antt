@@ -1,4 +1,5 @@
 -- How many entries wait at most, and how late they are, with blocks and filters counted whole.
+use Rattle.std.proofs.lemmas.Bool.Decides.{nat_tests}
 use Rattle.fio_module.proofs.Names.{◌≡◌, ℕ, ◌+◌, ◌-◌, ◌*◌, ◌/◌, ◌<◌, ◌≤◌, [], ◌∷◌, ◌++◌, length, Some, slice_get, refl, ap, subst, ◌∙◌, arith, inl, inr, append_assoc, length-drop, mul-le-mul_left, div-mul-le_self, le-div_iff_mul-le, div-lt_iff_lt-mul, cases_lt, ConfigureInputs, scans_in, HasFewOpen, FewStayOpen, reports_are_few, Settings, AreInRange, Life, Occurrence, Scanned, Commanded, scans_of, filter_events, Transition, log_of, newest_end, waiting_from, waiting_of, AtEachTime, scans_behind, IsKeptUp, KeepsUp}
 use Rattle.fio_module.specs.ExactBounds.{KeepsUpExactly, KeptUpKeepsUpExactly}
 use Rattle.fio_module.proofs.BlockLaws.{blocks_end_within}
@@ -11,23 +12,11 @@ use Rattle.fio_module.proofs.Polling.{kept_up_keeps_up}
 
 -- more scans have no fewer filters
 more_filters : (a b filter : ℕ) → 1 ≤ filter → a ≤ b → a / filter ≤ b / filter
-more_filters a b filter some more =
-    let low = div-mul-le_self a filter in
-    (le-div_iff_mul-le {k = filter} {x = a / filter} {y = b} some).1 (omega arith)
+more_filters a b filter some more = grind (arith, nat_tests, div-mul-le_self, le-div_iff_mul-le)
 
 -- if there are fewer blocks than open inputs times a number, there are at most that many for each input
 fewer_filters : (blocks opened count : ℕ) → blocks < opened * (1 + count) → blocks / opened ≤ count
-fewer_filters blocks opened count less =
-    elim (cases_lt 0 opened) as (λ _. blocks / opened ≤ count) [
-      | inl some ↦
-          let turned : opened * (1 + count) ≡ (1 + count) * opened = grind arith in
-          let below : blocks / opened < 1 + count = (div-lt_iff_lt-mul {k = opened} {x = blocks} {y = 1 + count} some).1 (omega arith) in
-          omega arith
-      | inr none ↦
-          let is_none : opened ≡ 0 = omega arith in
-          let nothing : opened * (1 + count) ≡ 0 * (1 + count) = ap (λ n. n * (1 + count)) is_none in
-          absurd (omega arith)
-    ]
+fewer_filters blocks opened count less = grind (arith, nat_tests, cases_lt, div-lt_iff_lt-mul)
 
 -- without a scan nothing is logged
 pub no_scan : (later life : Life) → scans_in (filter_events later) ≡ 0 → length (log_of (later ++ life)) ≡ length (log_of life)

@@ -1,5 +1,6 @@
 -- If blocks keep up with the scans, few entries wait, and they are young.
-use Rattle.fio_module.proofs.Names.{◌≡◌, ℕ, zero, suc, ◌+◌, ◌-◌, ◌*◌, ◌≤◌, Bool, true, false, List, [], ◌∷◌, ◌++◌, length, Some, slice_get, refl, ap, sym, subst, ◌∙◌, arith, inl, inr, append_assoc, length-drop, mul-le-mul_left, mul-le-mul_right, le_of_mul-le-mul_right, cases_lt, Poll, ConfigureInputs, scans_in, all_reports_in, AtEachScan, HasFewOpen, FewStayOpen, FilterEvent, at_each_scan-back, at_each_scan-front, reports_times_filter, Settings, Life, Occurrence, Scanned, Commanded, scans_of, filter_events, Transition, log_of, newest_poll, is_new, blocks_of, next_block, newest_end, start_after, count_from, waiting_from, waiting_of, AtEachTime, FewBeyond, scans_behind, IsYoung, KeepsUp}
+use Rattle.std.proofs.lemmas.Bool.Decides.{nat_tests}
+use Rattle.fio_module.proofs.Names.{◌≡◌, ℕ, zero, suc, ◌+◌, ◌-◌, ◌*◌, ◌≤◌, Bool, true, false, List, [], ◌∷◌, ◌++◌, length, Some, slice_get, refl, ap, subst, ◌∙◌, arith, inl, inr, append_assoc, length-drop, mul-le-mul_left, mul-le-mul_right, le_of_mul-le-mul_right, cases_lt, Poll, ConfigureInputs, scans_in, all_reports_in, AtEachScan, HasFewOpen, FewStayOpen, FilterEvent, at_each_scan-back, at_each_scan-front, reports_times_filter, Settings, Life, Occurrence, Scanned, Commanded, scans_of, filter_events, Transition, log_of, newest_poll, is_new, blocks_of, next_block, newest_end, start_after, count_from, waiting_from, waiting_of, AtEachTime, FewBeyond, scans_behind, IsYoung, KeepsUp}
 use Rattle.fio_module.proofs.Ends.{last_end-append}
 use Rattle.fio_module.proofs.BlockLaws.{blocks_end_within}
 use Rattle.fio_module.proofs.Losses.{holds_now}
@@ -10,24 +11,16 @@ use Rattle.fio_module.proofs.Ages.{was_logged, scans_in-append}
 -- what holds at each scan held at each before and holds at each since
 pub each_before : (P : List FilterEvent → Type 0) (later before life : Life) → AtEachScan P (filter_events (later ++ before)) (filter_events life)
     → AtEachScan P (filter_events before) (filter_events life)
-each_before P later before life each =
-    at_each_scan-back P (filter_events later) (filter_events before) (filter_events life)
-    (subst (λ es. AtEachScan P es (filter_events life)) (filter_events-append later before) each)
+each_before P later before life each = grind (arith, nat_tests, at_each_scan-back, filter_events-append)
 
 pub each_since : (P : List FilterEvent → Type 0) (later before life : Life) → AtEachScan P (filter_events (later ++ before)) (filter_events life)
     → AtEachScan P (filter_events later) (filter_events (before ++ life))
-each_since P later before life each =
-    subst (λ es. AtEachScan P (filter_events later) es) (sym (filter_events-append before life))
-    (at_each_scan-front P (filter_events later) (filter_events before) (filter_events life)
-    (subst (λ es. AtEachScan P es (filter_events life)) (filter_events-append later before) each))
+each_since P later before life each = grind (arith, nat_tests, filter_events-append, at_each_scan-front)
 
 -- if nothing waits, the newest block ends where the log ends
 pub nothing_left : (settings : Settings) → 1 ≤ settings.waiting → (life : Life) → length (waiting_of settings life) ≡ 0
     → newest_end settings life ≡ length (log_of life)
-nothing_left settings some life none =
-    let rest = length-drop (waiting_from settings life) (log_of life) in
-    let within : newest_end settings life ≤ length (log_of life) = blocks_end_within settings life in
-    omega arith
+nothing_left settings some life none = grind (arith, nat_tests, length-drop, blocks_end_within)
 
 -- Since a time at which everything was taken, `full` whole blocks were taken, each of which made up for `scans` scans.
 pub record IsPaced (settings : Settings) (scans : ℕ) (life later : Life) : Type 0 where
@@ -55,14 +48,7 @@ few_at_pace reports left filter opened scans count age full behind per_block few
 -- so none is left `age` scans later, if that is at least the scans behind and the filter together
 young_at_pace : (left filter opened age behind : ℕ) → 1 ≤ left → 1 ≤ filter
     → left * filter + opened * (age + 1) ≤ opened * (behind + filter) → age + 2 ≤ behind + filter
-young_at_pace left filter opened age behind one some few =
-    elim (cases_lt (age + 1) (behind + filter)) as (λ _. age + 2 ≤ behind + filter) [
-      | inl less ↦ omega arith
-      | inr more ↦
-          let less : opened * (behind + filter) ≤ opened * (age + 1) = mul-le-mul_left opened more in
-          let product : 1 * filter ≤ left * filter = mul-le-mul_right filter one in
-          absurd (omega arith)
-    ]
+young_at_pace left filter opened age behind one some few = grind (arith, nat_tests, cases_lt, mul-le-mul_left, mul-le-mul_right)
 
 module _ (settings : Settings) (opened filter scans most : ℕ) (life : Life) (some : 1 ≤ filter)
     (enough : opened * scans ≤ settings.per_block * filter)

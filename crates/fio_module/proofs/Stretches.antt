@@ -1,4 +1,5 @@
 -- What a stretch of a life does, in which blocks are made.
+use Rattle.std.proofs.lemmas.Bool.Decides.{nat_tests}
 use Rattle.fio_module.proofs.Names.{◌≡◌, ℕ, zero, suc, ◌+◌, ◌-◌, ◌<◌, ◌≤◌, max, Bool, true, false, List, [], ◌∷◌, ◌++◌, length, take, drop, refl, ap, sym, ◌∙◌, arith, append_assoc, append-nil, length-take, AllByRecursion, flat_map, take-append-le, drop-append-le, Poll, ConfigureInputs, scans_in, Settings, Life, Scanned, Commanded, scans_of, filter_events, Transition, transitions_below, log_of, MadeBlock, newest_poll, is_new, blocks_of, last_end, next_block, newest_end, start_after, count_from, waiting_of, AtEachTime, scans_behind, IsYoung, KeepsUp}
 use Rattle.std.proofs.Math.Seq.{take-add}
 use Rattle.std.proofs.lemmas.Grind.{flat_map-append}
@@ -28,9 +29,7 @@ blocks_old settings life number is = rw is refl
 end_new : (settings : Settings) (life : Life) (number : ℕ) → is_new (newest_poll life) number ≡ true
     → let start = start_after settings (log_of life) (newest_end settings life) in
     newest_end settings (Commanded (Poll number) ∷ life) ≡ start + count_from settings (log_of life) start
-end_new settings life number is =
-    ap (last_end 0) (blocks_new settings life number is)
-    ∙ last_end-append 0 (blocks_of settings life) (next_block settings life)
+end_new settings life number is = grind (arith, nat_tests, blocks_new, last_end-append)
 
 pub behind_new : (scans : ℕ) (later life : Life) (number : ℕ) → is_new (newest_poll (later ++ life)) number ≡ true
     → scans_behind scans (Commanded (Poll number) ∷ later) life ≡ scans_behind scans later life - scans

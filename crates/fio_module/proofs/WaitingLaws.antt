@@ -1,5 +1,6 @@
 -- The waiting entries gain each new transition, and a new poll takes the oldest of them.
-use Rattle.fio_module.proofs.Names.{◌≡◌, ℕ, suc, inl, inr, ◌+◌, ◌-◌, ◌≤◌, Bool, List, [], ◌∷◌, ◌++◌, length, take, drop, refl, ap, sym, ◌∙◌, arith, append_assoc, append-nil, length-append, if◌then◌else◌, fold, take-append-drop, drop-drop, drop-append-le, length-drop, leb_tells, Poll, Settings, Scanned, Commanded, Transition, log_of, transitions_below, blocks_of, newest_end, next_block, start_after, count_from, with_waiting, ScansAddWaiting, NewPollsTakeWaiting, OthersLeaveWaiting}
+use Rattle.std.proofs.lemmas.Bool.Decides.{nat_tests}
+use Rattle.fio_module.proofs.Names.{◌≡◌, ℕ, suc, inl, inr, ◌+◌, ◌-◌, ◌≤◌, Bool, List, [], ◌∷◌, ◌++◌, length, take, drop, refl, ap, sym, ◌∙◌, arith, append_assoc, append-nil, length-append, if◌then◌else◌, fold, take-append-drop, drop-drop, drop-append-le, length-drop, leb_tells, Poll, Settings, Scanned, Commanded, Transition, log_of, blocks_of, newest_end, next_block, start_after, count_from, with_waiting, ScansAddWaiting, NewPollsTakeWaiting, OthersLeaveWaiting}
 use Rattle.fio_module.proofs.Ends.{last_end-append, end-later}
 use Rattle.fio_module.proofs.BlockLaws.{newest_end_within}
 
@@ -38,9 +39,7 @@ add_all settings before log (transition ∷ more) within =
 
 -- a scan adds its transitions to what waits
 pub scans_add_waiting : ScansAddWaiting
-scans_add_waiting settings life raw =
-    add_all settings (newest_end settings life) (log_of life) (transitions_below 64 raw life)
-    (newest_end_within settings life)
+scans_add_waiting settings life raw = grind (arith, nat_tests, add_all, newest_end_within)
 
 -- a new poll takes the first of what waits
 pub new_polls_take_waiting : NewPollsTakeWaiting

@@ -1,4 +1,5 @@
 -- The set bits of a word, walked from the lowest on.
+use Rattle.std.proofs.lemmas.Bool.Decides.{nat_tests}
 use Rattle.fio_module.proofs.Names.{◌≡◌, ℕ, zero, suc, ◌^◌, ◌<◌, ◌≤◌, false, [], ◌∷◌, refl, sym, ◌∙◌, arith, inl, inr, w64, trailing_zeros, eqb_tells, is_set, entry_octets, entries_below}
 use Rattle.fio_message.proofs.Bits.{is_set-zero}
 use Rattle.fio_input.proofs.LowestBit.{IsLowest, without, lowest_of, less_without}
@@ -44,10 +45,4 @@ pub entries_below-walk : (word levels stamp : ℕ) → 0 < word → word < 2 ^ 6
     × (entries_below 64 word levels stamp
     ≡ entry_octets (record { input = lowest; level = is_set levels lowest; stamp = stamp })
     ∷ entries_below 64 (without word lowest) levels stamp)
-entries_below-walk word levels stamp some fits =
-    let lowest = trailing_zeros w64 word in
-    let is = lowest_of word some fits in (
-      is.0,
-      less_without word some fits,
-      entries_below-lowest word (without word lowest) lowest levels stamp is.1 64 (omega arith) is.0,
-    )
+entries_below-walk word levels stamp some fits = grind (arith, nat_tests, trailing_zeros, w64, lowest_of, less_without, entries_below-lowest, without)

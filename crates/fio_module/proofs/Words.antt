@@ -33,18 +33,14 @@ bit_at-word_of (suc last) bit place below =
     ]
 
 raised-bit : (b : Bool) (raised : ℕ) → raised < 2 → max (bit_of b) raised ≡ bit_of (if raised == 1 then true else b)
-raised-bit true zero fits = refl
-raised-bit false zero fits = refl
-raised-bit true (suc zero) fits = refl
-raised-bit false (suc zero) fits = refl
 raised-bit b (suc (suc n)) fits = absurd (omega arith)
+raised-bit true _ fits = refl
+raised-bit false _ fits = refl
 
 cleared-bit : (b : Bool) (cleared : ℕ) → cleared < 2 → min (bit_of b) (1 - cleared) ≡ bit_of (if cleared == 1 then false else b)
-cleared-bit true zero fits = refl
-cleared-bit false zero fits = refl
-cleared-bit true (suc zero) fits = refl
-cleared-bit false (suc zero) fits = refl
 cleared-bit b (suc (suc n)) fits = absurd (omega arith)
+cleared-bit true _ fits = refl
+cleared-bit false _ fits = refl
 
 -- the flags with those of a mask raised
 pub word_of-raised : (bit : ℕ → Bool) (mask : ℕ) → mask < 2 ^ 8
@@ -72,9 +68,8 @@ word_of-cleared bit mask fits =
     ∙ sym (bit_at-word_of 8 (λ k. if is_set mask k then false else bit k) place below))
 
 bit_of-is_one : (bit : ℕ) → bit < 2 → bit ≡ bit_of (bit == 1)
-bit_of-is_one zero fits = refl
-bit_of-is_one (suc zero) fits = refl
 bit_of-is_one (suc (suc n)) fits = absurd (omega arith)
+bit_of-is_one _ fits = refl
 
 -- a word is known by its bits
 pub word_of-is_set : (word : ℕ) (bit : ℕ → Bool) → word < 2 ^ 64

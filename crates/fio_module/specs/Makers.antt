@@ -1,5 +1,5 @@
 -- Commands that the maker of a module answers himself, and which answer of his the module awaits.
-use Rattle.std.specs.Prelude.{◌≡◌, ℕ, ◌+◌, ◌≤◌, ◌==◌, nat_lt, List, [], length, Option, Some, None, if◌then◌else◌}
+use Rattle.std.specs.Prelude.{◌≡◌, ℕ, ◌+◌, ◌≤◌, ◌==◌, nat_lt, List, [], length, Option, Some, None, if◌then◌else◌, ◌++◌, codes, decimal}
 use Rattle.fio_message.specs.Answers.{answered_by_other, other_answer_of}
 use Rattle.fio_message.specs.Commands.{other_command_code}
 use Rattle.fio_message.specs.declared.answers.Answer.{Answer}
@@ -56,6 +56,12 @@ refusal_of_kind kind command octets = if answered_by_other kind == command
 abbrev pub answer_refusal : Option OtherAnswer → ℕ → ℕ → Option AnswerRefusal
 answer_refusal None command octets = Some NotAwaited
 answer_refusal (Some kind) command octets = refusal_of_kind kind command octets
+
+-- the text of such a refusal
+abbrev pub answer_refusal_text : AnswerRefusal → List ℕ
+answer_refusal_text NotAwaited = codes "no answer is awaited"
+answer_refusal_text (OtherAwaited command) = codes "the answer to command " ++ (decimal command ++ codes " is awaited")
+answer_refusal_text (TooLong octets) = codes "a body of " ++ (decimal octets ++ codes " octets is too long")
 
 -- the answer of the maker with this body
 abbrev pub makers_answer : OtherAnswer → List ℕ → Answer

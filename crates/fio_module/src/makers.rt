@@ -1,5 +1,11 @@
 //! What the maker of a module answers himself: commands 56, 57 and 59, and 60 if its identification is to have another length
 //! than the one octet of `Module::receive`.
+ghost use Rattle.std.specs.Prelude.{Some};
+ghost use Rattle.fio_module.specs.Makers.{answer_refusal_text};
+
+use std::fmt;
+use std::fmt::{Display, Formatter};
+use thiserror::Error;
 
 /// A command that the maker of a module answers, read in place.
 #[derive(Clone, Copy, Debug)]
@@ -11,7 +17,7 @@ pub struct MakersCommand<'a> {
 }
 
 /// Why an answer of the maker is refused.
-#[derive(Clone, Copy, Debug, PartialEq, Eq)]
+#[derive(Clone, Copy, Debug, PartialEq, Eq, Error)]
 pub enum AnswerRefusal {
     /// No answer is awaited: the octets that were asked about last are no command of the maker, or it was answered.
     NotAwaited,
@@ -25,4 +31,18 @@ pub enum AnswerRefusal {
         /// The number of its octets.
         octets: usize,
     },
+}
+
+impl Display for AnswerRefusal {
+    ghost output = { λ refusal. Some (answer_refusal_text refusal) };
+
+    fn fmt<W: fmt::Write>(&self, f: &mut Formatter<W>) -> fmt::Result {
+        match *self {
+            AnswerRefusal::NotAwaited => f.write_str("no answer is awaited"),
+            AnswerRefusal::OtherAwaited { command } => {
+                write!(f, "the answer to command {command} is awaited")
+            }
+            AnswerRefusal::TooLong { octets } => write!(f, "a body of {octets} octets is too long"),
+        }
+    }
 }

@@ -1,4 +1,5 @@
 -- A division takes octets.
+use Rattle.std.proofs.lemmas.Bool.Decides.{nat_tests}
 use Rattle.std.proofs.Common.{◌≡◌, ◌≢◌, ℕ, ◌<◌, true, false, List, [], ◌∷◌, length, refl, ap, arith, length-append, length-drop}
 use Rattle.std.proofs.lemmas.Grind.{common_steps}
 use Rattle.fio_message.specs.Decoding.{message_in}
@@ -17,9 +18,7 @@ message_has_octets (octet ∷ octets) h = grind (arith, common_steps)
 -- what stays is shorter
 pub divides_less : (next : Next) (before message after : List ℕ) → Divides next before message after → next ≢ Wait →
     length after < length before
-divides_less (Message count) before message after h ne =
-    let some : 0 < length message = message_has_octets message h.2 in
-    omega (arith, length-append message after, ap length h.0)
+divides_less (Message count) before message after h ne = grind (arith, nat_tests, message_has_octets, length-append)
 divides_less (Broken count) before message after h ne = omega (arith, length-drop count before, ap length h.0)
 divides_less (Idle count) before message after h ne = omega (arith, length-drop count before, ap length h.0)
 divides_less Wait before message after h ne = absurd (ne refl)

@@ -1,4 +1,6 @@
 -- The first form that has a line.
+use Rattle.std.proofs.Common.{arith}
+use Rattle.std.proofs.lemmas.Bool.Decides.{nat_tests}
 use Rattle.std.proofs.Common.{◌≡◌, ◌<◌, true, false, ◌≤◌, ℕ, ◌+◌, List, [], ◌∷◌, length, drop, get_or, refl, add-one, ◌∙◌, drop-cons, Option}
 use Rattle.fio_form.specs.declared.form.LineForm.{LineForm}
 use Rattle.fio_rows.specs.Lines.{begun_line, first_line_in, has, has_any}
@@ -34,22 +36,19 @@ forms_from at forms form l e =
 pub first_past_index : (at : ℕ) (forms : List LineForm) (form : LineForm) (line tail : List ℕ) (state : Rows) →
     at < length forms → form ≡ get_or forms at form → has form line ≡ false →
     first_line_in at (drop at forms) line tail state ≡ first_line_in (at + 1) (drop (at + 1) forms) line tail state
-first_past_index at forms form line tail state l e h =
-    rw (forms_from at forms form l e) (first_past at form (drop (at + 1) forms) line tail state h)
+first_past_index at forms form line tail state l e h = grind (arith, nat_tests, forms_from, first_past)
 
 -- the form at an index begins with the line
 pub first_here_index : (at : ℕ) (forms : List LineForm) (form : LineForm) (line tail : List ℕ) (state : Rows) →
     at < length forms → form ≡ get_or forms at form → has form line ≡ true →
     first_line_in at (drop at forms) line tail state ≡ begun_line at form line tail state
-first_here_index at forms form line tail state l e h =
-    rw (forms_from at forms form l e) (first_here at form (drop (at + 1) forms) line tail state h)
+first_here_index at forms form line tail state l e h = grind (arith, nat_tests, forms_from, first_here)
 
 -- no form is left
 pub first_none_index : (at : ℕ) (forms : List LineForm) (line tail : List ℕ) (state : Rows) → length forms ≤ at →
     first_line_in at (drop at forms) line tail state ≡ say_none Other state
 unfolding first_line_in
-first_none_index at forms line tail state l =
-    let e : drop at forms ≡ [] = drop_of_length-le forms l in rw e refl
+first_none_index at forms line tail state l = grind (arith, nat_tests, drop_of_length-le)
 
 -- the octets above a line that begins do not count
 pub begun_alone : (at : ℕ) (form : LineForm) (line tail : List ℕ) (said : Said) (pending : Open) (index : ℕ) (next : Option ℕ)

@@ -1,8 +1,8 @@
 -- A line below nothing open says what its form reads in it.
-use Rattle.std.proofs.Common.{ℕ, ◌≡◌, ◌+◌, ◌<◌, Bool, true, false, not, ◌&&◌, List, [], ◌∷◌, length, Option, Some, None, refl, sym, ◌∙◌, ap, subst, inl, inr, arith}
-use Rattle.std.specs.Prelude.{if◌then◌else◌, map, nat_le, ◌||◌, unwrap_or}
+use Rattle.std.proofs.Common.{ℕ, ◌≡◌, ◌+◌, ◌<◌, Bool, true, false, not, List, [], ◌∷◌, length, Option, Some, None, refl, sym, ◌∙◌, ap, inl, inr, arith}
+use Rattle.std.specs.Prelude.{map, nat_le, ◌||◌, unwrap_or}
 use Rattle.std.specs.List.{AllByRecursion}
-use Rattle.std.proofs.lemmas.Bool.{cases_Bool}
+use Rattle.std.proofs.lemmas.Bool.{cases_Bool, or_parts}
 use Rattle.std.proofs.lemmas.Bool.Decides.{nat_tests}
 use Rattle.std.proofs.lemmas.List.{take_all}
 use Rattle.fio_form.specs.Bare.{is_cut_short}
@@ -21,14 +21,11 @@ use Rattle.fio_form.proofs.Telling.{told}
 use Rattle.fio_rows.specs.GoingOn.{is_full, may_go_on}
 use Rattle.fio_rows.specs.Lines.{are_none, begun_line, begun_with, first_line_in, has, is_message_open, is_stray, is_stream, offset_after, offset_of, read_in, row_of, says_message}
 use Rattle.fio_rows.specs.RowLaws.{AreAlone, IsAlone, IsReadInRows, Row, said_alone, said_in_turn}
-use Rattle.fio_rows.specs.Rows.{Rows, octets_with, open_after, say, say_none, say_whole, whole_before}
+use Rattle.fio_rows.specs.Rows.{Rows, octets_with, say, say_none, say_whole, whole_before}
 use Rattle.fio_rows.specs.declared.said.Said.{Said}
-use Rattle.fio_rows.specs.declared.said.Said.TheVariants.{Part, Idle, Stray, Damaged, Other}
+use Rattle.fio_rows.specs.declared.said.Said.TheVariants.{Idle, Damaged, Other}
 use Rattle.fio_rows.specs.declared.said.Said.TheVariants as said
-
--- a test is not both
-no : (b : Bool) → b ≡ false → b ≡ true → ⊥
-no b h e = let z : false ≡ true = sym h ∙ e in cc
+use Rattle.fio_rows.proofs.OtherLines.{no}
 
 -- ---- The octets of a form
 
@@ -82,10 +79,6 @@ whole_here : (form : LineForm) (octets tail : List ℕ) → (nat_le OCTETS (leng
 unfolding whole_before
 whole_here form octets tail h = rw h refl
 
-or_false : (a b : Bool) → (a || b) ≡ false → a ≡ false
-or_false true b e = e
-or_false false b e = refl
-
 -- ---- What is read is what the form reads
 
 -- a line says a message only if this is said
@@ -94,25 +87,14 @@ Says line state = says_message state.said ≡ true → line ≡ reading.Frame st
 
 whole_says : (form : LineForm) (row : ℕ) (tail : List ℕ) (state : Rows) (whole : Whole) →
     Says (said_whole whole (octets_with form state.octets)) (say_whole form row tail state whole)
-whole_says form row tail state (wholes.Message start end) = λ e. refl
-whole_says form row tail state (wholes.Any start end) = λ e. refl
-whole_says form row tail state wholes.Lacking =
-    elim (may_go_on form row tail) as (λ b. Says reading.Damaged (record state { said = if b then Part else Damaged; pending = open_after (if b then Part else Damaged) wholes.Lacking; message = state.message }))
-    [ true ↦ λ e. absurd (no false refl e) | false ↦ λ e. absurd (no false refl e) ]
-whole_says form row tail state wholes.Idle =
-    elim (not form.is_framed && may_go_on form row tail) as (λ b. Says reading.Damaged (record state { said = if b then Part else Idle; pending = open_after (if b then Part else Idle) wholes.Idle; message = state.message }))
-    [ true ↦ λ e. absurd (no false refl e) | false ↦ λ e. absurd (no false refl e) ]
+whole_says form row tail state wholes.Lacking = grind (arith, nat_tests, no)
+whole_says form row tail state wholes.Idle = grind (arith, nat_tests, no)
 whole_says form row tail state wholes.Damaged = λ e. absurd (no false refl e)
+whole_says form row tail state _ = λ e. refl
 
 say_few : (form : LineForm) (row : ℕ) (tail : List ℕ) (state : Rows) → says_message (say form row tail state).said ≡ true →
     (nat_le OCTETS (length state.octets) || is_cut_short tail) ≡ false
-say_few form row tail state e = elim (cases_Bool (nat_le OCTETS (length state.octets) || is_cut_short tail)) [
-  | inr fits ↦ fits
-  | inl beyond ↦ (
-      let damaged : say form row tail state ≡ say_whole form row tail state wholes.Damaged =
-      by_whole form row tail state wholes.Damaged (damaged_before form state.octets tail beyond) in
-      absurd (no (says_message (say form row tail state).said) (ap (λ (s : Rows). says_message s.said) damaged) e))
-]
+say_few form row tail state e = grind (arith, nat_tests, cases_Bool, by_whole, damaged_before, no)
 
 -- a message is said of few octets, and is what they say
 abbrev Keeps : LineForm → List ℕ → Rows → Type 0
@@ -121,28 +103,10 @@ Keeps form octets state =
 
 say_keeps : (form : LineForm) (row : ℕ) (tail : List ℕ) (state : Rows) → Keeps form state.octets (say form row tail state)
 unfolding octets_with
-say_keeps form row tail state = λ e.
-    let fits = say_few form row tail state e in
-    let room : nat_le OCTETS (length state.octets) ≡ false = or_false (nat_le OCTETS (length state.octets)) (is_cut_short tail) fits in
-    let few : length state.octets < OCTETS = grind (arith, nat_tests) in
-    let same : say form row tail state ≡ say_whole form row tail state (whole_of form state.octets) =
-    by_whole form row tail state (whole_of form state.octets) (whole_here form state.octets tail fits) in
-    let there : says_message (say_whole form row tail state (whole_of form state.octets)).said ≡ true =
-    sym (ap (λ (s : Rows). says_message s.said) same) ∙ e in (
-      few,
-      sym (told form state.octets few) ∙ (whole_says form row tail state (whole_of form state.octets) there
-          ∙ ap (λ (s : Rows). reading.Frame s.message) (sym same)),
-    )
+say_keeps form row tail state = grind (arith, nat_tests, say_few, or_parts, by_whole, whole_here, told, whole_says)
 
 begun_with_keeps : (form : LineForm) (offset : ℕ) (tail : List ℕ) (state : Rows) → Keeps form state.octets (begun_with form offset tail state)
-begun_with_keeps form offset tail state =
-    elim (is_stream form.rows) as (λ b. Keeps form state.octets (if b then say_none (if nat_le OCTETS (length state.octets) then Damaged else said.Stream) state
-    else (if is_stray form.rows offset then say_none Stray state else say form (length state.octets) tail state))) [
-      | true ↦ elim (nat_le OCTETS (length state.octets)) as (λ b. Keeps form state.octets (say_none (if b then Damaged else said.Stream) state))
-          [ true ↦ λ e. absurd (no false refl e) | false ↦ λ e. absurd (no false refl e) ]
-      | false ↦ elim (is_stray form.rows offset) as (λ b. Keeps form state.octets (if b then say_none Stray state else say form (length state.octets) tail state))
-          [ true ↦ λ e. absurd (no false refl e) | false ↦ say_keeps form (length state.octets) tail state ]
-    ]
+begun_with_keeps form offset tail state = grind (arith, nat_tests, no, say_keeps)
 
 begun_says : (at : ℕ) (form : LineForm) (line tail : List ℕ) (state : Rows) →
     Says (said_in_octets form (octets_by form line)) (begun_line at form line tail state)
@@ -191,21 +155,13 @@ whole_said : (form : LineForm) (row : ℕ) (tail : List ℕ) (state : Rows) (who
     said_whole whole (octets_with form state.octets) ≡ reading.Frame message → IsReadInRows message (say_whole form row tail state whole)
 whole_said form row tail state (wholes.Message start end) message ends e = record { said = refl; kept = frame_same _ message e }
 whole_said form row tail state (wholes.Any start end) message ends e = record { said = rw ends refl; kept = frame_same _ message e }
-whole_said form row tail state wholes.Lacking message ends e = absurd (damaged_frame message e)
-whole_said form row tail state wholes.Idle message ends e = absurd (damaged_frame message e)
-whole_said form row tail state wholes.Damaged message ends e = absurd (damaged_frame message e)
+whole_said form row tail state _ message ends e = absurd (damaged_frame message e)
 
 say_said : (form : LineForm) (tail : List ℕ) (state : Rows) (message : List ℕ) → form.rows ≡ One → is_cut_short tail ≡ false →
     length state.octets < OCTETS → said_in_octets form state.octets ≡ reading.Frame message →
     IsReadInRows message (say form (length state.octets) tail state)
 unfolding octets_with
-say_said form tail state message one all few e =
-    let room : nat_le OCTETS (length state.octets) ≡ false = grind (arith, nat_tests) in
-    let fits : (nat_le OCTETS (length state.octets) || is_cut_short tail) ≡ false = rw (room, all) refl in
-    let same : say form (length state.octets) tail state ≡ say_whole form (length state.octets) tail state (whole_of form state.octets) =
-    by_whole form (length state.octets) tail state (whole_of form state.octets) (whole_here form state.octets tail fits) in
-    subst (IsReadInRows message) (sym same) (whole_said form (length state.octets) tail state (whole_of form state.octets) message
-    (one_full form (length state.octets) tail one) (told form state.octets few ∙ e))
+say_said form tail state message one all few e = grind (arith, nat_tests, by_whole, whole_here, whole_said, one_full, told)
 
 begun_said : (at : ℕ) (form : LineForm) (line tail : List ℕ) (state : Rows) (message : List ℕ) → form.rows ≡ One → is_cut_short tail ≡ false →
     length (octets_by form line) < OCTETS → said_in_octets form (octets_by form line) ≡ reading.Frame message →
@@ -237,8 +193,7 @@ first_said at (form ∷ forms) cut line tail message state all are e = elim (cas
 pub itself_said : (forms : List LineForm) (line tail message : List ℕ) (state : Rows) → is_message_open state.pending ≡ false →
     IsAlone forms line tail → read_line forms line ≡ reading.Frame message → IsReadInRows message (read_in forms line tail state)
 unfolding read_in
-itself_said forms line tail message state none alone e =
-    rw none (first_said 0 forms false line tail message (record state { octets = [] }) alone.0 alone.1 e)
+itself_said forms line tail message state none alone e = grind (arith, nat_tests, first_said)
 
 -- ---- A log of such lines
 
@@ -248,29 +203,19 @@ no_row form row tail one = rw one refl
 
 whole_closed : (form : LineForm) (row : ℕ) (tail : List ℕ) (state : Rows) (whole : Whole) → is_full form row tail ≡ false →
     may_go_on form row tail ≡ false → is_message_open (say_whole form row tail state whole).pending ≡ false
-whole_closed form row tail state (wholes.Message start end) ends goes = refl
 whole_closed form row tail state (wholes.Any start end) ends goes = rw ends refl
 whole_closed form row tail state wholes.Lacking ends goes = rw goes refl
-whole_closed form row tail state wholes.Idle ends goes =
-    rw goes (elim form.is_framed as (λ b. is_message_open (open_after (if not b && false then Part else Idle) wholes.Idle) ≡ false) [ true ↦ refl | false ↦ refl ])
-whole_closed form row tail state wholes.Damaged ends goes = refl
+whole_closed form row tail state wholes.Idle ends goes = grind (arith, nat_tests)
+whole_closed form row tail state _ ends goes = refl
 
 say_closed : (form : LineForm) (row : ℕ) (tail : List ℕ) (state : Rows) → form.rows ≡ One → is_message_open (say form row tail state).pending ≡ false
 unfolding say
-say_closed form row tail state one =
-    whole_closed form row tail state (whole_before form state.octets tail) (one_full form row tail one) (no_row form row tail one)
+say_closed form row tail state one = grind (arith, nat_tests, whole_closed, one_full, no_row)
 
-begun_closed : (at : ℕ) (form : LineForm) (line tail : List ℕ) (state : Rows) → form.rows ≡ One →
+pub begun_closed : (at : ℕ) (form : LineForm) (line tail : List ℕ) (state : Rows) → form.rows ≡ One →
     is_message_open (begun_line at form line tail state).pending ≡ false
 unfolding begun_line
-begun_closed at form line tail state one =
-    let stream : is_stream form.rows ≡ false = rw one refl in
-    let stray : is_stray form.rows (unwrap_or (offset_of form line) 0) ≡ false = rw one refl in
-    rw (stream, stray) (say_closed form (length (row_of form line)) tail (record state {
-      form = at;
-      next = offset_after (Some (unwrap_or (offset_of form line) 0)) (length (row_of form line));
-      octets = row_of form line;
-    }) one)
+begun_closed at form line tail state one = grind (arith, nat_tests, say_closed)
 
 first_closed : (at : ℕ) (forms : List LineForm) (line tail : List ℕ) (state : Rows) →
     AllByRecursion (λ form. (form.rows ≡ One) × (length (octets_by form line) < OCTETS)) forms →
@@ -315,8 +260,7 @@ other_alone forms line tail state none are = rw none (first_other 0 forms line t
 line_alone : (forms : List LineForm) (line tail : List ℕ) (message : Option (List ℕ)) (state : Rows) → is_message_open state.pending ≡ false →
     IsAlone forms line tail → IsLine forms line message →
     said_alone (read_in forms line tail state).said (read_in forms line tail state).message ≡ frame_or_other message
-line_alone forms line tail None state none alone is =
-    ap (λ (s : Rows). said_alone s.said s.message) (other_alone forms line tail state none is)
+line_alone forms line tail None state none alone is = grind (arith, nat_tests, other_alone)
 line_alone forms line tail (Some message) state none alone is =
     let read : IsReadInRows message (read_in forms line tail state) =
     itself_said forms line tail message state none alone (read_back forms message line is) in

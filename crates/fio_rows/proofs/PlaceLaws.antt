@@ -1,6 +1,6 @@
 -- Octets are where they are found.
 use Rattle.std.proofs.Common.{ℕ, ◌≡◌, ◌≢◌, ◌+◌, ◌-◌, ◌≤◌, Bool, true, false, not, List, [], ◌∷◌, ◌++◌, length, drop, take, Option, Some, None, refl, sym, ap, subst, ◌∙◌, arith}
-use Rattle.std.specs.Prelude.{if◌then◌else◌, nat_le}
+use Rattle.std.specs.Prelude.{if◌then◌else◌}
 use Rattle.std.proofs.lemmas.Bool.Decides.{nat_tests}
 use Rattle.std.proofs.lemmas.List.{drop-take, length-append, length-drop, take_at}
 use Rattle.fio_form.specs.Bare.{bare_begin, bare_digits, bare_octets, bare_text, is_closing, octets_closed, octets_quoted, past_letter, past_quote, quote_of, tail_in, text_or}
@@ -35,9 +35,7 @@ between line part rest start end l w s e =
 
 tail_is : (written : Digits) (cycle : List Step) (text octets : List ℕ) → octets ≡ run_in written cycle text → length octets ≤ OCTETS →
     tail_in written cycle text ≡ rest_in written cycle text
-tail_is written cycle text octets is few =
-    let l : nat_le (length (run_in written cycle text)) OCTETS ≡ true = subst (λ (read : List ℕ). nat_le (length read) OCTETS ≡ true) is (grind (arith, nat_tests)) in
-    rw l refl
+tail_is written cycle text octets is few = grind (arith, nat_tests)
 
 there : (written : Digits) (cycle : List Step) (text octets line : List ℕ) (found : Found) → octets ≡ run_in written cycle text → octets ≢ [] →
     length octets ≤ OCTETS → AreWithin found line → drop found.start line ≡ text → drop found.end line ≡ tail_in written cycle text →

@@ -1,9 +1,9 @@
 -- What is written in rows is read.
 use Rattle.std.proofs.Common.{ℕ, ◌≡◌, ◌+◌, ◌<◌, Bool, true, false, List, [], ◌∷◌, ◌++◌, length, Some, refl, sym, ◌∙◌, ap, subst, arith, length-append}
-use Rattle.std.specs.Prelude.{if◌then◌else◌, nat_le, nat_lt, ◌||◌, unwrap_or, slice_get}
+use Rattle.std.specs.Prelude.{if◌then◌else◌, nat_lt, unwrap_or, slice_get}
 use Rattle.std.specs.List.{AllByRecursion}
 use Rattle.std.proofs.lemmas.Bool.Decides.{nat_tests}
-use Rattle.fio_form.specs.Bare.{is_cut_short}
+use Rattle.std.proofs.lemmas.Bool.{or_parts}
 use Rattle.fio_form.specs.Reading.{octets_between}
 use Rattle.fio_form.specs.Wholes.{whole_of}
 use Rattle.fio_form.specs.declared.form.LineForm.{LineForm}
@@ -11,7 +11,7 @@ use Rattle.fio_form.specs.declared.octets.TheConstants.{OCTETS}
 use Rattle.fio_form.specs.declared.reading.Whole.{Whole}
 use Rattle.fio_form.specs.declared.reading.Whole.TheVariants as wholes
 use Rattle.fio_rows.specs.GoingOn.{may_go_on}
-use Rattle.fio_rows.specs.Lines.{added, begun_line, first, first_line_in, has, is_own_message, is_row, next_row, offset_after, offset_of, open_form, open_in, read_in, unless_own, is_message_open}
+use Rattle.fio_rows.specs.Lines.{added, begun_line, first_line_in, has, is_row, next_row, offset_after, offset_of, open_form, open_in, read_in, unless_own, is_message_open, first, is_own_row}
 use Rattle.fio_rows.specs.RowLaws.{AreRowsBelow, IsFirstRow, IsLacking, IsLastRow, IsReadInRows, IsWrittenInRows, Row, read_rows}
 use Rattle.fio_rows.specs.Rows.{Rows, octets_with, say, whole_before}
 use Rattle.fio_rows.specs.declared.said.Said.TheVariants.{Frame, Part}
@@ -25,17 +25,10 @@ room_by : (b : Bool) (form : LineForm) (octets : List ℕ) (whole : Whole) → (
 room_by true form octets whole sound e = absurd (sound (sym e))
 room_by false form octets whole sound e = refl
 
-or_false : (a b : Bool) → (a || b) ≡ false → a ≡ false
-or_false true b e = e
-or_false false b e = refl
-
 room : (form : LineForm) (octets tail : List ℕ) (whole : Whole) → (whole ≡ wholes.Damaged → ⊥) → whole_before form octets tail ≡ whole →
     length octets < OCTETS
 unfolding whole_before
-room form octets tail whole sound e =
-    let b : nat_le OCTETS (length octets) ≡ false =
-    or_false (nat_le OCTETS (length octets)) (is_cut_short tail) (room_by (nat_le OCTETS (length octets) || is_cut_short tail) form octets whole sound e) in
-    grind (arith, nat_tests)
+room form octets tail whole sound e = grind (arith, nat_tests, or_parts, room_by)
 
 -- octets that are few enough fit after those that are there
 fits : (octets row : List ℕ) → length (octets ++ row) < OCTETS → nat_lt OCTETS (length octets + length row) ≡ false
@@ -61,11 +54,7 @@ say_message form row tail state start end e = rw e refl
 added_lacking : (form : LineForm) (row : Row) (state : Rows) → IsLacking form (state.octets ++ row.octets) row →
     added form row.octets row.tail state ≡ gone_on (length row.octets) (state.octets ++ row.octets) state
 unfolding added
-added_lacking form row state h =
-    let f : nat_lt OCTETS (length state.octets + length row.octets) ≡ false =
-    fits state.octets row.octets (room form (state.octets ++ row.octets) row.tail wholes.Lacking (λ e. let z : ⊥ = cc in z) h.lacking) in
-    rw f (ap (unless_own (is_own_message form row.octets)) (say_lacking form (length row.octets) row.tail
-    (record state { next = offset_after state.next (length row.octets); octets = state.octets ++ row.octets }) h.lacking h.goes_on))
+added_lacking form row state h = grind (arith, nat_tests, fits, room, say_lacking)
 
 -- the message is that of the last row, as far as it is one
 frame_kept : (own : Bool) (state : Rows) (message : List ℕ) → own ≡ false → state.said ≡ Frame → state.message ≡ message →
@@ -75,10 +64,9 @@ frame_kept own state message o s m = record { said = rw (o, s) refl; kept = m }
 said_read : (form : LineForm) (row : ℕ) (tail : List ℕ) (state : Rows) (start end : ℕ) (message : List ℕ) →
     whole_before form state.octets tail ≡ wholes.Message start end → octets_between start end (octets_with form state.octets) ≡ message →
     IsReadInRows message (say form row tail state)
-said_read form row tail state start end message e m =
-    subst (IsReadInRows message) (sym (say_message form row tail state start end e)) (record { said = refl; kept = m })
+said_read form row tail state start end message e m = grind (arith, nat_tests, say_message)
 
-added_last : (form : LineForm) (row : Row) (state : Rows) (message : List ℕ) → IsLastRow form (state.octets ++ row.octets) row message →
+added_last : (form : LineForm) (row : Row) (state : Rows) (message : List ℕ) → IsLastRow form state.octets row message →
     IsReadInRows message (added form row.octets row.tail state)
 unfolding added
 added_last form row state message h =
@@ -88,7 +76,7 @@ added_last form row state message h =
     (record state { next = offset_after state.next (length row.octets); octets = state.octets ++ row.octets })) =
     said_read form (length row.octets) row.tail
     (record state { next = offset_after state.next (length row.octets); octets = state.octets ++ row.octets }) h.start h.end message h.whole h.said in
-    rw f (frame_kept (is_own_message form row.octets) _ message h.part r.said r.kept)
+    rw f (frame_kept (is_own_row form state.octets row.octets) _ message h.part r.said r.kept)
 
 -- ---- A row that goes on
 
@@ -127,8 +115,7 @@ first_had : (at : ℕ) (others below : List LineForm) (form : LineForm) (line ta
     AllByRecursion (λ other. has other line ≡ false) others → has form line ≡ true →
     first_line_in at (others ++ form ∷ below) line tail state ≡ begun_line (at + length others) form line tail state
 unfolding first_line_in
-first_had at [] below form line tail state a h =
-    let e : at ≡ at + length {A = LineForm} [] = omega arith in rw h (ap (λ n. begun_line n form line tail state) e)
+first_had at [] below form line tail state a h = grind (arith, nat_tests)
 first_had at (other ∷ others) below form line tail state a h =
     let n : has other line ≡ false = a.0 in
     let e : at + 1 + length others ≡ at + length (other ∷ others) = omega arith in
@@ -147,12 +134,7 @@ begun_by at form row state = record state {
 begun_lacking : (at : ℕ) (others : List LineForm) (form : LineForm) (row : Row) (state : Rows) → IsFirstRow others form row →
     begun_line at form row.line row.tail state ≡ begun_by at form row state
 unfolding begun_line
-begun_lacking at others form row state h =
-    rw (h.octets, h.no_stream, h.no_stray) (say_lacking form (length row.octets) row.tail (record state {
-      form = at;
-      next = offset_after (Some (unwrap_or (offset_of form row.line) 0)) (length row.octets);
-      octets = row.octets;
-    }) h.lacking.lacking h.lacking.goes_on)
+begun_lacking at others form row state h = grind (arith, nat_tests, say_lacking)
 
 -- the form at its index
 form_at : (others below : List LineForm) (form : LineForm) → slice_get (others ++ form ∷ below) (length others) ≡ Some form
@@ -171,10 +153,4 @@ pub rows_read : (others below : List LineForm) (form : LineForm) (message : List
     is_message_open state.pending ≡ false → IsWrittenInRows others form message row rows →
     IsReadInRows message (read_rows (others ++ form ∷ below) (row ∷ rows) state)
 unfolding read_in
-rows_read others below form message row rows state c h =
-    let f : first (others ++ form ∷ below) row.line row.tail state ≡ begun_by (0 + length others) form row (record state { octets = [] }) =
-    first_had 0 others below form row.line row.tail (record state { octets = [] }) h.first.first h.first.had
-    ∙ begun_lacking (0 + length others) others form row (record state { octets = [] }) h.first in
-    rw c (subst (λ (s : Rows). IsReadInRows message (read_rows (others ++ form ∷ below) rows s)) (sym f)
-    (below_read (others ++ form ∷ below) form rows message (begun_by (0 + length others) form row (record state { octets = [] }))
-    (open_first others below form row (record state { octets = [] })) h.below))
+rows_read others below form message row rows state c h = grind (arith, nat_tests, first_had, begun_lacking, below_read, open_first)

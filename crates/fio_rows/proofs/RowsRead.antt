@@ -1,18 +1,19 @@
 -- What is read in rows is in them.
-use Rattle.std.proofs.Common.{ℕ, ◌≡◌, ◌+◌, Bool, true, false, not, ◌&&◌, List, [], ◌∷◌, ◌++◌, length, Option, Some, None, refl, sym, subst, ◌∙◌, inl, inr, arith}
+use Rattle.std.proofs.lemmas.Bool.Decides.{nat_tests}
+use Rattle.std.proofs.Common.{ℕ, ◌≡◌, ◌+◌, Bool, true, false, ◌&&◌, List, [], ◌∷◌, ◌++◌, length, Option, Some, None, refl, sym, subst, ◌∙◌, inl, inr, arith}
 use Rattle.std.specs.Prelude.{if◌then◌else◌, nat_le, nat_lt, slice_get, suc, unwrap_or}
 use Rattle.fio_form.specs.Messages.{size_of}
 use Rattle.fio_form.specs.declared.form.LineForm.{LineForm}
 use Rattle.fio_form.specs.declared.octets.TheConstants.{OCTETS}
 use Rattle.fio_form.specs.declared.reading.Whole.{Whole}
 use Rattle.fio_form.specs.declared.reading.Whole.TheVariants as wholes
+use Rattle.fio_rows.specs.Lines.{added, begun_line, begun_with, first, first_line_in, has, has_bare_rows, is_certain, is_known, is_row, is_stray, is_stream, next_line_in, next_row, offset_after, offset_of, open_form, open_in, read_in, row_of, says_message, unless_known, unless_own, is_message_open, is_own_row, said_unless}
 use Rattle.fio_rows.specs.GoingOn.{may_go_on}
-use Rattle.fio_rows.specs.Lines.{added, begun_line, begun_with, first, first_line_in, has, has_bare_rows, is_certain, is_known, is_message_open, is_own_message, is_row, is_stray, is_stream, next_line_in, next_row, offset_after, offset_of, open_form, open_in, read_in, row_of, said_unless, says_message, unless_known, unless_own}
 use Rattle.fio_rows.specs.RowLaws.{AreOctetsOf, IsInRows}
-use Rattle.fio_rows.specs.Rows.{Rows, open_after, say, say_none, say_whole, whole_before}
-use Rattle.fio_rows.specs.declared.said.Said.{Said}
-use Rattle.fio_rows.specs.declared.said.Said.TheVariants.{Frame, Part, Idle, Stray, Damaged, Other}
+use Rattle.fio_rows.specs.Rows.{Rows, say, say_none, say_whole, whole_before}
+use Rattle.fio_rows.specs.declared.said.Said.TheVariants.{Idle, Stray, Damaged}
 use Rattle.fio_rows.specs.declared.said.Said.TheVariants as said
+use Rattle.fio_rows.proofs.LineLaws.{unless_frame}
 
 -- what a line says is in the rows of one of all forms, if it says a message
 abbrev pub InRows : List LineForm → List ℕ → List ℕ → Rows → Type 0
@@ -28,12 +29,8 @@ whole_in all line above form row tail state (wholes.Message start end) k o =
     λ e. record { form = form; of = k; start = start; end = end; said = refl; there = o }
 whole_in all line above form row tail state (wholes.Any start end) k o =
     λ e. record { form = form; of = k; start = start; end = end; said = refl; there = o }
-whole_in all line above form row tail state wholes.Lacking k o =
-    elim (may_go_on form row tail) as (λ b. InRows all line above (record state { said = if b then Part else Damaged; pending = open_after (if b then Part else Damaged) wholes.Lacking; message = state.message }))
-    [ true ↦ silent all line above _ refl | false ↦ silent all line above _ refl ]
-whole_in all line above form row tail state wholes.Idle k o =
-    elim (not form.is_framed && may_go_on form row tail) as (λ b. InRows all line above (record state { said = if b then Part else Idle; pending = open_after (if b then Part else Idle) wholes.Idle; message = state.message }))
-    [ true ↦ silent all line above _ refl | false ↦ silent all line above _ refl ]
+whole_in all line above form row tail state wholes.Lacking k o = grind (arith, nat_tests, silent)
+whole_in all line above form row tail state wholes.Idle k o = grind (arith, nat_tests, silent)
 whole_in all line above form row tail state wholes.Damaged k o = silent all line above _ refl
 
 say_in : (all : List LineForm) (line above : List ℕ) (form : LineForm) (row : ℕ) (tail : List ℕ) (state : Rows) →
@@ -87,15 +84,6 @@ first_in_rows all at (form ∷ forms) line above tail state h =
       | false ↦ first_in_rows all (at + 1) forms line above tail state (from_next all at form forms h)
     ]
 
-unless_frame : (own : Bool) (line : Said) → says_message (said_unless own line) ≡ true → says_message line ≡ true
-unless_frame own Frame e = refl
-unless_frame own Part e = e
-unless_frame own said.Stream e = e
-unless_frame own Idle e = e
-unless_frame own Stray e = e
-unless_frame own Damaged e = e
-unless_frame own Other e = e
-
 unless_in : (all : List LineForm) (line above : List ℕ) (own : Bool) (state : Rows) → InRows all line above state → InRows all line above (unless_own own state)
 unless_in all line above own state h e =
     let r : IsInRows all line above state = h (unless_frame own state.said e) in
@@ -107,12 +95,12 @@ unfolding added
 added_in all line form tail state k =
     elim (nat_lt OCTETS (length state.octets + length (next_row form line))) as (λ b. InRows all line state.octets (
     if b then say_none Damaged (record state { next = offset_after state.next (length (next_row form line)) })
-    else unless_own (is_own_message form (next_row form line)) (say form (length (next_row form line)) tail (record state {
+    else unless_own (is_own_row form state.octets (next_row form line)) (say form (length (next_row form line)) tail (record state {
       next = offset_after state.next (length (next_row form line));
       octets = state.octets ++ next_row form line;
     })))) [
       | true ↦ silent all line state.octets _ refl
-      | false ↦ unless_in all line state.octets (is_own_message form (next_row form line)) _
+      | false ↦ unless_in all line state.octets (is_own_row form state.octets (next_row form line)) _
           (say_in all line state.octets form (length (next_row form line)) tail (record state {
             next = offset_after state.next (length (next_row form line));
             octets = state.octets ++ next_row form line;
@@ -150,8 +138,4 @@ open_in_rows (Some form) forms line tail state k =
 pub read_in_rows : (forms : List LineForm) (line tail : List ℕ) (state : Rows) → says_message (read_in forms line tail state).said ≡ true →
     IsInRows forms line state.octets (read_in forms line tail state)
 unfolding read_in open_form
-read_in_rows forms line tail state =
-    elim (is_message_open state.pending) as (λ b. InRows forms line state.octets (if b then open_in (open_form forms state) forms line tail state else first forms line tail state)) [
-      | true ↦ open_in_rows (open_form forms state) forms line tail state refl
-      | false ↦ first_in_rows forms 0 forms line state.octets tail _ (from_first forms)
-    ]
+read_in_rows forms line tail state = grind (arith, nat_tests, open_in_rows, first_in_rows, from_first)

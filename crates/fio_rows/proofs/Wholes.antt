@@ -1,13 +1,13 @@
 -- What octets are that are a whole: a message.
-use Rattle.std.proofs.Common.{ℕ, ◌≡◌, ◌+◌, ◌-◌, ◌≤◌, Bool, true, false, not, ◌&&◌, List, [], length, drop, take, Option, Some, None, refl, sym, subst, arith}
-use Rattle.std.specs.Prelude.{if◌then◌else◌, nat_le, nat_lt, ◌==◌, ◌||◌, slice_index}
+use Rattle.std.proofs.Common.{ℕ, ◌≡◌, ◌+◌, ◌-◌, ◌≤◌, Bool, true, false, ◌&&◌, List, [], length, drop, take, Option, Some, None, refl, sym, subst, arith}
+use Rattle.std.specs.Prelude.{if◌then◌else◌, nat_le, nat_lt, ◌==◌}
 use Rattle.std.proofs.lemmas.List.{drop-take}
 use Rattle.std.proofs.lemmas.Bool.Decides.{nat_tests}
 use Rattle.std.proofs.Math.Seq.{take-length}
+use Rattle.std.proofs.lemmas.Bool.{and_parts}
 use Rattle.fio_form.specs.Messages.{is_message, size_of}
-use Rattle.fio_form.specs.Bare.{is_cut_short}
 use Rattle.fio_form.specs.Reading.{octets_between}
-use Rattle.fio_form.specs.Wholes.{framed_in, held_of, is_longer, is_open_frame, kept_of, whole_any, whole_by_size, whole_frame, whole_held, whole_known, whole_of}
+use Rattle.fio_form.specs.Wholes.{framed_in, held_of, kept_of, whole_any, whole_by_size, whole_frame, whole_held, whole_known, whole_of}
 use Rattle.fio_form.specs.declared.form.LineForm.{LineForm}
 use Rattle.fio_form.specs.declared.message.Size.{Size}
 use Rattle.fio_form.specs.declared.message.Size.TheVariants as sizes
@@ -20,24 +20,11 @@ use Rattle.fio_rows.specs.Rows.{octets_with, whole_before}
 abbrev pub HasMessage : Whole → List ℕ → Type 0
 HasMessage (Message start end) octets = is_message (octets_between start end octets) ≡ true
 HasMessage (Any start end) octets = is_message (octets_between start end octets) ≡ true
-HasMessage Lacking octets = Unit {0}
-HasMessage Idle octets = Unit {0}
-HasMessage Damaged octets = Unit {0}
-
--- the right one of two tests that both hold
-and_second : (a b : Bool) → (a && b) ≡ true → b ≡ true
-and_second true b h = h
-and_second false b h = absurd (let e : false ≡ true = h in cc)
-
--- the left one
-and_first : (a b : Bool) → (a && b) ≡ true → a ≡ true
-and_first true b h = refl
-and_first false b h = h
+HasMessage _ octets = Unit {0}
 
 -- what a frame holds
 frame_by : (b : Bool) (held : List ℕ) → is_message held ≡ b → HasMessage (if b then Message 0 (length held) else Idle) held
-frame_by true held h =
-    let e : octets_between 0 (length held) held ≡ held = take-length held in subst (λ (x : List ℕ). is_message x ≡ true) (sym e) h
+frame_by true held h = grind (arith, nat_tests, take-length)
 frame_by false held h = tt
 
 held_has : (held : Option (List ℕ)) → HasMessage (whole_held held) (kept_of held)
@@ -46,26 +33,16 @@ held_has None = tt
 held_has (Some held) = frame_by (is_message (take OCTETS held)) (take OCTETS held) refl
 
 frame_has : (octets : List ℕ) → HasMessage (whole_frame octets) (kept_of (framed_in octets))
-frame_has octets =
-    elim (is_open_frame octets) as (λ b. HasMessage (if b then Lacking else whole_held (framed_in octets)) (kept_of (framed_in octets)))
-    [ true ↦ tt | false ↦ held_has (framed_in octets) ]
+frame_has octets = grind (arith, nat_tests, held_has)
 
 -- a message of a known size
 known_by : (b : Bool) (before size : ℕ) (octets : List ℕ) → (b ≡ true → is_message (take size (drop before octets)) ≡ true) →
     HasMessage (if b then Message before (before + size) else Damaged) octets
-known_by true before size octets h =
-    subst (λ (x : List ℕ). is_message x ≡ true) (sym (drop-take before size octets)) (h refl)
+known_by true before size octets h = grind (arith, nat_tests, drop-take)
 known_by false before size octets h = tt
 
 known_has : (swapped : Bool) (before after size : ℕ) (octets : List ℕ) → HasMessage (whole_known swapped before after size octets) octets
-known_has swapped before after size octets =
-    elim (nat_lt (length octets) (before + size + after)) as (λ b. HasMessage (if b then Lacking
-    else if (length octets == before + size + after || is_longer swapped (before + size + after) octets) && is_message (take size (drop before octets))
-    then Message before (before + size) else Damaged) octets) [
-      | true ↦ tt
-      | false ↦ known_by _ before size octets
-          (and_second (length octets == before + size + after || is_longer swapped (before + size + after) octets) (is_message (take size (drop before octets))))
-    ]
+known_has swapped before after size octets = grind (arith, nat_tests, known_by, and_parts)
 
 -- a message of any length
 any_by : (b : Bool) (before after : ℕ) (octets : List ℕ) → before + after ≤ length octets →
@@ -81,16 +58,13 @@ any_by false before after octets l h = tt
 
 any_has : (swapped : Bool) (before after : ℕ) (octets : List ℕ) → before + after ≤ length octets →
     HasMessage (whole_any swapped before after octets) octets
-any_has swapped before after octets l =
-    any_by _ before after octets l
-    (and_first (is_message (take (length octets - after - before) (drop before octets))) (not (swapped && slice_index octets (length octets - 1) == 0)))
+any_has swapped before after octets l = grind (arith, nat_tests, any_by, and_parts)
 
 bare_has : (size : Size) (swapped : Bool) (before after : ℕ) (octets : List ℕ) → before + after ≤ length octets →
     HasMessage (whole_by_size size swapped before after octets) octets
-bare_has sizes.Unknown swapped before after octets l = tt
 bare_has (sizes.Known size) swapped before after octets l = known_has swapped before after size octets
 bare_has sizes.Any swapped before after octets l = any_has swapped before after octets l
-bare_has sizes.None swapped before after octets l = tt
+bare_has _ swapped before after octets l = tt
 
 -- octets that are more than those before and after a message
 longer_has : (framed : Bool) (form : LineForm) (octets : List ℕ) → form.before + form.after ≤ length octets →
@@ -110,8 +84,7 @@ short_by : (b : Bool) (form : LineForm) (octets : List ℕ) → nat_le (length o
     else whole_by_size (size_of (drop form.before octets)) form.is_swapped form.before form.after octets)
     (if form.is_framed then (if b then [] else kept_of (framed_in (drop form.before octets))) else octets)
 short_by true form octets h = few_has (nat_lt 0 form.before && length octets == form.before + form.after) _
-short_by false form octets h =
-    let l : form.before + form.after ≤ length octets = grind (arith, nat_tests) in longer_has form.is_framed form octets l
+short_by false form octets h = grind (arith, nat_tests, longer_has)
 
 -- the octets of a form have a message if they are one
 pub whole_has : (form : LineForm) (octets : List ℕ) → HasMessage (whole_of form octets) (held_of form octets)
@@ -121,6 +94,4 @@ whole_has form octets = short_by (nat_le (length octets) (form.before + form.aft
 -- the same before a tail
 pub before_has : (form : LineForm) (octets tail : List ℕ) → HasMessage (whole_before form octets tail) (octets_with form octets)
 unfolding whole_before octets_with
-before_has form octets tail =
-    elim (nat_le OCTETS (length octets) || is_cut_short tail) as (λ b. HasMessage (if b then Damaged else whole_of form octets) (held_of form octets))
-    [ true ↦ tt | false ↦ whole_has form octets ]
+before_has form octets tail = grind (arith, nat_tests, whole_has)

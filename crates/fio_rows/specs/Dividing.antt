@@ -11,9 +11,7 @@ use Rattle.fio_rows.specs.declared.dividing.TheConstants.{FREE, FULL}
 -- where a message of a size ends, if this many octets have all of it
 abbrev pub known_end : Size → ℕ → Option ℕ
 known_end (sizes.Known size) count = if nat_le size count then Some size else None
-known_end sizes.Unknown count = None
-known_end sizes.Any count = None
-known_end sizes.None count = None
+known_end _ count = None
 
 -- whether octets begin with the type of a command
 abbrev pub begins_command : List ℕ → Bool
@@ -46,9 +44,7 @@ next_beginning octets = beginning_from 1 (drop 1 octets)
 -- whether nothing begins with a type
 abbrev pub is_no_type : Size → Bool
 is_no_type sizes.None = true
-is_no_type sizes.Unknown = false
-is_no_type (sizes.Known size) = false
-is_no_type sizes.Any = false
+is_no_type _ = false
 
 -- whether an answer may follow a message; None if one octet of it does not say it yet
 abbrev pub followed_by_answer : List ℕ → ℕ → List ℕ → Option Bool

@@ -3,16 +3,15 @@ use Rattle.std.specs.Prelude.{ℕ, ◌==◌, ◌&&◌, ◌||◌, nat_le, not, Bo
 use Rattle.std.specs.List.{list_all}
 use Rattle.fio_form.specs.declared.form.LineForm.{LineForm}
 use Rattle.fio_form.specs.declared.form.LineRows.{LineRows}
-use Rattle.fio_form.specs.declared.form.LineRows.TheVariants.{One, Offset, Wrapped, Bare, Pieces, Stream, Flags}
+use Rattle.fio_form.specs.declared.form.LineRows.TheVariants.{Offset, Wrapped, Bare, Pieces}
 use Rattle.fio_form.specs.declared.form.Step.{Step}
 use Rattle.fio_form.specs.declared.form.Step.TheVariants.{Octet, Mark, MaybeBlank}
 use Rattle.fio_rows.specs.declared.going_on.TheConstants.{LONG_ROW}
 
 -- whether a step is this mark
 abbrev pub is_mark : ℕ → Step → Bool
-is_mark character Octet = false
 is_mark character (Mark mark) = mark == character
-is_mark character MaybeBlank = false
+is_mark character _ = false
 
 -- a cycle without the octets that it begins with
 abbrev pub past_octets : List Step → List Step
@@ -42,13 +41,11 @@ is_list_open cycle tail = not (has_only_blanks tail) && has_only_blanks (past_ga
 
 -- whether the next line may go on with the octets, of which `row` are in this line
 abbrev pub may_go_on_in : LineRows → List Step → ℕ → List ℕ → Bool
-may_go_on_in One cycle row tail = false
 may_go_on_in (Offset number base width begins_at_zero) cycle row tail = true
 may_go_on_in (Wrapped width) cycle row tail = row == width
 may_go_on_in Bare cycle row tail = nat_le LONG_ROW row || is_list_open cycle tail
 may_go_on_in Pieces cycle row tail = true
-may_go_on_in Stream cycle row tail = false
-may_go_on_in Flags cycle row tail = false
+may_go_on_in _ cycle row tail = false
 
 -- whether the next line may go on with the octets of a row, of this many octets and with this tail
 unfoldable pub may_go_on : LineForm → ℕ → List ℕ → Bool
@@ -56,13 +53,9 @@ may_go_on form row tail = may_go_on_in form.rows form.cycle.items row tail
 
 -- whether a row is full, so that nothing says whether a message of any length goes on
 abbrev pub is_full_in : LineRows → Bool → ℕ → Bool
-is_full_in One may row = may
 is_full_in (Offset number base width begins_at_zero) may row = nat_le width row
-is_full_in (Wrapped width) may row = may
-is_full_in Bare may row = may
 is_full_in Pieces may row = true
-is_full_in Stream may row = may
-is_full_in Flags may row = may
+is_full_in _ may row = may
 
 -- whether a row of this many octets and with this tail is full, so that nothing says whether a message of any length goes on
 unfoldable pub is_full : LineForm → ℕ → List ℕ → Bool

@@ -5,18 +5,13 @@ use Rattle.fio_form.specs.declared.form.LineForm.{LineForm}
 use Rattle.fio_rows.specs.Lines.{says_message, is_message_whole, next_row}
 use Rattle.fio_rows.specs.Rows.{Rows}
 use Rattle.fio_rows.specs.declared.said.Said.{Said}
-use Rattle.fio_rows.specs.declared.said.Said.TheVariants.{Frame, Part, Idle, Stray, Damaged, Other}
+use Rattle.fio_rows.specs.declared.said.Said.TheVariants.{Damaged, Other}
 use Rattle.fio_rows.specs.declared.said.Said.TheVariants as said
 
 -- whether a line is another one
 abbrev pub is_other : Said → Bool
-is_other Frame = false
-is_other Part = false
-is_other said.Stream = false
-is_other Idle = false
-is_other Stray = false
-is_other Damaged = false
 is_other Other = true
+is_other _ = false
 
 -- what is said, and what may end with this line, is a message
 pub record SaysMessages (state : Rows) : Type 0 where

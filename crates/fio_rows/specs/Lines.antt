@@ -1,5 +1,5 @@
 -- What one line does to what is known.
-use Rattle.std.specs.Prelude.{ℕ, ◌+◌, ◌^◌, ◌==◌, ◌&&◌, ◌||◌, nat_lt, nat_le, not, Bool, true, false, if◌then◌else◌, List, [], ◌∷◌, ◌++◌, length, take, Option, Some, None, option_and_then, unwrap_or, slice_get}
+use Rattle.std.specs.Prelude.{ℕ, ◌+◌, ◌^◌, ◌==◌, ◌&&◌, ◌||◌, nat_lt, nat_le, not, Bool, true, false, if◌then◌else◌, List, [], ◌∷◌, ◌++◌, length, drop, take, Option, Some, None, option_and_then, unwrap_or, slice_get}
 use Rattle.fio_form.specs.Messages.{size_of}
 use Rattle.fio_form.specs.Fronts.{front_digits, number_of_digits}
 use Rattle.fio_form.specs.Bare.{bare_octets}
@@ -15,7 +15,7 @@ use Rattle.fio_rows.specs.declared.saying.Open.{Open}
 use Rattle.fio_rows.specs.declared.saying.Open.TheVariants.{Nothing, Begun}
 use Rattle.fio_rows.specs.declared.saying.Open.TheVariants as opens
 use Rattle.fio_rows.specs.declared.said.Said.{Said}
-use Rattle.fio_rows.specs.declared.said.Said.TheVariants.{Frame, Part, Idle, Stray, Damaged, Other}
+use Rattle.fio_rows.specs.declared.said.Said.TheVariants.{Frame, Stray, Damaged, Other}
 use Rattle.fio_rows.specs.declared.said.Said.TheVariants as said
 
 -- ---- A line that begins
@@ -39,14 +39,9 @@ text_from_front form line = front_text form line
 
 -- the offset of a row, if its form has one, by the text of the line from the front on
 abbrev pub offset_in : LineRows → LineForm → List ℕ → Option ℕ
-offset_in rows.One form text = None
 offset_in (rows.Offset number base width begins_at_zero) form text =
     option_and_then (number_of_digits base) (front_digits form.values.items form.front.items number text)
-offset_in (rows.Wrapped width) form text = None
-offset_in rows.Bare form text = None
-offset_in rows.Pieces form text = None
-offset_in rows.Stream form text = None
-offset_in rows.Flags form text = None
+offset_in _ form text = None
 
 -- the offset of a row
 unfoldable pub offset_of : LineForm → List ℕ → Option ℕ
@@ -59,23 +54,14 @@ offset_after (Some offset) count = if nat_lt (offset + count) (2 ^ 64) then Some
 
 -- whether a row of a dump that begins at 0 has another offset
 abbrev pub is_stray : LineRows → ℕ → Bool
-is_stray rows.One offset = false
 is_stray (rows.Offset number base width begins_at_zero) offset = begins_at_zero && not (offset == 0)
-is_stray (rows.Wrapped width) offset = false
-is_stray rows.Bare offset = false
-is_stray rows.Pieces offset = false
-is_stray rows.Stream offset = false
-is_stray rows.Flags offset = false
+is_stray _ offset = false
 
 -- whether the octets of all lines are one stream
 abbrev pub is_stream : LineRows → Bool
-is_stream rows.One = false
-is_stream (rows.Offset number base width begins_at_zero) = false
-is_stream (rows.Wrapped width) = false
-is_stream rows.Bare = false
-is_stream rows.Pieces = false
 is_stream rows.Stream = true
 is_stream rows.Flags = true
+is_stream _ = false
 
 -- a line of a form whose octets are there, with this offset
 abbrev pub begun_with : LineForm → ℕ → List ℕ → Rows → Rows
@@ -106,23 +92,13 @@ first forms line tail state = first_line_in 0 forms line tail (record state { oc
 
 -- whether each row but the first is nothing but octets
 abbrev pub has_bare_rows : LineRows → Bool
-has_bare_rows rows.One = false
-has_bare_rows (rows.Offset number base width begins_at_zero) = false
-has_bare_rows (rows.Wrapped width) = false
 has_bare_rows rows.Bare = true
-has_bare_rows rows.Pieces = false
-has_bare_rows rows.Stream = false
-has_bare_rows rows.Flags = false
+has_bare_rows _ = false
 
 -- whether each row has an offset
 abbrev pub has_offset : LineRows → Bool
-has_offset rows.One = false
 has_offset (rows.Offset number base width begins_at_zero) = true
-has_offset (rows.Wrapped width) = false
-has_offset rows.Bare = false
-has_offset rows.Pieces = false
-has_offset rows.Stream = false
-has_offset rows.Flags = false
+has_offset _ = false
 
 -- the octets of a row that goes on, as they are written
 abbrev pub next_octets : LineForm → List ℕ → List ℕ
@@ -147,26 +123,34 @@ unfoldable pub is_row : LineForm → Option ℕ → List ℕ → Bool
 is_row form next line =
     has_next form line && (not (has_offset form.rows) || is_next next (offset_of form line))
 
+-- whether a size is known
+abbrev pub is_known : Size → Bool
+is_known (sizes.Known size) = true
+is_known sizes.Unknown = false
+is_known sizes.Any = false
+is_known sizes.None = false
+
 -- whether the octets of a row are the size of a message that they begin
 abbrev pub is_size : Size → ℕ → Bool
 is_size (sizes.Known size) count = size == count
-is_size sizes.Unknown count = false
-is_size sizes.Any count = false
-is_size sizes.None count = false
+is_size _ count = false
 
 -- whether a row that goes on may be a message by itself
 abbrev pub is_own_message : LineForm → List ℕ → Bool
 is_own_message form row = not (has_offset form.rows) && nat_lt 1 (length row) && is_size (size_of row) (length row)
 
+-- whether the octets above a row say how long the message is: by themselves, or since a frame of the wire has a check
+abbrev pub says_length : LineForm → List ℕ → Bool
+says_length form above = form.is_framed || nat_lt form.before (length above) && is_known (size_of (drop form.before above))
+
+-- whether a row below octets may be a message by itself: those that say where the message ends win
+abbrev pub is_own_row : LineForm → List ℕ → List ℕ → Bool
+is_own_row form above row = not (says_length form above) && is_own_message form row
+
 -- what a row says that ends a message: if it may be one by itself, it is not known whether it does
 abbrev pub said_unless : Bool → Said → Said
 said_unless own Frame = if own then Damaged else Frame
-said_unless own Part = Part
-said_unless own said.Stream = said.Stream
-said_unless own Idle = Idle
-said_unless own Stray = Stray
-said_unless own Damaged = Damaged
-said_unless own Other = Other
+said_unless own other = other
 
 -- what is known after a row that goes on: it is damaged if it may be a message by itself
 abbrev pub unless_own : Bool → Rows → Rows
@@ -177,7 +161,7 @@ unfoldable pub added : LineForm → List ℕ → List ℕ → Rows → Rows
 added form row tail state =
     if nat_lt OCTETS (length state.octets + length row)
     then say_none Damaged (record state { next = offset_after state.next (length row) })
-    else unless_own (is_own_message form row) (say form (length row) tail (record state {
+    else unless_own (is_own_row form state.octets row) (say form (length row) tail (record state {
       next = offset_after state.next (length row);
       octets = state.octets ++ row;
     }))
@@ -185,19 +169,7 @@ added form row tail state =
 -- whether a line says a message
 abbrev pub says_message : Said → Bool
 says_message Frame = true
-says_message Part = false
-says_message said.Stream = false
-says_message Idle = false
-says_message Stray = false
-says_message Damaged = false
-says_message Other = false
-
--- whether a size is known
-abbrev pub is_known : Size → Bool
-is_known (sizes.Known size) = true
-is_known sizes.Unknown = false
-is_known sizes.Any = false
-is_known sizes.None = false
+says_message _ = false
 
 -- a line that says a message of a known length; nothing says what any other is that may go on with the message above
 abbrev pub unless_known : Rows → Rows
@@ -205,15 +177,13 @@ unless_known state = if says_message state.said && is_known (size_of state.messa
 
 -- whether octets are open that are no message yet
 abbrev pub is_message_begun : Open → Bool
-is_message_begun Nothing = false
 is_message_begun Begun = true
-is_message_begun opens.Whole = false
+is_message_begun _ = false
 
 -- whether octets are open that are a message
 abbrev pub is_message_whole : Open → Bool
-is_message_whole Nothing = false
-is_message_whole Begun = false
 is_message_whole opens.Whole = true
+is_message_whole _ = false
 
 -- whether it is known that a row goes on: the octets are no message yet, or an offset says it
 abbrev pub is_sure : LineForm → Open → Bool
@@ -238,8 +208,7 @@ next_line_in form forms line tail state =
 -- whether a message is open
 abbrev pub is_message_open : Open → Bool
 is_message_open Nothing = false
-is_message_open Begun = true
-is_message_open opens.Whole = true
+is_message_open _ = true
 
 -- the form of the open message
 unfoldable pub open_form : List LineForm → Rows → Option LineForm

@@ -9,10 +9,10 @@ use Rattle.fio_form.specs.declared.form.LineRows.TheVariants.{One}
 use Rattle.fio_form.specs.declared.octets.TheConstants.{OCTETS}
 use Rattle.fio_form.specs.declared.reading.Whole.TheVariants.{Message, Lacking}
 use Rattle.fio_rows.specs.GoingOn.{may_go_on}
-use Rattle.fio_rows.specs.Lines.{has, is_own_message, is_row, is_stray, is_stream, next_row, offset_after, offset_of, read_in, row_of}
+use Rattle.fio_rows.specs.Lines.{has, is_own_row, is_row, is_stray, is_stream, next_row, offset_after, offset_of, read_in, row_of}
 use Rattle.fio_rows.specs.Rows.{Rows, octets_with, whole_before}
 use Rattle.fio_rows.specs.declared.said.Said.{Said}
-use Rattle.fio_rows.specs.declared.said.Said.TheVariants.{Frame, Part, Idle, Stray, Damaged, Other}
+use Rattle.fio_rows.specs.declared.said.Said.TheVariants.{Frame, Damaged, Other}
 use Rattle.fio_rows.specs.declared.said.Said.TheVariants as said
 
 -- a row as it is written: a line, the text after its octets, and these
@@ -26,13 +26,13 @@ pub record IsLacking (form : LineForm) (octets : List ℕ) (row : Row) : Type 0 
   pub lacking : whole_before form octets row.tail ≡ Lacking
   pub goes_on : may_go_on form (length row.octets) row.tail ≡ true
 
--- octets down to a row that are a message with those before and after it, of which the row is no message by itself
-pub record IsLastRow (form : LineForm) (octets : List ℕ) (row : Row) (message : List ℕ) : Type 0 where
+-- a row that makes the octets above it a message, with those before and after it, and is none by itself unless they say its length
+pub record IsLastRow (form : LineForm) (above : List ℕ) (row : Row) (message : List ℕ) : Type 0 where
   pub start : ℕ
   pub end : ℕ
-  pub whole : whole_before form octets row.tail ≡ Message start end
-  pub said : octets_between start end (octets_with form octets) ≡ message
-  pub part : is_own_message form row.octets ≡ false
+  pub whole : whole_before form (above ++ row.octets) row.tail ≡ Message start end
+  pub said : octets_between start end (octets_with form (above ++ row.octets)) ≡ message
+  pub part : is_own_row form above row.octets ≡ false
 
 -- a row of a form that goes on at an offset
 pub record IsRowBelow (form : LineForm) (next : Option ℕ) (row : Row) : Type 0 where
@@ -42,7 +42,7 @@ pub record IsRowBelow (form : LineForm) (next : Option ℕ) (row : Row) : Type 0
 -- rows below octets that are there, at an offset: each goes on with those above it, until the last one ends the message
 abbrev pub AreRowsBelow : LineForm → List ℕ → Option ℕ → List ℕ → List Row → Type 0
 AreRowsBelow form above next message [] = ⊥
-AreRowsBelow form above next message (row ∷ []) = IsRowBelow form next row × IsLastRow form (above ++ row.octets) row message
+AreRowsBelow form above next message (row ∷ []) = IsRowBelow form next row × IsLastRow form above row message
 AreRowsBelow form above next message (row ∷ (more ∷ rows)) =
     IsRowBelow form next row × IsLacking form (above ++ row.octets) row
     × AreRowsBelow form (above ++ row.octets) (offset_after next (length row.octets)) message (more ∷ rows)
@@ -92,12 +92,8 @@ pub record IsInRows (forms : List LineForm) (line above : List ℕ) (state : Row
 -- what a line says by itself: a message, or none, as no form has it; anything else is damaged
 abbrev pub said_alone : Said → List ℕ → LineSaid
 said_alone Frame message = reading.Frame message
-said_alone Part message = reading.Damaged
-said_alone said.Stream message = reading.Damaged
-said_alone Idle message = reading.Damaged
-said_alone Stray message = reading.Damaged
-said_alone Damaged message = reading.Damaged
 said_alone Other message = reading.Other
+said_alone _ message = reading.Damaged
 
 -- what lines say, one after another
 abbrev pub said_in_turn : List LineForm → List Row → Rows → List LineSaid

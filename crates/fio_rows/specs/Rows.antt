@@ -13,7 +13,7 @@ use Rattle.fio_rows.specs.declared.saying.Open.TheVariants.{Nothing, Begun}
 use Rattle.fio_rows.specs.declared.saying.Open.TheVariants as opens
 use Rattle.fio_rows.specs.declared.rows.Reading.{Reading}
 use Rattle.fio_rows.specs.declared.said.Said.{Said}
-use Rattle.fio_rows.specs.declared.said.Said.TheVariants.{Frame, Part, Idle, Stray, Damaged, Other}
+use Rattle.fio_rows.specs.declared.said.Said.TheVariants.{Frame, Part, Idle, Damaged, Other}
 use Rattle.fio_rows.specs.declared.said.Said.TheVariants as said
 
 -- what is known after a line
@@ -58,21 +58,13 @@ said_by_whole form row tail wholes.Damaged = Damaged
 
 -- what is open if a message goes on
 abbrev pub open_by : Whole → Open
-open_by (wholes.Message start end) = Begun
 open_by (wholes.Any start end) = opens.Whole
-open_by wholes.Lacking = Begun
-open_by wholes.Idle = Begun
-open_by wholes.Damaged = Begun
+open_by _ = Begun
 
 -- whether a line says octets of a message that may go on
 abbrev pub says_part : Said → Bool
-says_part Frame = false
 says_part Part = true
-says_part said.Stream = false
-says_part Idle = false
-says_part Stray = false
-says_part Damaged = false
-says_part Other = false
+says_part _ = false
 
 -- what is open after a line
 abbrev pub open_after : Said → Whole → Open
@@ -82,9 +74,7 @@ open_after line whole = if says_part line then open_by whole else Nothing
 abbrev pub message_by : Whole → List ℕ → List ℕ → List ℕ
 message_by (wholes.Message start end) octets above = octets_between start end octets
 message_by (wholes.Any start end) octets above = octets_between start end octets
-message_by wholes.Lacking octets above = above
-message_by wholes.Idle octets above = above
-message_by wholes.Damaged octets above = above
+message_by _ octets above = above
 
 -- what is said of the octets down to a row, by what they are
 abbrev pub say_whole : LineForm → ℕ → List ℕ → Rows → Whole → Rows

@@ -23,16 +23,13 @@ Divides Wait before message after = after ≡ before
 -- the command above the octets after a division: the first two octets of a message that is a command
 abbrev pub command_after : Next → List ℕ → List ℕ → List ℕ
 command_after (Message count) message command = if begins_command message then take 2 message else []
-command_after (Broken count) message command = []
-command_after (Idle count) message command = []
 command_after Wait message command = command
+command_after _ message command = []
 
 -- what the last octets of a stream are, by their size
 abbrev pub last_by : Size → List ℕ → Next
 last_by (sizes.Known size) octets = if size == length octets then divided_at size octets else Wait
-last_by sizes.Unknown octets = Wait
-last_by sizes.Any octets = Wait
-last_by sizes.None octets = Wait
+last_by _ octets = Wait
 
 -- what is next in a stream below a command, after which nothing comes
 unfoldable pub last_in : List ℕ → List ℕ → Next

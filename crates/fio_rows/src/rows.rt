@@ -6,8 +6,8 @@ ghost use Rattle.fio_rows.specs.Rows.{rows_of, say, say_none, state_of, whole_be
 use crate::finding::{append, keep, octets_with, whole_before, write};
 use crate::said::{LineSaid, Said};
 use crate::saying::{
-    Open, is_begun, is_open, is_own, is_stray, is_stream, is_sure_frame, is_whole, offset_after,
-    offset_in, open_after, said_by, said_unless,
+    Open, is_begun, is_open, is_own_row, is_stray, is_stream, is_sure_frame, is_whole,
+    offset_after, offset_in, open_after, said_by, said_unless,
 };
 use arrayvec::ArrayVec;
 use fio_form::{Found, LineForm, Octets};
@@ -220,11 +220,12 @@ impl Reading {
         ensures form { self.new.form ≡ self.old.form }
     {
         let row = self.part.len();
+        let is_own = is_own_row(form, &self.octets, &self.part);
         self.next = offset_after(self.next, row);
         if !append(&self.part, &mut self.octets) {
             return self.say_none(Said::Damaged);
         }
         let said = self.say(form, row, tail);
-        said_unless(is_own(form, &self.part), said)
+        said_unless(is_own, said)
     }
 }

@@ -1,7 +1,7 @@
 //! What the octets of some rows say.
 ghost use Rattle.std.specs.Prelude.{◌≡◌, ◌≢◌, ◌&&◌};
 ghost use Rattle.fio_form.specs.Messages.{size_of};
-ghost use Rattle.fio_rows.specs.Lines.{says_message, is_known, has_offset, has_bare_rows, is_message_begun, is_next, is_message_open, is_message_whole, is_own_message, is_stray, is_stream, offset_after, offset_in, said_unless};
+ghost use Rattle.fio_rows.specs.Lines.{says_message, is_known, has_offset, has_bare_rows, is_message_begun, is_next, is_message_open, is_message_whole, is_own_message, is_own_row, is_stray, is_stream, offset_after, offset_in, said_unless, says_length};
 ghost use Rattle.fio_rows.specs.Rows.{open_after, said_by_whole};
 
 use crate::going_on::{is_full, may_go_on};
@@ -142,10 +142,26 @@ pub fn is_bare(form: &LineForm) -> bool
 }
 
 /// Returns whether a row that goes on may be a message by itself.
-pub fn is_own(form: &LineForm, row: &[u8]) -> bool
+fn is_own(form: &LineForm, row: &[u8]) -> bool
     ensures { result ≡ is_own_message form.now row.now }
 {
     !has_offset(form) && row.len() > 1 && size_of(row) == Size::Known(row.len())
+}
+
+/// Returns whether the octets above a row say how long the message is: by themselves, or since a frame of the wire has a check.
+fn says_length(form: &LineForm, above: &[u8]) -> bool
+    ensures { result ≡ says_length form.now above.now }
+{
+    let before = usize::from(form.before);
+    form.is_framed
+        || before < above.len() && matches!(size_of(above.split_at(before).1), Size::Known(_))
+}
+
+/// Returns whether a row below octets may be a message by itself: those that say where the message ends win.
+pub fn is_own_row(form: &LineForm, above: &[u8], row: &[u8]) -> bool
+    ensures { result ≡ is_own_row form.now above.now row.now }
+{
+    !says_length(form, above) && is_own(form, row)
 }
 
 /// Returns what a row says that ends a message: if it may be one by itself, it is not known whether it does.

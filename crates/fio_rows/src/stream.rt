@@ -1,7 +1,8 @@
 //! Streams: octets that go on from line to line, divided into messages by what follows them, or by flags.
-ghost use Rattle.std.specs.Prelude.{◌≡◌, ◌≢◌, ◌≤◌, ◌<◌, ◌↔◌, [], ◌∷◌, ◌++◌, drop, length, true, IsTrue};
+ghost use Rattle.std.specs.Prelude.{◌≡◌, ◌≢◌, ◌≤◌, ◌<◌, ◌↔◌, [], ◌∷◌, ◌++◌, drop, length, false, true, IsTrue};
 ghost use Rattle.std.specs.Bool.{OnTrue, OnFalse};
 ghost use Rattle.fio_rows.specs.Dividing.{divided_at, given_up, may_stand, next_in_stream};
+ghost use Rattle.fio_rows.specs.Frames.{flag_above};
 ghost use Rattle.fio_rows.specs.Streams.{Divides, command_after, command_above, last_in};
 
 use crate::dividing::{FREE, FULL, KEPT, Next, is_followed, next_beginning};
@@ -15,6 +16,8 @@ pub struct Stream {
     pub octets: ArrayVec<u8, KEPT>,
     /// The first octets of the message above, if it is a command.
     command: ArrayVec<u8, 2>,
+    /// Whether the last octet that was divided off between flags is one.
+    pub(crate) is_flagged: bool,
     /// The message that was divided off last.
     pub message: Octets,
 }
@@ -24,10 +27,12 @@ impl Stream {
     pub fn new() -> Stream
         ensures octets { result.octets.items ≡ [] }
         ensures command { command_above result ≡ [] }
+        ensures flag { flag_above result ≡ false }
     {
         Stream {
             octets: ArrayVec::new(),
             command: ArrayVec::new(),
+            is_flagged: false,
             message: ArrayVec::new(),
         }
     }
@@ -36,9 +41,11 @@ impl Stream {
     pub fn clear(&mut self)
         ensures octets { self.new.octets.items ≡ [] }
         ensures command { command_above self.new ≡ [] }
+        ensures flag { flag_above self.new ≡ false }
     {
         self.octets.clear();
         self.command.clear();
+        self.is_flagged = false;
         self.message.clear();
     }
 
@@ -48,6 +55,7 @@ impl Stream {
         ensures taken { OnTrue result (self.new.octets.items ≡ self.old.octets.items ++ octet ∷ []) }
         ensures refused { OnFalse result (self.new.octets.items ≡ self.old.octets.items) }
         ensures command { command_above self.new ≡ command_above self.old }
+        ensures flag { flag_above self.new ≡ flag_above self.old }
         ensures message { self.new.message ≡ self.old.message }
     {
         self.octets.try_push(octet).is_ok()
@@ -58,6 +66,7 @@ impl Stream {
         requires { count ≤ length self.old.octets.items }
         ensures octets { self.new.octets.items ≡ drop count self.old.octets.items }
         ensures command { command_above self.new ≡ [] }
+        ensures flag { flag_above self.new ≡ flag_above self.old }
         ensures message { self.new.message ≡ self.old.message }
     {
         let mut left = ArrayVec::new();

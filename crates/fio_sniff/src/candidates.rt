@@ -1,11 +1,15 @@
 //! The forms that may be those of a stream: those that have the most octets.
+use crate::fronts::words_of;
 use arrayvec::ArrayVec;
-use fio_form::{Digits, LineForm, Octets, find, is_decimal};
-use fio_guess::table::{PLACES, STREAM_FRONTS};
-use fio_guess::{Window, hash_of, is_words, may_begin, plain_form, word_end};
+use fio_form::{Digits, LineForm, Octets, find, is_decimal, is_hex};
+use fio_guess::table::{PLACES, STREAM_FRONTS, STREAM_FRONTS_OF_WORDS};
+use fio_guess::{Window, front_hash, hash_of, is_words, may_begin, plain_form, word_end};
 
 /// The most forms that are counted.
 const COUNTED: usize = 512;
+
+/// Columns begin within this many characters of a line.
+const COLUMNS: usize = 24;
 
 /// The kinds of cycles that are tried for a place; the last one is of words of 16 bits.
 const KINDS: u8 = 4;
@@ -19,6 +23,8 @@ pub(crate) type Candidates = ArrayVec<LineForm, STREAM_FRONTS>;
 #[derive(Clone, Copy, Default)]
 struct Candidate {
     hash: u64,
+    /// A hash of the words of its front.
+    words: u64,
     octets: u32,
     place: u32,
     line: u16,
@@ -42,6 +48,50 @@ struct Spot {
 pub(crate) struct Counting {
     counted: ArrayVec<Candidate, COUNTED>,
     octets: Octets,
+    /// The words of the forms that are kept.
+    kept: ArrayVec<u64, STREAM_FRONTS>,
+}
+
+/// Returns whether a character is one of base64.
+fn is_of_base64(character: u8) -> bool {
+    character.is_ascii_alphanumeric() || matches!(character, b'+' | b'/' | b'=')
+}
+
+/// Returns whether a line is base64, and not digits alone.
+fn is_base64(line: &[u8]) -> bool {
+    line.len() >= LEAST_BASE64
+        && line.len() % 4 == 0
+        && line.iter().all(|character| is_of_base64(*character))
+        && !line.iter().all(|character| is_hex(*character))
+}
+
+/// A line of base64 has this many characters or more, or it is a word.
+const LEAST_BASE64: usize = 8;
+
+/// Returns whether a text is a number that a dump begins with.
+fn is_offset(text: &[u8]) -> bool {
+    text.len() >= 4 && text.iter().all(|digit| is_hex(*digit))
+}
+
+/// Returns the ways in which octets at a place may be written that fill columns or the line, or `None` in place of one.
+fn filling(line: &[u8], place: usize) -> [Option<Digits>; 2] {
+    let (front, text) = line.split_at(place.min(line.len()));
+    match text {
+        [b' ', ..] => [
+            Some(Digits::Columns),
+            if is_offset(front) {
+                Some(Digits::Cells)
+            } else {
+                None
+            },
+        ],
+        [first, second, third, ..]
+            if is_decimal(*first) && is_decimal(*second) && is_decimal(*third) => {
+            [Some(Digits::Columns), None]
+        }
+        _ if place == 0 && is_base64(line) => [Some(Digits::Sextets), None],
+        _ => [None, None],
+    }
 }
 
 /// Returns the ways in which an octet at a place may be written, or `None` in place of one.
@@ -101,6 +151,7 @@ impl Counting {
         Counting {
             counted: ArrayVec::new(),
             octets: ArrayVec::new(),
+            kept: ArrayVec::new(),
         }
     }
 
@@ -127,6 +178,7 @@ impl Counting {
         let place = at.place.min(65536) as u32;
         let _ = self.counted.try_push(Candidate {
             hash,
+            words: front_hash(words_of(form.front())),
             octets,
             place,
             line: line_number,
@@ -139,18 +191,22 @@ impl Counting {
 
     fn count_place(&mut self, line: &[u8], at: usize, place: usize) {
         for digits in notations(line, place) {
-            if let Some(digits) = digits {
-                for kind in 0..KINDS {
-                    self.count(
-                        line,
-                        Spot {
-                            line: at,
-                            place,
-                            digits,
-                            kind,
-                        },
-                    );
-                }
+            self.count_kinds(line, at, place, digits);
+        }
+    }
+
+    fn count_kinds(&mut self, line: &[u8], at: usize, place: usize, digits: Option<Digits>) {
+        if let Some(digits) = digits {
+            for kind in 0..KINDS {
+                self.count(
+                    line,
+                    Spot {
+                        line: at,
+                        place,
+                        digits,
+                        kind,
+                    },
+                );
             }
         }
     }
@@ -162,15 +218,23 @@ impl Counting {
                 count += 1;
                 self.count_place(line, at, place);
             }
+            if place < COLUMNS {
+                for digits in filling(line, place) {
+                    self.count_kinds(line, at, place, digits);
+                }
+            }
         }
     }
 
-    /// Takes out the form with the most octets, of those that one of eight lines has.
-    fn next(&mut self, lines: &Window) -> Option<Candidate> {
+    /// Takes out the form with the most octets, of those that one of eight lines has and of whose words fewer than this many are kept.
+    fn next(&mut self, lines: &Window, most_of_words: usize) -> Option<Candidate> {
         let mut best: usize = 0;
         let mut most: u32 = 0;
         for (at, one) in self.counted.iter().enumerate() {
-            if one.octets > most && 8 * usize::from(one.lines) >= lines.len() {
+            if one.octets > most
+                && 8 * usize::from(one.lines) >= lines.len()
+                && self.kept_of(one.words) < most_of_words
+            {
                 best = at;
                 most = one.octets;
             }
@@ -184,6 +248,11 @@ impl Counting {
         Some(counted)
     }
 
+    /// Returns how many forms with some words are kept.
+    fn kept_of(&self, words: u64) -> usize {
+        self.kept.iter().filter(|kept| **kept == words).count()
+    }
+
     /// Returns the forms whose octets may be a stream, the most octets first.
     pub(crate) fn candidates(&mut self, lines: &Window) -> Candidates {
         let mut forms: Candidates = ArrayVec::new();
@@ -191,12 +260,21 @@ impl Counting {
         for at in 0..lines.len() {
             self.count_line(lines.line(at), at);
         }
+        self.kept.clear();
+        for most_of_words in [STREAM_FRONTS_OF_WORDS, STREAM_FRONTS] {
+            self.keep(&mut forms, lines, most_of_words);
+        }
+        forms
+    }
+
+    /// Adds the forms with the most octets, at most this many with the same words.
+    fn keep(&mut self, forms: &mut Candidates, lines: &Window, most_of_words: usize) {
         for _ in 0..COUNTED {
             if forms.is_full() {
-                break;
+                return;
             }
-            let Some(one) = self.next(lines) else {
-                break;
+            let Some(one) = self.next(lines, most_of_words) else {
+                return;
             };
             if let Some(form) = form_of(
                 lines.line(usize::from(one.line)),
@@ -204,9 +282,9 @@ impl Counting {
                 one.digits,
                 one.kind,
             ) {
+                let _ = self.kept.try_push(one.words);
                 let _ = forms.try_push(form);
             }
         }
-        forms
     }
 }

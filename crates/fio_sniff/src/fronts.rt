@@ -11,6 +11,19 @@ fn split_word(front: &[Piece]) -> (&[Piece], Option<&[Piece]>) {
     (front, None)
 }
 
+/// Returns a front up to its last letter or arrow: those that differ after it differ in numbers.
+pub(crate) fn words_of(front: &[Piece]) -> &[Piece] {
+    for back in 0..front.len() {
+        let end = front.len() - back;
+        if let Piece::Character(character) = front[end - 1]
+            && (character.is_ascii_alphabetic() || matches!(character, b'<' | b'>'))
+        {
+            return &front[..end];
+        }
+    }
+    &front[..0]
+}
+
 /// Returns whether one word, of those between blanks, distinguishes two fronts.
 pub(crate) fn differs_in_a_word(one: &[Piece], other: &[Piece]) -> bool {
     let mut own = one;

@@ -131,11 +131,18 @@ impl Sniffer {
         false
     }
 
-    /// Finds forms of the lines that no form has.
+    /// Finds forms of the lines that no form has: after each search in which there was one, the likeliest guesses of the lines that
+    /// are left are tried, which those of the others had no room for.
     fn search(&mut self, lines: &Window, forms: &mut Forms, is_anywhere: bool, log: Log) {
-        self.choose(lines, is_anywhere);
         for _ in 0..FORMS {
-            if forms.is_full() || !self.next_form(lines, forms, log) {
+            let count = forms.len();
+            self.choose(lines, is_anywhere);
+            for _ in 0..FORMS {
+                if forms.is_full() || !self.next_form(lines, forms, log) {
+                    break;
+                }
+            }
+            if forms.len() == count || forms.is_full() || self.known.lines() >= lines.len() {
                 return;
             }
         }
@@ -219,7 +226,11 @@ impl Sniffer {
         if self.known.messages().saturating_mul(2) < lines.len() {
             let messages = self.streams.search(lines, log.is_few);
             if self.is_stream(messages, &forms) {
-                return self.streams.forms();
+                return if self.streams.has_answer() || log.is_late {
+                    self.streams.forms()
+                } else {
+                    ArrayVec::new()
+                };
             }
         }
         if self.known.has_answer() || log.is_late && self.are_polls(log) {

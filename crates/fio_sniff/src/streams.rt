@@ -37,6 +37,8 @@ pub(crate) struct Streams {
     best: Option<StreamForms>,
     /// Its messages.
     messages: u32,
+    /// Whether one of them is an answer.
+    has_answer: bool,
 }
 
 /// What a stream says.
@@ -107,6 +109,7 @@ impl Streams {
             sure: Set::new(),
             best: None,
             messages: 0,
+            has_answer: false,
         }
     }
 
@@ -154,14 +157,8 @@ impl Streams {
         }
     }
 
-    /// Returns how many messages the stream of some forms has if that shows it, else 0.
-    fn strength(
-        &mut self,
-        forms: &[LineForm],
-        lines: &Window,
-        is_flags: bool,
-        is_few: bool,
-    ) -> u32 {
+    /// Returns what the stream of some forms says.
+    fn sum_of(&mut self, forms: &[LineForm], lines: &Window, is_flags: bool, is_few: bool) -> Sum {
         let mut sum = Sum::default();
         self.stream.clear();
         self.next = 0;
@@ -180,16 +177,18 @@ impl Streams {
                 self.tell(&mut sum, count);
             }
         }
-        sum.strength(self.sure.count(), is_flags, is_few)
+        sum
     }
 
     /// Keeps forms if their stream is the best one.
     fn try_forms(&mut self, own: &[LineForm], lines: &Window, is_few: bool) {
         let is_few = is_few && own.iter().all(|form| form.digits() == Digits::Pairs);
         for is_flags in [true, false] {
-            let messages = self.strength(own, lines, is_flags, is_few);
+            let sum = self.sum_of(own, lines, is_flags, is_few);
+            let messages = sum.strength(self.sure.count(), is_flags, is_few);
             if messages > self.messages {
                 self.messages = messages;
+                self.has_answer = sum.commands < sum.messages;
                 let mut best: StreamForms = ArrayVec::new();
                 for form in own {
                     let mut form = form.copied();
@@ -242,6 +241,11 @@ impl Streams {
             }
         }
         self.messages
+    }
+
+    /// Returns whether the best stream has an answer.
+    pub(crate) fn has_answer(&self) -> bool {
+        self.has_answer
     }
 
     /// Returns the forms of the best stream.

@@ -110,9 +110,7 @@ none_named name count all none Record = none 3 (omega (arith, all))
 pub names_tool : (first : Text) (tool : Tool) → NamesTool (first ∷ name_of tool ∷ []) tool
 unfolding clap_on_literals
 names_tool first Show = record { faultless = refl; named = refl }
-names_tool first Simulate = record { faultless = refl; named = refl }
-names_tool first Check = record { faultless = refl; named = refl }
-names_tool first Record = record { faultless = refl; named = refl }
+names_tool first _ = record { faultless = refl; named = refl }
 
 -- ---- words name one tool at most
 

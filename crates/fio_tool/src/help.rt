@@ -111,7 +111,7 @@ Writes:  what the CPU of the transcript recorded: `record N`, and then its N ite
          the first such breach, and then `line L input I breaks RULE`, for an answer
          `line L breaks RULE`, with its line and one of:
            order      An entry is later than the entry above it, or has its time and a
-                      higher input.
+                      higher input, if no block without C ends between them.
            fresh      An entry is later than the stamp of the latest block without C,
                       which had all entries up to that stamp.
            alternate  The entries of an input have the states 0 and 1 in turn.

@@ -13,7 +13,7 @@
 //!
 //! # What is proved
 //!
-//! Each tool (`show`, `simulate`, `check`, `record`) takes at most 1,048,577 octets, and writes nothing if a read failed or
+//! Each tool (`run_tool`) takes at most 1,048,577 octets, and writes nothing if a read failed or
 //! memory ran out. `choose` gives the tool that `clap` finds (`tool`, `fault`), and each tool's name gives that tool
 //! (`a_name_names_its_tool`). `run_program` ends with a status of 0 to 3 (`known`, `reported`, `named`, `no_subcommand`,
 //! `refused`), and reads nothing if no tool is named (`unread`).
@@ -44,5 +44,5 @@ pub use endings::{Ending, ToolFault};
 pub use fio_check::{Line, Rule, Verdict, check_trace};
 pub use program::run_program;
 pub use reports::{check_text, record_text, show_text, simulate_text};
-pub use tools::{Tool, check, record, show, simulate};
+pub use tools::{Tool, run_tool};
 pub use transcript::{TraceError, read_trace};

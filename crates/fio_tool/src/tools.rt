@@ -94,7 +94,7 @@ impl Tool {
 ///
 /// # Errors
 /// `Read`, `Write` and `Memory`, as at `ToolFault`. On `Read` and `Memory` nothing has been written.
-pub(crate) fn run_tool<R: Read, W: Write>(
+pub fn run_tool<R: Read, W: Write>(
     alloc: Global,
     tool: Tool,
     reader: &mut R,
@@ -106,68 +106,4 @@ pub(crate) fn run_tool<R: Read, W: Write>(
     let input = read_input(alloc, reader)?;
     let report = tool.text(alloc, input.as_slice())?;
     write_report(writer, &report)
-}
-
-/// Writes what each frame of the input says: the text of `show_text`. The whole input is read, up to one octet more than it
-/// may have; the whole text is made, and then written and flushed.
-///
-/// # Errors
-/// `Read`, `Write` and `Memory`, as at `ToolFault`. On `Read` and `Memory` nothing has been written.
-pub fn show<R: Read, W: Write>(
-    alloc: Global,
-    reader: &mut R,
-    writer: &mut W,
-) -> Result<Ending, ToolFault>
-    ensures { HasRun Tool.Show result (R.remaining reader.old) (R.remaining reader.new)
-        (W.contents writer.old) (W.contents writer.new) }
-{
-    run_tool(alloc, Tool::Show, reader, writer)
-}
-
-/// Writes the run of the script in the input: the text of `simulate_text`. The whole input is read, up to one octet more
-/// than it may have; the whole text is made, and then written and flushed.
-///
-/// # Errors
-/// `Read`, `Write` and `Memory`, as at `ToolFault`. On `Read` and `Memory` nothing has been written.
-pub fn simulate<R: Read, W: Write>(
-    alloc: Global,
-    reader: &mut R,
-    writer: &mut W,
-) -> Result<Ending, ToolFault>
-    ensures { HasRun Tool.Simulate result (R.remaining reader.old) (R.remaining reader.new)
-        (W.contents writer.old) (W.contents writer.new) }
-{
-    run_tool(alloc, Tool::Simulate, reader, writer)
-}
-
-/// Writes whether the transcript in the input keeps the rules: the text of `check_text`. The whole input is read, up to one
-/// octet more than it may have; the whole text is made, and then written and flushed.
-///
-/// # Errors
-/// `Read`, `Write` and `Memory`, as at `ToolFault`. On `Read` and `Memory` nothing has been written.
-pub fn check<R: Read, W: Write>(
-    alloc: Global,
-    reader: &mut R,
-    writer: &mut W,
-) -> Result<Ending, ToolFault>
-    ensures { HasRun Tool.Check result (R.remaining reader.old) (R.remaining reader.new)
-        (W.contents writer.old) (W.contents writer.new) }
-{
-    run_tool(alloc, Tool::Check, reader, writer)
-}
-
-/// Writes the record of the CPU in the input's transcript: the text of `record_text`. The whole input is read, up to one
-/// octet more than it may have; the whole text is made, and then written and flushed.
-///
-/// # Errors
-/// `Read`, `Write` and `Memory`, as at `ToolFault`. On `Read` and `Memory` nothing has been written.
-pub fn record<R: Read, W: Write>(
-    alloc: Global,
-    reader: &mut R,
-    writer: &mut W,
-) -> Result<Ending, ToolFault>
-    ensures { HasRun Tool.Record result (R.remaining reader.old) (R.remaining reader.new)
-        (W.contents writer.old) (W.contents writer.new) }
-{
-    run_tool(alloc, Tool::Record, reader, writer)
 }

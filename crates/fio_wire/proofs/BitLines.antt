@@ -1,5 +1,5 @@
 -- A decoder of bits says of a line exactly what its parts between flags say.
-use Rattle.std.proofs.Common.{◌≡◌, ℕ, zero, suc, ◌+◌, ◌/◌, ◌<◌, ◌≤◌, List, [], ◌∷◌, ◌++◌, length, Bool, true, false, refl, sym, ap, ap₂, ◌∙◌, arith, append_assoc, ◌⊎◌, inl, inr}
+use Rattle.std.proofs.Common.{◌≡◌, ℕ, zero, suc, ◌+◌, ◌/◌, ◌<◌, ◌≤◌, List, [], ◌∷◌, ◌++◌, length, Bool, true, false, refl, sym, ap, ap₂, ◌∙◌, arith, append_assoc, inl, inr}
 use Rattle.std.specs.Prelude.{◌==◌, ◌&&◌, not, nat_lt, if◌then◌else◌, fold, flat_map, map}
 use Rattle.std.specs.List.{AllByRecursion}
 use Rattle.std.proofs.lemmas.Bool.Decides.{nat_tests}
@@ -9,8 +9,9 @@ use Rattle.std.proofs.lemmas.List.Sums.{fold-append}
 use Rattle.fio_wire.specs.Frames.{Said, Frame, Damage, judged}
 use Rattle.fio_wire.specs.declared.limits.TheConstants.{HELD_OCTETS}
 use Rattle.fio_wire.proofs.Batch.{said_both}
+use Rattle.fio_wire.proofs.Folding.{last_or, rest_holds, first_holds}
 use Rattle.fio_wire.specs.Detection.{low_bits}
-use Rattle.fio_wire.specs.Bits.{Reading, Packing, BitPhase, Hunting, Within, Lost, Whole, fresh, none_packed, packed, flushed, ending, says_flag, after_flag, aborted, after_zero, begun, says, next, said_of, said_in, destuffed, bit_stuffed, line_bits, flag_bits, HasNoSix, is_none}
+use Rattle.fio_wire.specs.Bits.{Reading, Packing, BitPhase, Within, Whole, fresh, none_packed, packed, flushed, ending, says_flag, after_flag, aborted, after_zero, begun, says, next, said_of, said_in, destuffed, bit_stuffed, line_bits, flag_bits, HasNoSix, is_none}
 
 -- in a frame
 abbrev pub at : Packing → ℕ → Bool → Reading
@@ -18,14 +19,12 @@ at packing ones is_pending = record { packing = packing; ones = ones; is_pending
 
 after_whole : (packing : Packing) (bits : List Bool) → said_of (record { packing = packing; ones = 0; is_pending = false; phase = Whole }) bits ≡ said_of fresh bits
 after_whole packing [] = refl
-after_whole packing (true ∷ bits) = refl
-after_whole packing (false ∷ bits) = refl
+after_whole packing _ = refl
 
 -- what is said after a flag, whatever that said
 flagged : (said : List Said) (packing : Packing) (rest : List Bool) → said_of (after_flag said packing) rest ≡ said_of fresh rest
-flagged [] packing rest = refl
 flagged (Frame frame ∷ more) packing rest = after_whole packing rest
-flagged (Damage ∷ more) packing rest = refl
+flagged _ packing rest = refl
 
 below_six : (n : ℕ) → n ≤ 5 → nat_lt n 6 ≡ true
 below_six n h = grind (arith, nat_tests)
@@ -109,10 +108,8 @@ parts_said (part ∷ parts) all =
 -- six ones and a 0, behind a 0
 six_on : (packing : Packing) (b : Bool) (phase : BitPhase) (rest : List Bool)
     → said_of (fold next (record { packing = packing; ones = 0; is_pending = b; phase = phase }) (true ∷ true ∷ true ∷ true ∷ true ∷ true ∷ false ∷ [])) rest ≡ said_of fresh rest
-six_on packing b Hunting rest = refl
 six_on packing b Within rest = flagged (ending packing) packing rest
-six_on packing b Lost rest = refl
-six_on packing b Whole rest = refl
+six_on packing b _ rest = refl
 
 six_from : (reading : Reading) (rest : List Bool) → reading.ones ≡ 0
     → said_of (fold next reading (true ∷ true ∷ true ∷ true ∷ true ∷ true ∷ false ∷ [])) rest ≡ said_of fresh rest
@@ -204,16 +201,6 @@ all_valued (suc n) = if value_of n == n then all_valued n else false
 
 each_octet : all_valued 256 ≡ true
 each_octet = refl
-
-last_or : (k n : ℕ) → k < suc n → (k ≡ n) ⊎ (k < n)
-last_or k n h = grind arith
-
-first_holds : (a b : ℕ) (rest : Bool) → (if a == b then rest else false) ≡ true → a ≡ b
-first_holds a b rest h = grind (arith, nat_tests)
-
-rest_holds : (t rest : Bool) → (if t then rest else false) ≡ true → rest ≡ true
-rest_holds true rest h = h
-rest_holds false rest h = absurd (false≢true h)
 
 by_octets : (n k : ℕ) → all_valued n ≡ true → k < n → value_of k ≡ k
 by_octets zero k all h = absurd (omega (arith, h))

@@ -10,8 +10,10 @@ use Rattle.fio_wire.specs.Bits.{Packing, none_packed, packed, with_value, said_i
 use Rattle.fio_wire.specs.Laws.{AreOctets, Flips, IsDetectable, OneFlip}
 use Rattle.fio_wire.proofs.BitLines.{octets_said, destuffed_again, stuffed_has_no_six}
 use Rattle.fio_wire.proofs.OneFlip.{near, IsNear}
-use Rattle.fio_wire.proofs.Division.{bit_cases, low_is, pow_next}
-use Rattle.fio_wire.proofs.Sent.{Framed, found, framed, judged_damage, length_bits, same_length}
+use Rattle.fio_wire.proofs.Division.{low_is, pow_next}
+use Rattle.fio_wire.proofs.Sent.{Framed, found, framed, judged_damage, same_length}
+use Rattle.fio_wire.proofs.Lengths.{length_line_bits}
+use Rattle.fio_message.proofs.Bits.{bit_cases}
 
 -- ---- Bits as numbers
 
@@ -172,9 +174,6 @@ partial_said part h =
 
 -- ---- One flip
 
-length_line : (octets : List ℕ) → length (line_bits octets) ≡ 8 * length octets
-length_line octets = sym (length_numbers (line_bits octets)) ∙ ap length (line_numbers octets) ∙ length_bits octets
-
 length_flip : (bits others : List Bool) → OneFlip bits others → length others ≡ length bits
 length_flip [] others flip = absurd flip
 length_flip (b ∷ bits) [] flip = absurd flip
@@ -184,7 +183,7 @@ length_flip (b ∷ bits) (c ∷ others) (inr flip) = ap suc (length_flip bits ot
 turned_said : (octets : List ℕ) (part : List Bool) → AreOctets octets → is_frame octets ≡ true → OneFlip (line_bits octets) (destuffed 0 part) → said_in part ≡ Damage ∷ []
 turned_said octets part all frame flip =
     let is : Framed octets = framed octets frame in
-    let size : length (destuffed 0 part) ≡ 8 * length octets = length_flip (line_bits octets) (destuffed 0 part) flip ∙ length_line octets in
+    let size : length (destuffed 0 part) ≡ 8 * length octets = length_flip (line_bits octets) (destuffed 0 part) flip ∙ length_line_bits octets in
     let got : Octets (destuffed 0 part) = octets_of (length octets) (destuffed 0 part) size in
     let e : OneError (line_bits octets) (destuffed 0 part) = one_error (line_bits octets) (destuffed 0 part) flip in
     let f : Flips e.errors octets got.octets = record {
@@ -210,7 +209,7 @@ one_flip_is_found octets part all frame flip free =
     elim near_octets [
       | inl one ↦ turned_said octets part all frame one
       | inr other ↦ (elim other [
-        | inl more ↦ partial_said part (λ e. omega (arith, more, e, length_line octets))
-        | inr fewer ↦ partial_said part (λ e. omega (arith, fewer, e, length_line octets))
+        | inl more ↦ partial_said part (λ e. omega (arith, more, e, length_line_bits octets))
+        | inr fewer ↦ partial_said part (λ e. omega (arith, fewer, e, length_line_bits octets))
       ])
     ]

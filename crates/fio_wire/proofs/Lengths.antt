@@ -45,7 +45,7 @@ few_bits [] ones le = omega arith
 few_bits (false ∷ bits) ones le = omega (arith, few_bits bits 0 (omega arith))
 few_bits (true ∷ bits) ones le = few_after_one (ones == 4) ones bits le refl (few_bits bits)
 
-length_line_bits : (octets : List ℕ) → length (line_bits octets) ≡ 8 * length octets
+pub length_line_bits : (octets : List ℕ) → length (line_bits octets) ≡ 8 * length octets
 length_line_bits [] = refl
 length_line_bits (octet ∷ octets) =
     length-append (map (λ bit. bit == 1) (low_bits 8 octet)) (line_bits octets) ∙ omega (arith, length_line_bits octets)

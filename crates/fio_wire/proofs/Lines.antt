@@ -23,9 +23,8 @@ phase_of false = Within
 
 -- what is said after a flag, whatever that said
 after_flag : (said : List Said) (rest : List ℕ) → said_of (ended_by said) rest ≡ said_of fresh rest
-after_flag [] rest = refl
 after_flag (Frame frame ∷ more) rest = after_whole frame rest
-after_flag (Damage ∷ more) rest = refl
+after_flag _ rest = refl
 
 -- at the flag: what is held is judged
 flagged : (b : Bool) (octets rest : List ℕ)

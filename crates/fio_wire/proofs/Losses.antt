@@ -14,14 +14,12 @@ use Rattle.fio_wire.proofs.Lines.{no_flag, part_said}
 -- after a frame the decoder goes on as after a flag
 after_whole : (octets : List ℕ) (line : List Arrival) → said_of_arrivals (record { octets = octets; phase = Whole }) line ≡ said_of_arrivals fresh line
 after_whole octets [] = refl
-after_whole octets (Octet o ∷ line) = refl
-after_whole octets (Loss ∷ line) = refl
+after_whole octets _ = refl
 
 -- what is said after a flag, whatever that said
 after_flag : (said : List Said) (rest : List Arrival) → said_of_arrivals (ended_by said) rest ≡ said_of_arrivals fresh rest
-after_flag [] rest = refl
 after_flag (Frame frame ∷ more) rest = after_whole frame rest
-after_flag (Damage ∷ more) rest = refl
+after_flag _ rest = refl
 
 flag_on : (reading : Reading) (rest : List Arrival)
     → said_of_arrivals reading (Octet FLAG ∷ rest) ≡ says reading FLAG ++ said_of_arrivals fresh rest
@@ -53,13 +51,9 @@ kept_within false octets o = tt
 pass : (phase : Phase) (octets : List ℕ) (o : ℕ) (rest : List Arrival) → o ≢ FLAG → IsWithin phase
     → said_of_arrivals (record { octets = octets; phase = phase }) (Octet o ∷ rest) ≡ said_of_arrivals (taken phase octets o) rest
 pass Hunting octets o rest h is = absurd is
-pass Within octets o rest h is =
-    ap (λ b. (if b then ending Within octets else []) ++ said_of_arrivals (if b then ended_by (ending Within octets) else taken Within octets o) rest) (no_flag o h)
-pass Escaped octets o rest h is =
-    ap (λ b. (if b then ending Escaped octets else []) ++ said_of_arrivals (if b then ended_by (ending Escaped octets) else taken Escaped octets o) rest) (no_flag o h)
-pass Lost octets o rest h is =
-    ap (λ b. (if b then ending Lost octets else []) ++ said_of_arrivals (if b then ended_by (ending Lost octets) else taken Lost octets o) rest) (no_flag o h)
 pass Whole octets o rest h is = absurd is
+pass other octets o rest h is =
+    ap (λ b. (if b then ending other octets else []) ++ said_of_arrivals (if b then ended_by (ending other octets) else taken other octets o) rest) (no_flag o h)
 
 abbrev escaped_if : Bool → List ℕ → ℕ → Reading
 escaped_if b octets o = if b then record { octets = octets; phase = Escaped } else kept octets o
@@ -69,19 +63,16 @@ escaped_or_kept true octets o = tt
 escaped_or_kept false octets o = kept_within (nat_lt (length octets) HELD_OCTETS) octets o
 
 taken_within : (phase : Phase) (octets : List ℕ) (o : ℕ) → IsWithin phase → IsWithin (taken phase octets o).phase
-taken_within Hunting octets o is = absurd is
 taken_within Within octets o is = escaped_or_kept (o == ESCAPE) octets o
 taken_within Escaped octets o is = kept_within (nat_lt (length octets) HELD_OCTETS) octets (bit_xor o STUFFED)
 taken_within Lost octets o is = tt
-taken_within Whole octets o is = absurd is
+taken_within _ octets o is = absurd is
 
 lost_at : (phase : Phase) (octets : List ℕ) (rest : List Arrival) → IsWithin phase
     → said_of_arrivals (record { octets = octets; phase = phase }) (Loss ∷ rest) ≡ said_of_arrivals (record { octets = octets; phase = Lost }) rest
 lost_at Hunting octets rest is = absurd is
-lost_at Within octets rest is = refl
-lost_at Escaped octets rest is = refl
-lost_at Lost octets rest is = refl
 lost_at Whole octets rest is = absurd is
+lost_at _ octets rest is = refl
 
 -- a part with a loss, and the flag behind it
 lossy : (reading : Reading) (part rest : List Arrival) → ArrivesNoFlag part → has_loss part ≡ true → IsWithin reading.phase

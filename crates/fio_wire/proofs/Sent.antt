@@ -5,7 +5,7 @@ use Rattle.std.specs.List.{AllByRecursion}
 use Rattle.std.specs.Fn.{iterate}
 use Rattle.std.specs.Int.Bits.{bit_xor, xor_self, xor_zero_r, xor_assoc}
 use Rattle.std.proofs.lemmas.Bool.Decides.{nat_tests}
-use Rattle.std.proofs.lemmas.Bool.{false≢true}
+use Rattle.std.proofs.lemmas.Bool.{false≢true, and_parts}
 use Rattle.std.proofs.lemmas.List.{append-nil, length-append, take_at}
 use Rattle.std.proofs.lemmas.Nat.Bits.{same_from_bits_below, bit_at_xor, bit_at_not, bit_at_ones, bit_at-lt}
 use Rattle.std.specs.Int.{bit_at, w16}
@@ -20,7 +20,8 @@ use Rattle.fio_wire.specs.Frames.{Frame, Damage, with_check, frame_of, is_frame,
 use Rattle.fio_wire.specs.Octets.{start, said_of, with_flags, stuffed, unstuffed, is_open, said_in, HasNoFlag}
 use Rattle.fio_message.specs.declared.limits.TheConstants.{FRAME_OCTETS}
 use Rattle.fio_wire.specs.declared.limits.TheConstants.{FLAG, ESCAPE, STUFFED, HELD_OCTETS, GOOD}
-use Rattle.fio_wire.proofs.Division.{divided_xor, divided_pos, divided_lt, xor_cancel, pow_next, octet_is_bits, after_both, steps_are_bits, iterated_lt, bit_cases, found_if, odd_found, two_found, burst_found, octets_are_bits}
+use Rattle.fio_wire.proofs.Division.{divided_xor, divided_pos, divided_lt, xor_cancel, pow_next, octet_is_bits, after_both, steps_are_bits, iterated_lt, found_if, odd_found, two_found, burst_found, octets_are_bits}
+use Rattle.fio_message.proofs.Bits.{bit_cases}
 
 -- ---- Stuffing
 
@@ -145,14 +146,6 @@ check_is_right octets all =
 
 -- ---- Damage
 
-pub and_first : (a b : Bool) → (a && b) ≡ true → a ≡ true
-and_first true b h = refl
-and_first false b h = absurd (false≢true h)
-
-pub and_second : (a b : Bool) → (a && b) ≡ true → b ≡ true
-and_second true b h = h
-and_second false b h = absurd (false≢true h)
-
 -- What a frame is.
 pub record Framed (octets : List ℕ) : Type 0 where
   pub least : 4 < length octets
@@ -161,13 +154,13 @@ pub record Framed (octets : List ℕ) : Type 0 where
 
 pub framed : (octets : List ℕ) → is_frame octets ≡ true → Framed octets
 framed octets frame =
-    let more : (nat_lt (length octets) (HELD_OCTETS + 1) && is_checked octets) ≡ true = and_second (nat_lt 4 (length octets)) (nat_lt (length octets) (HELD_OCTETS + 1) && is_checked octets) frame in
-    let low : nat_lt 4 (length octets) ≡ true = and_first (nat_lt 4 (length octets)) (nat_lt (length octets) (HELD_OCTETS + 1) && is_checked octets) frame in
-    let high : nat_lt (length octets) (HELD_OCTETS + 1) ≡ true = and_first (nat_lt (length octets) (HELD_OCTETS + 1)) (is_checked octets) more in
+    let more : (nat_lt (length octets) (HELD_OCTETS + 1) && is_checked octets) ≡ true = (and_parts (nat_lt 4 (length octets)) (nat_lt (length octets) (HELD_OCTETS + 1) && is_checked octets) frame).1 in
+    let low : nat_lt 4 (length octets) ≡ true = (and_parts (nat_lt 4 (length octets)) (nat_lt (length octets) (HELD_OCTETS + 1) && is_checked octets) frame).0 in
+    let high : nat_lt (length octets) (HELD_OCTETS + 1) ≡ true = (and_parts (nat_lt (length octets) (HELD_OCTETS + 1)) (is_checked octets) more).0 in
     record {
       least = grind (arith, nat_tests);
       most = grind (arith, nat_tests);
-      right = and_second (nat_lt (length octets) (HELD_OCTETS + 1)) (is_checked octets) more;
+      right = (and_parts (nat_lt (length octets) (HELD_OCTETS + 1)) (is_checked octets) more).1;
     }
 
 register_of : (octets : List ℕ) → is_checked octets ≡ true → fold with_octet (2 ^ 16 - 1) octets ≡ GOOD
@@ -325,10 +318,9 @@ arrive fates all =
 
 few_of : (n : ℕ) (errors : List Bool) → flips errors ≡ n → 1 ≤ n → n ≤ 3 → length errors < 32768 → IsDetectable errors
 few_of zero errors is least most size = absurd (omega (arith, least))
-few_of (suc zero) errors is least most size = inl (omega (arith, is))
 few_of (suc (suc zero)) errors is least most size = inr (inl (is, size))
-few_of (suc (suc (suc zero))) errors is least most size = inl (omega (arith, is))
 few_of (suc (suc (suc (suc n)))) errors is least most size = absurd (omega (arith, most))
+few_of _ errors is least most size = inl (omega (arith, is))
 
 pub few : (errors : List Bool) → 1 ≤ flips errors → flips errors ≤ 3 → length errors < 32768 → IsDetectable errors
 few errors least most size = few_of (flips errors) errors refl least most size

@@ -3,7 +3,7 @@ ghost use Rattle.std.specs.Prelude.{◌≡◌, ◌≤◌, ◌<◌, ◌+◌, ◌*
 ghost use Rattle.fio_message.specs.declared.limits.TheConstants.{FRAME_OCTETS};
 ghost use Rattle.fio_wire.specs.Octets.{sent, stuffed_octet};
 
-use crate::checks::with_octet;
+use crate::checks::{check_octets, with_octet};
 use crate::limits::{ESCAPE, FLAG, STUFFED};
 use fio_message::FRAME_OCTETS;
 
@@ -57,8 +57,8 @@ pub fn write(address: u8, control: u8, message: &[u8], out: &mut [u8]) -> usize
         count = put(out, count, *octet);
         register = with_octet(register, *octet);
     }
-    let check = !register;
-    count = put(out, count, (check % 256) as u8);
-    count = put(out, count, (check / 256) as u8);
+    let [low, high] = check_octets(!register);
+    count = put(out, count, low);
+    count = put(out, count, high);
     put_one(out, count, FLAG)
 }

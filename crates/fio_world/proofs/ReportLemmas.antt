@@ -1,4 +1,4 @@
-use Rattle.fio_world.proofs.Names.{◌≡◌, ℕ, ◌+◌, ◌<◌, ◌≤◌, suc, List, ◌∷◌, ◌++◌, Option, Some, None, true, false, drop, length, map, get_or, refl, sym, ◌∙◌, ap, add-one, drop-cons, append_assoc, IsSomeAnd, drop_all, Event, WorldError, Ends, Machine, Refusal, NotSent, OutOfOrder, PollIsOurs, refusal, after, outcome_line, refused_line, refusal_in, ending_text, Report, after_text, report_from, unless_refused, Settings, ShowsMachine, IsDone, IsFault, outcome_of, error_of}
+use Rattle.fio_world.proofs.Names.{◌≡◌, ℕ, ◌+◌, ◌<◌, ◌≤◌, suc, List, ◌∷◌, ◌++◌, Option, Some, None, true, false, drop, length, map, get_or, refl, sym, ◌∙◌, ap, add-one, drop-cons, append_assoc, IsSomeAnd, drop_all, Event, WorldError, Ends, Machine, Refusal, NotSent, refusal, after, outcome_line, refused_line, refusal_in, ending_text, Report, after_text, report_from, unless_refused, Settings, ShowsMachine, IsDone, IsFault, outcome_of, error_of}
 use Rattle.std.proofs.Math.ListN.{get_or-map}
 use Rattle.fio_world.specs.declared.outcome.Outcome.{Outcome}
 
@@ -45,8 +45,7 @@ ReportGoesOn-done settings first events report text place world new event outcom
 -- the refusal in the fault of a refusal is that refusal
 refusal_in-error_of : (reason : Refusal) → refusal_in (error_of reason) ≡ Some reason
 refusal_in-error_of (NotSent index) = refl
-refusal_in-error_of (OutOfOrder index last) = refl
-refusal_in-error_of PollIsOurs = refl
+refusal_in-error_of _ = refl
 
 -- if the machine refuses an event, the report ends with its line
 ends_refused : (number : ℕ) (text whole line : List ℕ) (reason : Option Refusal) (rest report : Report) (takes : Type 0) (fault : WorldError)

@@ -18,7 +18,7 @@ use Rattle.fio_cpu.specs.Hearing.{heard_as, after_hearing, AddsItems}
 use Rattle.fio_world.specs.declared.outcome.Outcome.{Outcome}
 use Rattle.fio_world.specs.declared.world.effect.Effect.{Effect}
 use Rattle.fio_world.specs.Effects.{octets_numbered, outcome_of_effect, result_in}
-use Rattle.fio_link.proofs.Places.{get_push}
+use Rattle.fio_module.proofs.ListParts.{get_last}
 use Rattle.fio_module.specs.Module as modules
 use Rattle.fio_link.specs.declared.event.Event.TheVariants as events
 use Rattle.fio_world.specs.declared.outcome.Outcome.TheVariants as outcomes
@@ -89,7 +89,7 @@ pub newest : (frames old : List (List ℕ)) (frame : List ℕ) (count : ℕ) →
     → outcomes.Sent count (record { items = octets_numbered frames count }) ≡ outcomes.Sent (length old + 1) (record { items = frame })
 newest frames old frame count added last =
     let next : count ≡ suc (length old) = last ∙ ap length added ∙ length_push old frame ∙ add-one (length old) in
-    let octets : octets_numbered frames (suc (length old)) ≡ frame = ap (λ fs. octets_numbered fs (suc (length old))) added ∙ ap (λ found. unwrap_or found []) (get_push old frame) in
+    let octets : octets_numbered frames (suc (length old)) ≡ frame = ap (λ fs. octets_numbered fs (suc (length old))) added ∙ ap (λ found. unwrap_or found []) (get_last old frame) in
     rw (next, octets, add-one) refl
 
 -- a refusal is the same fault whether the event takes memory or not

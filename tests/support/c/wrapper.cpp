@@ -48,9 +48,6 @@ static void reads_and_writes() {
     auto cut = fio2070::read_block({BLOCK.data(), 1});
     CHECK(!cut && cut.fault().text() == "wrong length needed 8 got 1" && cut.fault().needed() == 8);
     CHECK(cut.fault().got() == 1 && cut.fault().code() == 0);
-    CHECK(fio2070::read_outputs_answer({0xb7, 0, 1, 2, 3, 4}).value() == 0x01020304);
-    CHECK(fio2070::read_outputs_answer({0xb7, 0}).fault().text() == "wrong length needed 6 got 2");
-    CHECK(*fio2070::read_identification({0xbc, 254}) == 254 && fio2070::read_identification(BLOCK).fault().code() == 0xb6);
     CHECK(!fio2070::encode_answer(fio2070::Answer{}) && !fio2070::decode_answer({0x36, 5}) && !fio2070::read_block({0xb1}));
     CHECK(fio2070::body(BLOCK).size() == 10 && fio2070::body({}).empty());
 }
@@ -187,6 +184,8 @@ static void has_texts() {
     fio2070_line line{};
     line.rate = 614400, line.waiting = 1024, line.per_block = 255, line.inputs = 64, line.filter = 5;
     CHECK(fio2070::plan(line)->scans == 4 && fio2070::plan(line)->late == 7);
+    line.drift = 100, line.jitter = 2;
+    CHECK(fio2070::plan(line)->scans == 16 && fio2070::plan(line)->late == 35);
     line.rate = 153600;
     CHECK(!fio2070::plan(line));
     CHECK(fio2070::wire_check({'1', '2', '3', '4', '5', '6', '7', '8', '9'}) == 0x906e);
@@ -264,11 +263,15 @@ static void judges_a_log() {
                              "00:00:02.000 TX 36 06\n00:00:02.001 RX b6 07 00 00 00 00 00 06\nRX b6 0";
     auto judge = fio2070::LogJudge::start();
     fio2070::LogCounts counts;
+    fio2070::LogStretches stretches;
     std::vector<fio2070_judge_outcome> found;
+    std::vector<fio2070_log_seam> seams;
     std::vector<std::uint64_t> taken;
     const auto take = [&] {
-        for (const auto &one : judge->batch(batch)) found.push_back(one);
+        const auto outcomes = judge->batch(batch);
+        found.insert(found.end(), outcomes.begin(), outcomes.end());
         for (const auto one : counts.batch(batch)) taken.push_back(one);
+        for (const auto &one : stretches.batch(batch, outcomes)) seams.push_back(one);
     };
     CHECK(reader.read(octets(text), batch) == text.size()), take(), reader.end();
     CHECK(reader.read({}, batch) == 0), take();
@@ -277,6 +280,8 @@ static void judges_a_log() {
     CHECK(forms.size() == 2 && forms[0].lines == 2 && forms[1].lines == 2 && forms[0].from + forms[1].from == 3);
     CHECK(found.size() == 4 && found[2].kind == FIO2070_OUTCOME_KEPT && found[3].rule == FIO2070_RULE_NUMBER && found[3].got == 7);
     CHECK(taken == std::vector<std::uint64_t>({3000, 1000}) && counts->polls == 2 && (*counts).frames == 4);
+    CHECK(seams.size() == 1 && seams[0].cause == FIO2070_SEAM_MISSING && seams[0].missing == 1);
+    CHECK(stretches->blocks == 2 && (*stretches).missing_blocks == 1);
 }
 
 // Of a batch the lines that a mask takes: the command that is not, between a poll and its answer, breaks no rule.

@@ -10,8 +10,9 @@ from support.gate.parts import BODIES, LIBRARY, TOP, has
 from support.gate.runs import Part
 
 ARCHIVE, WASM, AARCH64 = ('crates/fio_c/out/' + name for name in ('libfio_c.a', 'wasm64-unknown-unknown', 'aarch64-unknown-linux-gnu'))
-# The checks that are run in the copy, since `rt ci` needs the folders of the crates for itself.
-IN_COPY = ('embedding', 'portable', 'portable-instructions')
+# The checks that are run in the copy, since `rt ci` needs the folders of the crates for itself; and then those that need all libraries
+# there, which they would prove once more.
+AT_ONCE, OF_ALL = ('embedding', 'portable', 'portable-instructions'), ('release-files',)
 
 
 class Built:
@@ -67,16 +68,22 @@ class Built:
         library.judge('the archives are made', not fault, fault)
         self.runs.finish(library)
         self.made.set()
-        for name in IN_COPY:
-            one = self.part(name)
-            one.words = [os.path.join(self.copy, one.words[0]), *one.words[1:]]
-            self.runs.run(one)
+        for name in AT_ONCE:
+            self.run_in_copy(name)
         taking.join()
+        for name in OF_ALL:
+            self.run_in_copy(name)
+
+    def run_in_copy(self, name):
+        """Runs a check in the copy."""
+        one = self.part(name)
+        one.words = [os.path.join(self.copy, one.words[0]), *one.words[1:]]
+        self.runs.run(one)
 
     def try_bodies(self):
         """Tries the wrong bodies, those of each crate as soon as the libraries that it uses exist."""
         bodies = self.part(BODIES)
-        bodies.words = [os.path.join(self.copy, bodies.words[0]), *bodies.words[1:], '--known', os.path.join(TOP, 'wrong-bodies/out/known'),
+        bodies.words = [os.path.join(self.copy, bodies.words[0]), *bodies.words[1:],
                         '--lanes', str(len(os.sched_getaffinity(0))), '--until', self.taken]
         self.runs.run(bodies)
 

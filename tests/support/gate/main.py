@@ -1,14 +1,15 @@
 """Checks the repository.
 
 `./test` checks what a change can break on this machine. It proves the crates that are not as they were proved last, by the list
-tests/proved.sums, and those that rest on them, tries the wrong bodies (functions with a planted bug) of crates that changed since their
-last trial here, and runs the quick form of each check in tests/. `./test --all` does what a merge waits for: it proves all by `rt ci`,
-whatever the list says, tries the wrong bodies of each promise, and runs each check in its whole form; it fails if the list is not
-that of the tree.
+tests/proved.sums, and those that rest on them, tries the wrong bodies (functions with a planted bug) of crates that changed, and runs
+the quick form of each check in tests/. `./test --all` does what a merge waits for: it proves all by `rt ci`, whatever the list says,
+tries the wrong bodies of each crate that is not as in the list tests/tried.sums, and runs each check in its whole form; it fails if the
+list of what was proved is not that of the tree. `./test --release` does what a release waits for: the same with all wrong bodies, and
+with more seeds and cases.
 
 A check is an executable file of tests/, whose last line is `N passed, M failed`. At the end `./test` says what each part cost, what
-is left to `--all`, what failed and how that is run by itself, and what was skipped and why; its last line gives the totals, and the
-status is 1 if something failed.
+is left to `--all` or `--release`, what was skipped and why, and what failed and how that is run by itself; its last line gives the
+totals, and the status is 1 if something failed.
 
 Without the Rattle kit, and with it if nothing changed since dist/ was made, the checks run on what is made from dist/."""
 
@@ -16,6 +17,7 @@ import argparse
 import concurrent.futures
 import filecmp
 import os
+import re
 import shlex
 import signal
 import sys
@@ -26,29 +28,32 @@ import time
 sys.path.insert(0, os.path.dirname(os.path.dirname(os.path.dirname(os.path.realpath(__file__)))))
 
 from support.gate import proved
-from support.gate.built import ARCHIVE, IN_COPY, Built
+from support.gate.built import ARCHIVE, AT_ONCE, OF_ALL, Built
 from support.gate.parts import (BODIES, GATE, LIBRARY, ONLY_ALL, PROOFS, TOP, WITHOUT_LIBRARY, WITH_KIT, WITH_MAKE, checks, costs, has,
                                 is_of_these_sources, lacking, names, path_without_kit, write_costs)
-from support.gate.report import Report, minutes
+from support.gate.report import Report, minutes, told
 from support.gate.runs import Part, Runs
+from support.gate.spent import watched
 
 LAST = os.path.join(TOP, 'out', 'test-seconds')
 
 
 def words():
     """What the command line says."""
-    parser = argparse.ArgumentParser(prog='./test', usage='./test [--all] [--list] [--write] [--costs] [PART.. [-k WORD]]', description=__doc__,
+    parser = argparse.ArgumentParser(prog='./test', usage='./test [--all | --release] [--list] [--write] [--costs] [PART.. [-k WORD]]', description=__doc__,
                                      formatter_class=argparse.RawDescriptionHelpFormatter)
     parser.add_argument('part', nargs='*', metavar='PART', help='these parts alone, one after another; --list names all')
     parser.add_argument('--all', action='store_true', help='all that a merge waits for')
+    parser.add_argument('--release', action='store_true', help='all that a release waits for')
     parser.add_argument('-k', metavar='WORD', help='of the parts that are named only the rows whose names have the word')
     parser.add_argument('--list', action='store_true', help='print what would be run, and run nothing')
     parser.add_argument('--write', action='store_true', help='write tests/proved.sums after all crates were proved')
-    parser.add_argument('--costs', action='store_true', help='write into tests/costs what the parts cost')
+    parser.add_argument('--costs', action='store_true', help='write into tests/costs what the parts cost, and a crate')
     given = parser.parse_args()
+    given.all |= given.release
     for name in given.part:
         if name not in names():
-            sys.exit(refused('there is no part %s; the options are --all, --list, --write, --costs and -k WORD, the parts:\n%s' % (
+            sys.exit(refused('there is no part %s; the options are --all, --release, --list, --write, --costs and -k WORD, the parts:\n%s' % (
                 name, '\n'.join('    ' + one for one in names()))))
     if given.k is not None and not given.part:
         sys.exit(refused('-k is for the parts that are named'))
@@ -73,6 +78,8 @@ class Gate:
         self.differing = proved.differing(self.sums)
         # Whether the checks run on what is made from dist/: without the kit, and with it if dist/ is of these sources.
         self.is_of_dist = not self.has_kit or not (given.all or given.part) and is_of_these_sources()
+        # What `--costs` writes beside the costs of the parts.
+        self.seen = {}
         self.report = Report(len(self.chosen()))
         self.runs = Runs(self.report)
 
@@ -94,15 +101,19 @@ class Gate:
         is_proved = self.is_of_dist and not self.given.all and not self.differing
         return [name for name in [LIBRARY, *names()] if name not in self.left() + self.needing() and not (name == PROOFS and is_proved)]
 
+    def form_words(self):
+        """How a check is told its form."""
+        return ['--release'] if self.given.release else ['--all'] * self.given.all
+
     def part(self, name):
         """A part by its name."""
-        form, rows = ['--all'] * self.given.all, ['-k', self.given.k] if self.given.k is not None else []
+        form, rows = self.form_words(), ['-k', self.given.k] if self.given.k is not None else []
         cost = (self.costs.get(name) or [None, None])[self.given.all] or 0
         if name == PROOFS:
             are_some = self.is_of_dist and not self.given.all and not self.given.part
             return Part(name, [*GATE, *(proved.resting_on(self.differing) if are_some else [])], ['./test', PROOFS])
         if name == BODIES:
-            which = [] if rows and self.given.all else ['--public' if self.given.all else '--changed']
+            which = [] if rows or self.given.release else ['--changed' if self.given.all or self.given.part else '--edited']
             return Part(name, ['wrong-bodies/try', *which, *rows])
         if name == LIBRARY:
             return self.library()
@@ -135,14 +146,15 @@ class Gate:
         self.report.print(said)
         if not self.is_of_dist and not self.given.all:
             self.report.print('dist/ is of other sources than these: the kit makes the library of these')
-        seconds = sum((self.costs.get(name) or [0, 0])[self.given.all] or 0 for name in self.chosen())
+        # Of the wrong bodies few are tried, but for a release.
+        seconds = sum((self.costs.get(name) or [0, 0])[self.given.all] or 0 for name in self.chosen() if name != BODIES or self.given.release)
         last = self.last().get(self.form())
         self.report.print('%d parts, %d at a time: %s' % (len(self.chosen()), self.processors, 'they took %s last time here' % minutes(last) if last is not None else
                                                           'some %s, by tests/costs' % minutes(seconds / self.processors)))
 
     def form(self):
         """The name of this form of a run, in the file of the times that runs took here."""
-        return ('whole' if self.given.all else 'quick') + ('' if self.is_of_dist else '-built')
+        return ('release' if self.given.release else 'whole' if self.given.all else 'quick') + ('' if self.is_of_dist else '-built')
 
     def last(self):
         """The seconds that whole runs took here last time, by their forms."""
@@ -164,23 +176,30 @@ class Gate:
 
     def prove(self):
         """Runs the proofs, which are told as they come: alone they may take an hour."""
-        self.runs.run(self.part(PROOFS), not self.report.is_terminal, self.judge_list)
+        with watched(self.given.costs) as spent:
+            self.runs.run(self.part(PROOFS), not self.report.is_terminal, self.judge_list)
+        self.seen.update({'%s/%s' % (PROOFS, crate): seconds for crate, seconds in spent.crates().items()})
 
     def run(self):
         """Runs the parts."""
         chosen = self.chosen()
         if self.given.part:
             for name in chosen:
-                self.runs.run(self.part(name), True, self.judge_list if name == PROOFS else None)
+                if name == PROOFS:
+                    self.prove()
+                else:
+                    self.runs.run(self.part(name), True)
             return
         self.say_first()
         begun = time.monotonic()
         if self.is_of_dist:
             self.run_on_dist(chosen)
         else:
-            others = [self.part(name) for name in chosen if name not in (PROOFS, BODIES, LIBRARY, *IN_COPY)]
+            others = [self.part(name) for name in chosen if name not in (PROOFS, BODIES, LIBRARY, *AT_ONCE, *OF_ALL)]
             Built(self.runs, self.part, self.given.all, self.room).run(self.prove, others)
         times = {**self.last(), self.form(): time.monotonic() - begun}
+        self.seen['all-by-the-clock-on-%d' % self.processors] = times[self.form()]
+        self.seen['all'] = sum(part.used for part in self.runs.done)
         os.makedirs(os.path.dirname(LAST), exist_ok=True)
         with open(LAST, 'w', encoding='utf-8') as file:
             file.writelines('%s %.1f\n' % row for row in times.items())
@@ -203,8 +222,15 @@ class Gate:
         self.report.left += self.left()
         self.report.needing += self.needing()
         if self.given.costs:
-            write_costs({part.name: part.used for part in self.runs.done}, self.given.all)
+            write_costs({**self.costs_of_parts(), **self.seen}, self.given.all)
         return self.report.end(self.runs.done, self.has_kit and self.is_of_dist)
+
+    def costs_of_parts(self):
+        """What the parts cost, and the wrong bodies of each crate that was tried; of all of them only if all were."""
+        found = {part.name: part.used for part in self.runs.done if part.name != BODIES or self.given.release}
+        tried = re.findall(r'^(\w+): \d+ stanzas by \d+ checks, (\d+) s of processor time, (\d+) s more',
+                           ''.join(part.text for part in self.runs.done if part.name == BODIES), re.M)
+        return {**found, **{'%s/%s' % (BODIES, crate): int(tried) + int(read) for crate, tried, read in tried}}
 
     def list(self):
         """Prints what would be run."""
@@ -212,7 +238,7 @@ class Gate:
             part = self.part(name)
             self.report.print('== ' + shlex.join(part.words if name == PROOFS else part.shown))
             if name == BODIES:
-                said = self.runs.call(['wrong-bodies/try', '--list', *([] if self.given.all else ['--changed'])])[1]
+                said = self.runs.call([*part.words, '--list'])[1]
                 self.report.print(said.rstrip().rpartition('\n')[0])
         self.report.show('not run, since they need the Rattle kit (README.md, What is trusted)', self.needing())
         self.report.show('left to ./test --all', self.left())
@@ -224,7 +250,9 @@ def main():
         gate = Gate(given, room)
 
         def end(number, _):
+            done = list(gate.runs.done)
             gate.runs.end(number)
+            gate.report.show('FAILED before %s' % signal.Signals(number).name, told(done))
             sys.exit(128 + number)
         for number in (signal.SIGINT, signal.SIGTERM, signal.SIGHUP):
             signal.signal(number, end)

@@ -15,7 +15,7 @@ ONLY_ALL = ('completions', 'packages', 'release')
 WITH_KIT = (PROOFS, BODIES, 'clone', 'embedding', 'portable', 'portable-parts', 'release', 'snippets')
 # Checks that need nothing that `make library` makes.
 WITHOUT_LIBRARY = ('building', 'checked-runs', 'computed-reports', 'embedding', 'examples', 'lossy', 'page-access', 'portable-instructions',
-                   'program', 'random-inputs', 'records', 'scripts', 'shows', 'snippets', 'texts', 'transcripts', 'waveform')
+                   'program', 'random-inputs', 'records', 'scripts', 'shows', 'snippets', 'texts', 'transcripts')
 # Checks that are nothing without make and a compiler.
 WITH_MAKE = ('c-library', 'conformance', 'endurance', 'firmware', 'gate', 'install', 'packages', 'page', 'page-access', 'refused-memory')
 # The costs of all parts: lines `PART QUICK WHOLE` in seconds of a processor, `-` if there is no such form.
@@ -54,10 +54,10 @@ def costs():
 
 
 def write_costs(seen, is_whole):
-    """Writes into the table what parts cost in one of the two forms."""
+    """Writes into the table what parts cost in one of the two forms. What the kit does has the whole one alone."""
     rows = costs()
     for name, seconds in seen.items():
-        rows.setdefault(name, [None, None])[is_whole] = seconds
+        rows.setdefault(name, [None, None])[is_whole or name.partition('/')[0] in (PROOFS, BODIES)] = seconds
     with open(COSTS, encoding='utf-8') as file:
         head = [line for line in file if line.startswith('#')]
     with open(COSTS, 'w', encoding='utf-8') as file:

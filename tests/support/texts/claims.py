@@ -41,7 +41,7 @@ SENTENCES = [
     ('1. It takes blocks (the clause of `Poller::hear`).', '`Poller::hear` has no clause without a name'),
     ('1. The record rises (`rising` of `IsSound`).', '`IsSound` has no clause `rising`'),
     ('1. Each is right (each export of `fio_cpu`).', 'an export of `fio_cpu`'),
-    ('1. Each is right (each export of `fio_c`; `no` of `show`).', '`show` has no clause `no`'),
+    ('1. Each is right (each export of `fio_c`; `no` of `run_tool`).', '`run_tool` has no clause `no`'),
 ]
 
 

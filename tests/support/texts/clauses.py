@@ -1,6 +1,7 @@
 """Clauses: each clause of each public call of the libraries has a wrong body that it refuses, or a wrong statement if the
-call is a law, whose body is empty, or if the clause only says what holds of the arguments. The line `refused-by:` of a
-stanza names it; `wrong-bodies/try` tries whether it is refused by that clause."""
+call is a law, whose body is empty, or if the clause only says what holds of the arguments; and no wrong body is one that only private
+functions refuse, but for those of `must-fail`. The line `refused-by:` of a stanza names it; `wrong-bodies/try` tries whether it is refused
+by that clause."""
 
 import os
 import re
@@ -60,6 +61,8 @@ def rows(check):
             is_guarded = (short, clause) in named or line in ALONE
             check.holds('a wrong body for ' + line, is_guarded, 'none')
             left.discard(line)
+        private = [one.name for one in stanzas_of(crate) if not one.is_of_gate and one.named().isdisjoint(public)]
+        check.holds('%s: its wrong bodies, refused by public calls and laws' % crate, not private, 'by private ones alone: %s' % ', '.join(private))
         gone = {'%s: %s, %s' % (crate, *one) for one in named
                 if one[1] not in public.get(one[0], [one[1]]) and (' ' not in one[1] or not public[one[0]])}
         check.holds('%s: the clauses that its wrong bodies name' % crate, not gone, 'not there: %s' % '; '.join(sorted(gone)))

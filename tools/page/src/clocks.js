@@ -1,33 +1,25 @@
-// How times are shown, which are in seconds since 1970 if the log has dates, else since midnight or as the log counts them: those of
-// rows, their dates, those of the record, and how long one is after another.
+// How times are shown: those of rows, their dates, those of the record, and how long one is after another. A time is in seconds, which count
+// from what its kind says, one of LOG_TIMES.
 
-// Times from here on have a date.
-const DATED = 1e8;
+import { LOG_TIMES } from './constants.js';
+
 const DAY = 86_400;
-// Zones differ by multiples of this.
-const QUARTER = 900;
-const OF_DAY = /\d{1,2}:(\d\d):(\d\d)(?:[.,:]\d{1,9})?(?: ?[ap]\.?m\b\.?)?/gi;
+// A date of 1970 is one without a year.
+const WITHOUT_YEAR = 365 * DAY;
 
-// A time as a row shows it: the time of the day as one of these lines writes it, else that of a date in UTC, else seconds.
-export function clockOf(lines, time) {
-  for (const line of lines) {
-    for (const [written, minute, second] of line.matchAll(OF_DAY)) {
-      if ((Number(minute) * 60 + Number(second) - Math.floor(time)) % QUARTER === 0) return written;
-    }
-  }
-  return time >= DATED ? new Date(time * 1000).toISOString().replace(/.*T(.*)Z$/, '$1') : time.toFixed(6);
+// A time as a row shows it: that of the day, in UTC if it has a date, or seconds; with microseconds if they are not 0, else with milliseconds.
+// Without a time it is empty.
+export function clockOf(time, kind) {
+  if (kind === LOG_TIMES.noTime) return '';
+  if (time < 0 && kind === LOG_TIMES.sinceStart) return `-${clockOf(-time, kind)}`;
+  const nearest = Math.round((time - Math.floor(time)) * 1e6), whole = Math.floor(time) + Math.floor(nearest / 1e6);
+  const part = String(nearest % 1e6).padStart(6, '0').replace(/000$/, '');
+  return `${kind === LOG_TIMES.sinceStart ? whole : new Date(whole * 1000).toISOString().slice(11, 19)}.${part}`;
 }
 
 // The date of a time; empty if it has none.
-export const dateOf = (time) => time >= DATED ? new Date(time * 1000).toISOString().replace(/T.*/, '') : '';
-
-// The clock so many seconds after one that a row shows, which has the time of the day or seconds.
-export function clockAfter(clock, seconds) {
-  const [, hour, minute, second, fraction = 0, half] = /^(\d+):(\d+):(\d+)(?:[.,:](\d+))? ?([ap])?/i.exec(clock) || [];
-  if (hour === undefined) return (Number(clock) + seconds).toFixed(3);
-  const hours = half ? hour % 12 + (half.toLowerCase() === 'p' ? 12 : 0) : Number(hour);
-  const sum = hours * 3600 + minute * 60 + Number(`${second}.${fraction}`) + seconds;
-  return new Date(Math.round(1000 * (sum % DAY + DAY))).toISOString().slice(11, 23);
+export function dateOf(time, kind) {
+  return kind === LOG_TIMES.date ? new Date(time * 1000).toISOString().replace(/T.*/, '').slice(time < WITHOUT_YEAR ? 5 : 0) : '';
 }
 
 // How long after one time another is, in words. A log without dates may go on at midnight.

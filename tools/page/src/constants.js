@@ -9,14 +9,15 @@ export const MOST_RECORD_ITEMS = 256;
 export const LONGEST_TEXT = 62;
 export const LOG_FORMS = { auto: 0, frames: 1, transcript: 2 };
 export const LOG_KINDS = { blank: 0, says: 1, part: 2, possible: 3, damaged: 4, passedOver: 5 };
-export const LOG_REASONS = { noReason: 0, noOctets: 1, noMessage: 2, noForm: 3, more: 4, tooLong: 6, badLine: 7, loss: 10, heading: 11, copy: 13, broken: 14 };
+export const LOG_REASONS = { noReason: 0, noOctets: 1, noMessage: 2, noForm: 3, more: 4, unreadFrame: 5, tooLong: 6, badLine: 7, loss: 10, heading: 11, copy: 13, broken: 14 };
 export const LOG_SIDES = { noSide: 0, fromCpu: 1, fromModule: 2 };
+export const LOG_TIMES = { noTime: 0, date: 1, timeOfDay: 2, sinceStart: 3 };
 export const LOG_TAKEN = { auto: 0, atCpu: 1, atModule: 2, onBus: 3 };
 export const LOG_BEGINS = { anywhere: 0, withEnds: 1 };
 export const OUTCOMES = { kept: 0, broken: 1, brokenContent: 2, excused: 3, restarted: 4, notJudged: 5 };
 export const WHY = { none: 0, load: 1, unheard: 2, aboveCommand: 3, placeLost: 4, late: 5, lateAbove: 6 };
 export const ADVANCE_BREACHES = {
-  ahead: 'the CPU went on without an answer, and what block {due} had is lost, which TEES allows; or the log lost a line',
+  ahead: 'the CPU went on without an answer, and what block {due} had may be lost, which TEES allows; or the log lost a line',
   behind: 'the CPU asks again for a block that was answered; or it did not hear that answer, and the log is not its own',
 };
 // By their numbers the rules of transcripts: the name, what a line does that breaks it, and the sources of behaviour and of layout.
@@ -33,7 +34,7 @@ export const RULES = [null,
 ];
 // Those on content: the name, what a right link does, and when that is judged; what a breach means; the sources.
 export const CONTENT_RULES = [null,
-  { name: 'order', right: 'An entry is later than the entry above it, or has its time and a higher input. Judged if a clear block is above the upper entry, the blocks of both are not late, and no load of the counter excuses it.', breach: 'input {input} has an entry that is not later than the one above it, but a module logs changes in order of time, then of input: two entries are swapped, one is doubled, a time is wrong, or the module restarted', sources: ['TEES 2009', 'own profile'] },
+  { name: 'order', right: 'An entry is later than the entry above it, or has its time and a higher input, if no block without C ends between them. Judged if a clear block is above the upper entry, the blocks of both are not late, and no load of the counter excuses it.', breach: 'input {input} has an entry that is not later than the one above it, but a module logs changes in order of time, then of input: two entries are swapped, one is doubled, a time is wrong, or the module restarted', sources: ['TEES 2009', 'own profile'] },
   { name: 'fresh', right: 'An entry is later than the stamp of the latest block without C, which had all entries up to that stamp. Judged if that block or one above it is clear, the block of the entry is not late, and no load of the counter excuses it.', breach: 'input {input} changed before the block above was made, and that block had all changes until then: this entry is doubled or late, or its time is wrong', sources: ['TEES 2009', 'own profile'] },
   { name: 'alternate', right: 'The entries of an input have the states 0 and 1 in turn. Judged if the input is watched from the earlier entry on.', breach: 'input {input} went to {state} twice in a row, and neither an overflow (F) nor a configuration that was sent can have hidden a change between: an entry was lost, or this entry is doubled or has the wrong state', sources: ['TEES 2009', 'own profile'] },
   { name: 'apart', right: 'An entry of an input follows the one before no sooner than the filter for its change lets it. Judged if a clear block is above the earlier entry, the blocks of both are not late, and no load of the counter excuses it. The filter is the least that can be in force: at first 1; an item that is sent can lower it; a block that settles the input sets it to its last item, if the answer to that says done.', breach: 'input {input} went to {state} sooner than the shortest filter that it can have allows: a time or a filter is wrong', sources: ['TEES 2009 and own profile', 'own profile'] },

@@ -1,5 +1,6 @@
 // One message whole: its words and octets, with what belongs together marked under the pointer and under the keys.
 
+import { seamWords } from './answer.js';
 import { BITS } from './bits.js';
 import { dateOf, laterWords } from './clocks.js';
 import { capital, element, sentence } from './dom.js';
@@ -67,8 +68,9 @@ const soft = (words, id = false) => element('p', { class: 'soft', id }, words);
 // What is wrong with a message or its line, and what its rule says.
 function reasonOf(log, place) {
   const breach = log.breaches.get(place), reason = log.reason(place) || doubtOf(log, place);
-  if (!breach) return reason ? [element('p', { class: 'doubt' }, sentence(reason)), ...log.restarts.has(place) ? [soft(RESTART_HELP)] : []] : [];
-  return [element('p', { class: 'reason' }, `Breaks ${reason}.`), soft(sourceWords(breach), 'rule-source'),
+  const seam = log.seams.has(place) ? [element('p', { class: 'doubt' }, sentence(seamWords(log.seams.get(place))))] : [];
+  if (!breach) return reason ? [element('p', { class: 'doubt' }, sentence(reason)), ...log.restarts.has(place) ? [soft(RESTART_HELP)] : seam] : seam;
+  return [...seam, element('p', { class: 'reason' }, `Breaks ${reason}.`), soft(sourceWords(breach), 'rule-source'),
     element('details', {}, element('summary', {}, 'What this rule says'), ...ruleWords(breach).map((words) => soft(words)))];
 }
 
@@ -92,7 +94,7 @@ function toOctet(event, spans) {
 // The time of a message, and how long after the command above it came.
 function timesOf(log, place) {
   if (!log.hasTimes || Number.isNaN(log.times[place])) return '';
-  const date = dateOf(log.times[place]), text = `, at ${log.clocks[place]}${date && ' on ' + date}`;
+  const date = dateOf(log.times[place], log.timeKinds[place]), text = `, at ${log.clockOf(place)}${date && ' on ' + date}`;
   const isAnswer = place > 0 && log.directions[place] === LOG_SIDES.fromModule && log.directions[place - 1] === LOG_SIDES.fromCpu;
   return isAnswer && !Number.isNaN(log.times[place - 1]) ? `${text}, ${laterWords(log.times[place - 1], log.times[place])}` : text;
 }

@@ -9,7 +9,8 @@ export function fromHex(digits) {
   return Uint8Array.from({ length: digits.length >> 1 }, (_, place) => parseInt(digits.slice(2 * place, 2 * place + 2), 16));
 }
 
-export const fromBase64 = (text) => Uint8Array.from(atob(text), (letter) => letter.charCodeAt(0));
+export const fromLetters = (text) => Uint8Array.from(text, (letter) => letter.charCodeAt(0));
+export const fromBase64 = (text) => fromLetters(atob(text));
 
 export const inLines = (lines) => lines.map((line) => line + '\n').join('');
 

@@ -1,5 +1,6 @@
 // The view Inputs: the record of the log that is open as waveforms, moved by wheel, keys and touch.
 
+import { seamWords } from './answer.js';
 import { byId, capital, counted, element, save, saveText, say } from './dom.js';
 import { inLines } from './hex.js';
 import { contentLine } from './record.js';
@@ -11,7 +12,7 @@ const TOUCH_HELP = 'A finger moves the times, two zoom, and a tap reads a transi
 const MOST_SHOWN = 2000;
 // The signs, each with its colour, its words, and the list of a record that has some.
 const LEGEND = [['×', 'warn', 'a poll without an answer', 'lostPolls'], ['↷', 'bad', 'a block that the CPU left out', 'skips'],
-  ['↻', 'warn', 'a restart of the module', 'restarts'], ['▨', 'bad', 'a gap mark: entries are missing', 'gaps'], ['◆', 'bad', 'an entry that breaks a rule', 'broken']];
+  ['↻', 'warn', 'a restart of the module', 'restarts'], ['▨', 'bad', 'a seam: transitions are lost, or may be missing; point at it for the reason', 'seams'], ['◆', 'bad', 'an entry that breaks a rule', 'broken']];
 
 export class InputsView {
   // `goTo(place)` shows a message.
@@ -28,7 +29,7 @@ export class InputsView {
     byId('waves-help').textContent = matchMedia('(pointer: coarse)').matches ? TOUCH_HELP : HELP;
     const lift = ({ pointerId }) => this.pointers.delete(pointerId);
     const acts = { wheel: (event) => this.wheel(event), keydown: (event) => this.key(event), click: (event) => this.click(event), dblclick: () => this.selectedMessage(),
-      pointerdown: (event) => this.press(event), pointermove: (event) => this.drag(event), pointerup: lift, pointercancel: lift };
+      pointerdown: (event) => this.press(event), pointermove: (event) => this.move(event), pointerup: lift, pointercancel: lift };
     for (const [name, act] of Object.entries(acts)) canvas.addEventListener(name, act);
     new ResizeObserver(() => this.draw()).observe(canvas);
     new MutationObserver(() => this.draw()).observe(document.documentElement, { attributeFilter: ['data-theme'] });
@@ -63,7 +64,7 @@ export class InputsView {
     byId('record').hidden = record.count === 0;
     const note = byId('record-note').textContent = record.count === 0 ? 'No input changed in this log: it has no block with entries that a CPU would take.'
       : `A CPU that heard this log has recorded ${counted(record.count, 'transition')} of ${counted(record.lanes.size, 'input')}`
-        + `${record.gaps.length > 0 ? ` and ${counted(record.gaps.length, 'gap mark')}` : ''}. `
+        + `${record.gaps > 0 ? ` and ${counted(record.gaps, 'gap mark')}` : ''}. `
         + `${record.lostPolls.length > 0 ? `${counted(record.lostPolls.length, 'poll')} had no answer. ` : ''}`
         + `Times are milliseconds of the module’s counter${this.waves.hasClock ? ', below them the log’s clock' : ''}.${this.foundWords()}`;
     byId('legend').replaceChildren(...LEGEND.filter(([, , , list]) => record[list].length > 0 || record[list].size > 0).flatMap(([sign, kind, words]) =>
@@ -102,9 +103,10 @@ export class InputsView {
     this.canvas.setPointerCapture(pointerId);
   }
 
-  // One pointer moves the times, two widen them.
-  drag({ pointerId, offsetX }) {
-    const { pointers, waves } = this;
+  // One pointer that is down moves the times, two widen them; another shows the reason of a seam.
+  move({ pointerId, offsetX }) {
+    const { canvas, pointers, waves } = this;
+    canvas.title = this.wordsOf(waves.seamAt(offsetX));
     if (!pointers.has(pointerId)) return;
     const [one, other] = pointers.values();
     this.moved += Math.abs(offsetX - pointers.get(pointerId));
@@ -115,9 +117,21 @@ export class InputsView {
     this.draw();
   }
 
-  click(event) {
-    const found = this.moved > 4 ? null : this.waves.nearest(event.offsetX, event.offsetY);
-    if (found) this.select(found);
+  // Where a seam is, and its reason; empty if there is none.
+  wordsOf(seam) {
+    return seam ? `${capital(this.log.where(seam.place))}: ${seamWords(seam)}` : '';
+  }
+
+  click({ offsetX, offsetY }) {
+    const { waves } = this, seam = waves.seamAt(offsetX), found = waves.nearest(offsetX, offsetY);
+    if (this.moved > 4) return;
+    if (seam) this.read(this.wordsOf(seam), seam.place);
+    else if (found) this.select(found);
+  }
+
+  // Shows what is read, with a way to its message.
+  read(words, place) {
+    byId('reading').replaceChildren(words + ' ', element('button', { id: 'to-message', onclick: () => this.goTo(place) }, capital(this.log.where(place))));
   }
 
   select(found) {
@@ -125,10 +139,9 @@ export class InputsView {
     waves.selected = found;
     const item = waves.selectedItem, { input, state, time, place } = item;
     if (time < waves.from || time > waves.to) waves.pan((time - (waves.from + waves.to) / 2) / (waves.to - waves.from));
-    const broken = log.record.broken.has(item) ? `breaks ${log.reason(place).split(':')[0]} ` : '';
-    byId('reading').replaceChildren(`input ${input} state ${state} at ${time} ms ${broken}`,
-      element('button', { id: 'to-message', onclick: () => this.goTo(place) }, capital(log.where(place))));
-    say(`input ${input} becomes ${state} at ${time} milliseconds ${broken}`);
+    const broken = log.record.broken.has(item) ? ` breaks ${log.reason(place).split(':')[0]}` : '', seam = log.seams.has(place) ? `; ${seamWords(log.seams.get(place))}` : '';
+    this.read(`input ${input} state ${state} at ${time} ms${broken}${seam}`, place);
+    say(`input ${input} becomes ${state} at ${time} milliseconds${broken}${seam}`);
     this.draw();
   }
 

@@ -3,10 +3,11 @@
 //
 // A message is given by its address and length in the machine's memory: `place` puts octets there.
 
-import { BLOCK_ENTRIES, LOG_BEGINS, LONGEST_FRAME, LONGEST_TEXT, MOST_RECORD_ITEMS, OUTCOMES, STANDARD_WAITING } from './constants.js';
+import { BLOCK_ENTRIES, LOG_BEGINS, LOG_KINDS, LONGEST_FRAME, LONGEST_TEXT, MOST_RECORD_ITEMS, OUTCOMES, STANDARD_WAITING } from './constants.js';
 import { STRUCTS } from './layouts.js';
 
 const FAULTS = { none: 0, unknownType: 3 };
+const PACE_FOUND = 0;
 export const POLL = 54, BLOCK = POLL + 128, WATCHDOG_ANSWER = 186;
 // Octets from here on begin an answer.
 export const FIRST_ANSWER = 128;
@@ -14,7 +15,7 @@ export const HEARD = { taken: 0, stale: 3, other: 2 };
 export const STATUS_BITS = { more: 8, lost: 4, again: 2 };
 
 // The type of a configuration.
-const CONFIGURE_INPUTS = 51;
+export const CONFIGURE_INPUTS = 51;
 // Room for the text of a message.
 const TEXT_ROOM = 32768;
 // The octets that are handed to the library at a time.
@@ -101,6 +102,12 @@ export class Library {
   // The same of octets.
   showOctets(octets) {
     return this.show(this.place(octets), octets.length);
+  }
+
+  // The least pace over a line; null if it has none.
+  plan(line) {
+    const planned = this.calls.fio2070_plan(this.write('line', this.message, line), BigInt(this.result));
+    return planned === PACE_FOUND ? this.read('pace', this.result) : null;
   }
 
   // The address of the limits of a module in which the standard number of entries may wait, until the next call.
@@ -232,11 +239,38 @@ export class LogSigns extends Kept {
   }
 }
 
+// What finds the stretches of a log: pieces in which each transition is there once and in order. It takes batches, here of one message each,
+// with the outcome that this judge has just written.
+export class LogStretches extends Kept {
+  constructor(library, judge) {
+    super(library, 'log_stretches', 'logStretches');
+    this.batch = this.machine.reserve(STRUCTS.logBatch.size);
+    this.seam = this.machine.reserve(STRUCTS.logSeam.size);
+    Object.assign(this, library.read('logBatch', this.batch), { given: [this.batch, judge.outcome, this.seam].map(BigInt) });
+  }
+
+  // Takes a message, with its time in seconds, NaN if it has none. The seam above it; undefined if there is none.
+  frame(address, length, time) {
+    const { library, machine: { data, all }, batch, verdicts, lengths, octets } = this, isTimed = !Number.isNaN(time);
+    STRUCTS.logBatch.set(data, batch, { verdict_count: 1, frame_count: 1, octet_count: length });
+    STRUCTS.logVerdict.set(data, verdicts, { time: isTimed ? BigInt(Math.round(time * 1e6)) : 0n, frames: 1, kind: LOG_KINDS.says, time_kind: isTimed ? 1 : 0 });
+    data.setUint16(lengths, length, true);
+    all.copyWithin(octets, address, address + length);
+    return this.calls.fio2070_log_stretches_batch(this.at, ...this.given) > 0 ? library.read('logSeam', this.seam) : undefined;
+  }
+
+  // What is counted of them.
+  get counts() {
+    return Object.fromEntries(Object.entries(this.library.read('logStretches', this.place)).map(([name, count]) => [name, Number(count)]));
+  }
+}
+
 // What the log that is open needs in the machine's memory: its octets, a poller, what judges it, and what counts its messages.
 export class Arena {
   constructor(library) {
     Object.assign(this, { machine: library.machine, address: 0, size: 0 });
     Object.assign(this, { poller: new Poller(library), judge: new LogJudge(library), signs: new LogSigns(library) });
+    this.stretches = new LogStretches(library, this.judge);
   }
 
   hold(octets) {

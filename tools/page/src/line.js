@@ -111,14 +111,14 @@ class Heard extends Found {
   }
 
   // Adds what a line says; it begins at this octet.
-  hear(one, line, at, said = LOG_SIDES.noSide, time = null) {
+  hear(one, line, at, { said = LOG_SIDES.noSide, time = null, timeKind } = {}) {
     if (one.kind === SAYS.other) this.addOther(line, { why: this.strangers.note(one), text: hexText(one.message) });
     else if (one.kind === SAYS.damaged) this.addUnchecked(line);
-    else this.addFrames({ line, said, time, address: one.address, frames: [one.message], at });
+    else this.addFrames({ line, said, time, timeKind, address: one.address, frames: [one.message], at });
   }
 
   addUnchecked(line) {
-    this.addDamaged(line, `damaged: ${LINE.damaged}`, { hasWrongCheck: true });
+    this.addDamaged(line, `damaged: ${LINE.damaged}`);
   }
 }
 
@@ -158,18 +158,18 @@ class Side {
 
   // Hears the octets of a line, alone or with those above. They are damaged if they say nothing, and no flag came down to here. A row of a
   // dump is never alone.
-  hear(heard, octets, line, { said, time }, isRow) {
+  hear(heard, octets, line, before, isRow) {
     const hasFlags = octets.includes(FLAG), alone = hasFlags || isRow || this.isOpen ? [] : this.readAlone(octets);
-    for (const one of alone) heard.hear(one, line, 1, said, time);
+    for (const one of alone) heard.hear(one, line, 1, before);
     if (alone.length > 0) return;
-    if (hasFlags || this.isBegun) this.goOn(heard, octets, line, said, time);
+    if (hasFlags || this.isBegun) this.goOn(heard, octets, line, before);
     else if (!isRow) heard.addUnchecked(line);
   }
 
-  goOn(heard, octets, line, said, time) {
+  goOn(heard, octets, line, before) {
     if (!this.isBegun) this.wire.start(this.own);
     const { count } = this.wire;
-    for (const one of this.wire.read(octets)) heard.hear(one, line, beginOf(octets, one.end - count), said, time);
+    for (const one of this.wire.read(octets)) heard.hear(one, line, beginOf(octets, one.end - count), before);
     this.isBegun = true;
     this.isOpen = octets.at(-1) !== FLAG;
   }
@@ -225,10 +225,10 @@ function* readDigits(library, logReader, octets, own) {
   let heading = {};
   for (const [verdicts, share] of logReader.read(new TextEncoder().encode(inLines(heads)), LOG_FORMS.auto)) {
     yield 0.4 + 0.6 * share;
-    for (const { line, said, time } of verdicts) {
-      const { digits, head } = parts[line - 1], before = head === null ? heading : { said, time };
+    for (const { line, said, time, timeKind } of verdicts) {
+      const { digits, head } = parts[line - 1], before = head === null ? heading : { said, time, timeKind };
       if (digits !== '' && digits.length % 2 === 0) sides[before.said || 0].hear(heard, fromHex(digits), line, before, head === null);
-      else if (head.trim() !== '') heading = { said, time };
+      else if (head.trim() !== '') heading = { said, time, timeKind };
     }
   }
   return heard;

@@ -1,7 +1,8 @@
 // A log that is open: its messages in the machine's memory, each decoded and judged once by the proved library, and
 // counts of what was found.
 
-import { LOG_FORMS, LOG_SIDES } from './constants.js';
+import { clockOf } from './clocks.js';
+import { LOG_FORMS, LOG_SIDES, LOG_TIMES } from './constants.js';
 import { hexText, inLines } from './hex.js';
 import { ENDS, isOfOneSide, Judging, Sides, together } from './judging.js';
 import { BLOCK, FIRST_ANSWER, POLL, STATUS_BITS } from './library.js';
@@ -15,6 +16,8 @@ import { verdictOf } from './verdict.js';
 const { noSide, fromCpu, fromModule } = LOG_SIDES;
 // The messages above an answer among which its command is sought.
 const MOST_ABOVE = 8;
+// The sign that answers came late, which the library has no number of.
+const LATE = SIGNS.length - 1;
 // Whether a breach is of a rule that a late answer breaks.
 const isOfLate = (breach) => !breach.isContent && ['pair', 'number'].includes(ruleOf(breach));
 
@@ -24,12 +27,14 @@ export class Log {
   constructor(library, arena, name, found, end) {
     const { octets, end: after, texts, ...columns } = found, { remarks, isReversed, form } = found;
     Object.assign(this, { library, name, remarks, isReversed, ...columns });
-    this.hasTimes = this.clocks.some((clock) => clock !== '');
+    this.hasTimes = this.timeKinds.some((kind) => kind !== LOG_TIMES.noTime);
     this.hasDirections = this.sides.some((it) => it !== noSide);
     this.end = !this.hasDirections ? ENDS.bus : end !== ENDS.auto ? end : isReversed && form !== LOG_FORMS.transcript ? ENDS.module : ENDS.cpu;
     Object.assign(this, { arena, taken: end, memory: arena.hold(octets.subarray(0, after)), poller: arena.poller });
     // Of a line with several stations the log that each has alone, by its address, and the place there of each message.
     Object.assign(this, { stations: new Map(), placesAlone: new Map() });
+    // What is between blocks that no stretch goes over, by the place of the block below; and what is counted of stretches.
+    Object.assign(this, { seams: new Map(), counted: {} });
     for (const column of ['codes', 'blocks', 'status', 'entries', 'isFaulty', 'directions']) this[column] = new Uint8Array(this.count);
     this.stamps = new Uint32Array(this.count);
   }
@@ -55,9 +60,10 @@ export class Log {
       if (this.isSure(place)) signs.frame(...this.frame(place));
     }));
     Object.assign(this, { logged: sides.kind, sign: signs.call('sign') }).keep(new Judging(this, judge));
-    if (this.isFit) yield* part(0.3, 0.65, this.judging.work());
-    // What is found of a log whose answers came late is taken back.
-    if (this.isLate) Object.assign(this, { sign: SIGNS.length - 1 }).keep(new Judging(this, judge));
+    if (this.isInOrder) yield* part(0.3, 0.65, this.judging.work());
+    if (this.isLate) this.sign = LATE;
+    // What rules find of a log whose answers came late, or of one direction, is taken back.
+    if (!this.isFit) this.keep(new Judging(this, judge));
     this.record = new Record(this);
     yield* part(0.65, 1, each(this.count, (place) => this.record.take(place)));
   }
@@ -70,7 +76,8 @@ export class Log {
       this.stations.set(address, yield* part(index / addresses.length, (index + 1) / addresses.length, alone.work()));
       for (const [placeAlone, place] of alone.places.entries()) this.placesAlone.set(place, placeAlone);
     }
-    Object.assign(this, { logged: '', sign: 0 }).keep(together([...this.stations.values()]));
+    const judging = together([...this.stations.values()]);
+    Object.assign(this, { logged: '', sign: 0, seams: judging.seams }).keep(judging);
   }
 
   keep(judging) {
@@ -100,7 +107,12 @@ export class Log {
     return false;
   }
 
-  // Whether rules are judged of it: it looks like the log of one link in order, and has both directions.
+  // Whether it looks like the log of one link in order.
+  get isInOrder() {
+    return this.sign === 0 || this.sign === LATE;
+  }
+
+  // Whether rules are judged of it too: it has both directions, and answers in time.
   get isFit() {
     return this.sign === 0 && !isOfOneSide(this.logged);
   }
@@ -111,6 +123,11 @@ export class Log {
 
   octets(place) {
     return this.library.machine.octets(this.address(place), this.lengths[place]);
+  }
+
+  // The time of a message as it is shown, or one so many seconds after it, to a millisecond; empty if it has none.
+  clockOf(place, after = null) {
+    return clockOf(after === null ? this.times[place] : Math.round((this.times[place] + after) * 1000) / 1000, this.timeKinds[place]);
   }
 
   isBadLine(place) {
@@ -247,14 +264,17 @@ export class Log {
     return asked >= 0 && (this.codes[place] !== BLOCK || (this.blocks[asked] - this.blocks[place] & 255) < 2);
   }
 
-  // Whether a message is a poll with no block answer directly below. Above a damaged line that is not known, nor in a log that
-  // has one direction alone.
+  // Whether a message is a poll after which a command comes before a block answer. Above a line that may have held one that is not known, nor
+  // in a log that has one direction alone.
   isUnanswered(place) {
     if (this.codes[place] !== POLL) return false;
     const alone = this.stationAlone(place);
     if (alone) return alone.isUnanswered(this.placesAlone.get(place));
-    const next = this.beside(place, 1);
-    return this.codes[next] !== BLOCK && !this.damaged.has(next) && !isOfOneSide(this.logged);
+    for (let next = place; ;) {
+      next = this.beside(next, 1);
+      if (next >= this.count || this.marks[next] > 0 || this.damaged.has(next) || this.codes[next] === BLOCK) return false;
+      if (this.codes[next] > 0 && this.codes[next] < FIRST_ANSWER) return !isOfOneSide(this.logged);
+    }
   }
 
   // The text that `show` writes of these messages.
@@ -272,7 +292,7 @@ export const FACTS = [
   ['faults', 'faulty line', (log, place) => log.isFaulty[place] === 1, 'bad'],
   ['possible', 'formless line', (log, place) => log.damaged.get(place)?.isPossible === true, 'warn'],
   ['others', 'other frame', (log, place) => log.others.has(place), 'warn'],
-  ['gaps', 'gap mark', (log, place) => log.hasBit(place, STATUS_BITS.lost), 'bad'],
+  ['seams', 'seam', (log, place) => log.seams.has(place), 'warn'],
   ['repeats', 'repeated block', (log, place) => log.hasBit(place, STATUS_BITS.again), 'warn'],
   ['unanswered', 'lost answer', (log, place) => log.isUnanswered(place), 'warn'],
   ['polls', 'poll', (log, place) => log.codes[place] === POLL],

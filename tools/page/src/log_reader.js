@@ -1,5 +1,6 @@
 // The library's reader of logs. It takes the octets of a log, and gives a verdict on each line.
 
+import { LOG_TIMES } from './constants.js';
 import { STRUCTS } from './layouts.js';
 import { KeptReader } from './library.js';
 
@@ -53,9 +54,9 @@ export class LogReader extends KeptReader {
       }
       for (let count = 0; count < verdict.places; count++) places.push(next('logPlace', 'places'));
       // A time in seconds.
-      const { kind, reason, said, header, foreign } = verdict, time = verdict.has_time ? Number(verdict.time) / 1e6 : null;
+      const { kind, reason, said, header, foreign, time_kind: timeKind } = verdict, time = timeKind === LOG_TIMES.noTime ? null : Number(verdict.time) / 1e6;
       const [address, size] = header > 0 ? [verdict.address, 0] : [undefined, verdict.control];
-      found.push({ kind, reason, said, foreign, size, line: Number(verdict.line), time, address, frames, places });
+      found.push({ kind, reason, said, foreign, size, line: Number(verdict.line), time, timeKind, address, frames, places });
     }
     return found;
   }

@@ -1,11 +1,12 @@
 // What is said of the lines of a log: why one gives no frame, or what else is in one that does, by the number of the reason; which
-// directions are missing; and of what a line carried. Written by tools/generate-messages.
+// directions are missing; of what a line carried; and of the transitions themselves. Written by tools/generate-messages.
 
 export const REASONS = {
   1: 'no octets',
   2: 'octets that are no message',
   3: 'what may have been a message, and no form of this log',
   4: 'beside its frames it has octets that may be a message',
+  5: 'a frame with a right check, and no form of this log',
   6: 'longer than a line with a frame can be',
   7: 'bad line',
   10: 'octets may be lost',
@@ -17,6 +18,7 @@ export const SIDES = {
   'commands': 'this log has the commands alone: the answers were not logged, so no rule is judged',
   'answers': 'this log has the answers alone: the commands were not logged, so no rule is judged',
   'not whole': 'no answer in this log is whole, so no rule is judged',
+  'unread': 'this log has one direction alone, but for frames in lines of no form, so no rule is judged',
   'silent': 'no answer came: the module is silent, or its direction was not logged',
 };
 // What kind of log it looks like, by the number of the sign, if it is not the log of one link in order, and what to do.
@@ -27,6 +29,15 @@ export const SIGNS = [
   'this log looks as if its last line is first: reverse it with `tac FILE`',
   'this log looks like the lines of two links: split it by port or address, and judge each link by itself',
   'answers came late in this log, below commands that were sent again: try --late-answers',
+];
+// What is said of a seam: that transitions are lost, and by the number of the seam why a stretch ends.
+export const SEAMS = [
+  "the module's buffer overflowed: transitions are lost above",
+  'at least {blocks} not in the log above',
+  'the module did not get the polls between: what is above is not known',
+  'the log does not say whether transitions are missing above',
+  'the module was restarted: what waited in it then is not recorded',
+  'its entries are not to be believed',
 ];
 export const LINE = {
   damaged: 'no frame with a right check',
@@ -63,4 +74,40 @@ export const TERMS = {
   'excuses': 'a load of the counter can take effect at any time after it was sent, so each excuses one breach of a rule on time',
   'gap mark': 'an item of the record which says that entries are missing there: the buffer of the module had overflowed (F)',
   'item': 'an item of a configuration (51) says of one input whether it is reported, and its filters',
+};
+// The answer: whether transitions are lost, where and why. Its numbers have commas, and their words are in COUNTED.
+export const ANSWER = {
+  few: 'Too few blocks to say.',
+  unfit: 'This log is not of one link in order, so nothing is said.',
+  whole: 'Nothing is lost: {transitions}{span}, each once.',
+  whole_one: 'Nothing is lost: 1 transition{span}, once.',
+  whole_none: 'Nothing is lost: no transition{span}.',
+  span: ' from {first} to {last}',
+  again: '{answers} lost, and asked for again.',
+  lost: "Transitions are lost at {places} at least; first in {place}: the module's buffer overflowed{pause}.",
+  lost_one: "Transitions are lost at 1 place at least; in {place}: the module's buffer overflowed{pause}.",
+  pause: ', {pause} after the poll before',
+  plan: 'For {inputs} with filter {filter} a poll each {every} is often enough, and an outage of {outage} loses nothing (plan).',
+  rest: 'Nothing is lost in what this log has{share}{gaps}.',
+  rest_lost: 'Nothing else is lost in what this log has{share}{gaps}.',
+  share: ', {share} % of the time',
+  missing: '; at {places} at least {blocks} not in it',
+  unknown: '; at {places} the log does not say it',
+  restarts: 'The module was restarted {times}; what waited in it then is not recorded.',
+  disbelieved: 'At {places} entries are not to be believed{below}.',
+  below: ' (below)',
+};
+// How many, of one and of several.
+export const COUNTED = {
+  transitions: ['1 transition', '{count} transitions'],
+  answers: ['1 answer was', '{count} answers were'],
+  places: ['1 place', '{count} places'],
+  blocks: ['1 block is', '{count} blocks are'],
+  times: ['once', '{count} times'],
+  inputs: ['1 input', '{count} inputs'],
+};
+// What to do, by the rule that is broken.
+export const CURES = {
+  advance: 'If this is not the log of the CPU, log there.',
+  restarted: 'Look at its supply, and configure its inputs again.',
 };

@@ -29,9 +29,9 @@ class Machine {
   }
 }
 
-// The octets of a build, which are in the page deflated.
-async function inflated(build) {
-  const stream = new Blob([fromBase64(build.deflated)]).stream().pipeThrough(new DecompressionStream('deflate'));
+// The octets of data that is in the page deflated.
+export async function inflated(data) {
+  const stream = new Blob([fromBase64(data)]).stream().pipeThrough(new DecompressionStream('deflate'));
   return new Uint8Array(await new Response(stream).arrayBuffer());
 }
 
@@ -40,7 +40,7 @@ export async function startMachine(builds) {
   const reasons = [];
   for (const build of builds) {
     try {
-      const { instance } = await WebAssembly.instantiate(await inflated(build), {});
+      const { instance } = await WebAssembly.instantiate(await inflated(build.deflated), {});
       return new Machine(instance.exports, build);
     } catch (reason) {
       reasons.push(build.bits + ' bits: ' + reason.message);

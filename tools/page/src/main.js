@@ -6,7 +6,7 @@ import { Arena, Library } from './library.js';
 import { readAny } from './line.js';
 import { Log } from './log.js';
 import { LogReader } from './log_reader.js';
-import { startMachine } from './machine.js';
+import { inflated, startMachine } from './machine.js';
 import { MessagesView } from './messages.js';
 import { OpenView } from './open.js';
 import { PlanView } from './plan.js';
@@ -40,7 +40,7 @@ function* logOf(library, arena, logReader, name, octets, chosen) {
   return yield* part(0.6, 1, new Log(library, arena, name, found, chosen.end).work());
 }
 
-function startViews(library) {
+function startViews(library, examples) {
   const arena = new Arena(library), logReader = new LogReader(library);
   const tabs = new Tabs((name) => name === 'inputs' && inputs.draw());
   window.addEventListener('click', ({ target }) => target.matches('[data-back]') && tabs.show('open'));
@@ -72,9 +72,9 @@ function startViews(library) {
     inputs.open(log);
     document.documentElement.dataset.opened = name;
   };
-  new OpenView(EXAMPLES, open);
-  new PlanView();
-  const play = new PlayView(library, EXAMPLES);
+  new OpenView(examples, open);
+  new PlanView((line) => library.plan(line));
+  const play = new PlayView(library, examples);
   if (play.openFragment(location.hash)) tabs.show('play');
 }
 
@@ -88,7 +88,7 @@ async function start() {
   library.show(library.frame, 0);
   if (build.bits === 32) byId('lowered').textContent = ', wasm-opt, which lowered it to 32-bit addresses,';
   trouble('');
-  startViews(library);
+  startViews(library, JSON.parse(new TextDecoder().decode(await inflated(EXAMPLES))));
   document.documentElement.dataset.bits = String(build.bits);
 }
 

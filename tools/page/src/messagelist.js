@@ -1,6 +1,6 @@
 // Messages of a log as they are read: their octets one after the other, and a column for each thing known of them.
 
-import { LOG_SIDES } from './constants.js';
+import { LOG_SIDES, LOG_TIMES } from './constants.js';
 
 // What lines say above a message: that frames may be lost, that another part of the log begins, or that octets are in no message.
 export const MARKS = { loss: 1, heading: 2, lost: 4 };
@@ -9,15 +9,15 @@ export const MARKS = { loss: 1, heading: 2, lost: 4 };
 export const NO_ADDRESS = 256;
 
 // The columns: `at` has the octet of its line at which each begins, counted from 1, or 0; `sides` what the log says of the side that sent
-// each; `addresses` the address before each, or NO_ADDRESS; `marks` the MARKS of the lines directly above each, and those above the end of
+// each; `addresses` the address before each, or NO_ADDRESS; `timeKinds` what the time of each counts from; `marks` the MARKS of the lines directly above each, and those above the end of
 // the log in the place after the last.
 export const COLUMN_OF = { starts: Uint32Array, lengths: Uint32Array, lines: Uint32Array, at: Uint32Array, sides: Uint8Array,
-  addresses: Uint16Array, marks: Uint8Array, times: Float64Array };
+  addresses: Uint16Array, marks: Uint8Array, times: Float64Array, timeKinds: Uint8Array };
 
 export class MessageList {
   // Room for the messages of this number of lines, which together have at most `octets` octets. A line may have several.
   constructor(lines, octets) {
-    Object.assign(this, { octets: new Uint8Array(octets + 1), end: 0, count: 0, clocks: [] });
+    Object.assign(this, { octets: new Uint8Array(octets + 1), end: 0, count: 0 });
     for (const [name, column] of Object.entries(COLUMN_OF)) this[name] = new column(lines + 1);
     // Why lines that may have held a frame gave none, their texts, whether it is by their check, and whether no form has them, by the places
     // of their rows.
@@ -35,7 +35,7 @@ export class MessageList {
     }
   }
 
-  addMessage({ line, at = 0, side = LOG_SIDES.noSide, address = NO_ADDRESS, octets, time = null, clock = '' }) {
+  addMessage({ line, at = 0, side = LOG_SIDES.noSide, address = NO_ADDRESS, octets, time = null, timeKind = LOG_TIMES.noTime }) {
     const place = this.count++;
     this.starts[place] = this.end;
     this.lengths[place] = octets.length;
@@ -44,7 +44,7 @@ export class MessageList {
     this.sides[place] = side;
     this.addresses[place] = address;
     this.times[place] = time ?? NaN;
-    this.clocks.push(clock);
+    this.timeKinds[place] = timeKind;
     this.octets.set(octets, this.end);
     this.end += octets.length;
     if (this.count === this.starts.length) this.widen();

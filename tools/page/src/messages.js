@@ -6,7 +6,6 @@ import { detailOf } from './detail.js';
 import { FILES } from './files.js';
 import { asLatin, hexText } from './hex.js';
 import { ENDS } from './judging.js';
-import { STATUS_BITS } from './library.js';
 import { FACTS } from './log.js';
 import { TERMS } from './log_words.js';
 import { hasNotes, noteOf } from './rules.js';
@@ -20,11 +19,12 @@ const COLUMNS = [['Line', '3.6rem', 'number'], ['Time', 'var(--time)', 'time'], 
   ['Message', 'var(--words)', 'words'], ['Note', 'var(--rule)', 'rule'], ['Octets', 'var(--octets)', 'octets']];
 // What is said of a log by its form, after its name.
 const FORMS = ['', ', read as frames', ', read as a transcript'];
-const SYMBOLS = { good: '✓', partly: '✓', unjudged: '?', restarted: '!', broken: '✗', none: '?' };
+const SYMBOLS = { good: '✓', partly: '✓', few: '?', unjudged: '?', missing: '!', restarted: '!', lost: '!', broken: '✗', none: '?' };
 // What words of a verdict mean.
 const WORDS = {
   entry: 'a change of an input, with its time, in a block of the module (182)',
   'gap mark': TERMS['gap mark'],
+  seam: 'a place where this log does not show that the transitions of a block follow those of the block above it: some are lost, blocks are not in the log, or the module was restarted',
   'clear block': TERMS.clear,
   sync: 'what the rules know of the block that is due: it is lost at a breach, a restart and a line that may have held a message, and nothing is judged from there to the next poll',
   'own profile': 'what this project chose where TEES 2009 leaves a choice: a device that chose otherwise breaks such a rule, and may be right',
@@ -134,13 +134,14 @@ export class MessagesView {
     return `${log.name}${FORMS[log.form]}.${turned}${reversed}${passedWords(log)}`;
   }
 
-  // The one verdict, a way to the first breach, and what was not judged.
+  // The answer, what rules say, a way to the first breach or seam, and what was not judged.
   drawVerdict() {
-    const { kind, text, more, first, notJudged, stations = [] } = this.log.verdict;
+    const { kind, answer: [says, ...rest], text, more, first, notJudged, stations = [] } = this.log.verdict;
     const show = first < 0 ? [] : [' ', element('button', { id: 'first-breach', onclick: () => this.goTo(first) }, `Show ${this.log.where(first)}`)];
     byId('verdict').dataset.kind = kind;
-    byId('verdict').replaceChildren(element('p', { class: 'says' }, element('strong', { 'aria-hidden': 'true' }, SYMBOLS[kind]), ' ',
-      element('span', { id: 'verdict-text' }, element('strong', {}, text), more), ...show),
+    const mark = [element('strong', { 'aria-hidden': 'true' }, SYMBOLS[kind]), ' '];
+    byId('verdict').replaceChildren(...says ? [element('p', { id: 'answer' }, ...mark.splice(0), element('strong', {}, says), ...rest.map((one) => ` ${one}`))] : [],
+      element('p', {}, ...mark, element('span', { id: 'verdict-text' }, element(says && kind !== 'broken' ? 'span' : 'strong', {}, text), more), ...show),
     ...stations.length === 0 ? [] : [element('ul', { id: 'stations' }, ...stations.map(([address, words]) => element('li', {}, element('b', {}, address), `: ${words}`)))],
     ...notJudged.length === 0 ? [] : [element('p', { class: 'soft', id: 'not-judged' }, notJudged.join(' '))]);
   }
@@ -198,7 +199,7 @@ export class MessagesView {
   draw(place) {
     const { log } = this, octets = log.octets(place), note = noteOf(log, place);
     const digits = hexText(octets.subarray(0, SHOWN_OCTETS)) + (octets.length > SHOWN_OCTETS ? '…' : '');
-    return { kinds: this.kindsOf(place, note), cells: [String(log.lines[place]), log.clocks[place], DIRECTIONS[log.directions[place]], log.written(place)[0], note, digits] };
+    return { kinds: this.kindsOf(place, note), cells: [String(log.lines[place]), log.clockOf(place), DIRECTIONS[log.directions[place]], log.written(place)[0], note, digits] };
   }
 
   kindsOf(place, note) {
@@ -207,7 +208,7 @@ export class MessagesView {
     else if (log.breaches.has(place)) kinds.push('broken');
     else if (log.restarts.has(place)) kinds.push('restarted');
     else if (log.isFaulty[place]) kinds.push('faulty');
-    else if (log.hasBit(place, STATUS_BITS.lost)) kinds.push('marked');
+    else if (log.seams.has(place)) kinds.push('marked');
     return kinds;
   }
 

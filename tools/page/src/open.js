@@ -1,7 +1,7 @@
 // The view Open: a log is dropped, chosen, pasted, or taken from the examples.
 
 import { byId, element } from './dom.js';
-import { fromBase64, fromHex } from './hex.js';
+import { fromHex, fromLetters } from './hex.js';
 import { ENDS } from './judging.js';
 import { LINE_WAYS } from './line.js';
 import { REWRITINGS } from './rewriting.js';
@@ -29,7 +29,7 @@ export class OpenView {
     Object.assign(this, { open, examples, address: byId('address'), zone: document.querySelector('.drop') });
     const names = Object.keys(examples).filter((name) => !name.endsWith('.script') && !STORIES.some(([story]) => story === name));
     byId('stories').append(...STORIES.map(([name, title, says]) => this.item(name, title, says, element('small', { class: 'mono' }, name))));
-    byId('examples').append(...names.map((name) => this.item(name, name, IN_WORDS[name] || /^# (.*)/m.exec(atob(examples[name]))[1])));
+    byId('examples').append(...names.map((name) => this.item(name, name, IN_WORDS[name] || /^# (.*)/m.exec(examples[name])[1])));
     byId('more-examples').firstChild.textContent = `${names.length} more examples: each form of log, each rule broken once`;
     this.listen(byId('file'), byId('form'));
     window.addEventListener('dragover', (event) => event.preventDefault());
@@ -54,7 +54,7 @@ export class OpenView {
   }
 
   item(name, title, says, ...more) {
-    const open = () => this.open(name, fromBase64(this.examples[name]), { form: 'auto', end: ENDS.auto });
+    const open = () => this.open(name, fromLetters(this.examples[name]), { form: 'auto', end: ENDS.auto });
     return element('li', {}, element('button', { 'data-example': name, onclick: open }, element('b', {}, title), element('span', {}, says), ...more));
   }
 

@@ -2,23 +2,28 @@
 
 import { BLOCK_ENTRIES, INPUTS, MOST_WAITING, STANDARD_WAITING } from './constants.js';
 import { byId, counted, element, withCommas } from './dom.js';
-import { paceAt, planOf, rowOf } from './planning.js';
+import { planOf, rowOf } from './planning.js';
 
 const SLIDERS = [
   ['inputs', 'How many inputs are open?', 1, INPUTS, INPUTS],
   ['filter', 'How long is the shortest filter, in samples?', 1, 255, 5],
-  ['pace', 'How often does the CPU poll, in milliseconds?', 1, 255, 19],
+  ['pace', 'How often does the CPU poll, in milliseconds?', 1, 255, 18],
   ['lost', 'How many rounds in a row may be lost?', 0, 8, 0],
   ['outage', 'How long does an outage last, in milliseconds?', 0, 3000, 80],
   ['waiting', 'How many entries may wait in the module?', 1, MOST_WAITING, STANDARD_WAITING],
   ['rate', 'How many bits does the line carry in a second?', 1200, 2000000, 614400],
-  ['stop', 'How many stop bits has an octet? 0: a synchronous line', 0, 2, 0],
+  ['drift', 'By how many parts in a million is its clock faster or slower than the module’s?', 0, 10000, 100],
+  ['jitter', 'How late may a poll be by that clock, in milliseconds?', 0, 255, 0],
+  ['stop_bits', 'How many stop bits has an octet? 0: a synchronous line', 0, 2, 0],
 ];
 
 export class PlanView {
-  chosen = {};
+  // A block takes as many entries as it can.
+  chosen = { per_block: BLOCK_ENTRIES };
 
-  constructor() {
+  // `paceOf` gives the least pace over a line.
+  constructor(paceOf) {
+    this.paceOf = paceOf;
     byId('sliders').addEventListener('submit', (event) => event.preventDefault());
     byId('sliders').append(...SLIDERS.map((slider) => this.slider(...slider)));
     this.draw();
@@ -39,8 +44,8 @@ export class PlanView {
   }
 
   draw() {
-    const plan = planOf(this.chosen), least = paceAt(this.chosen), { inputs, filter, pace, lost, outage, rate } = this.chosen, verdict = byId('plan-verdict');
-    const isInPace = least !== undefined && least.pace <= pace;
+    const plan = planOf(this.chosen), least = this.paceOf(this.chosen), { inputs, filter, pace, lost, outage, rate } = this.chosen, verdict = byId('plan-verdict');
+    const isInPace = least !== null && least.scans <= pace;
     verdict.className = plan.isInTime && plan.isRiddenOut && isInPace ? 'good' : 'bad';
     verdict.textContent = (plan.isInTime
       ? `A round every ${pace} ms is often enough${lost ? ` with ${counted(lost, 'lost round')} in a row` : ''}: nothing is lost.`
@@ -61,7 +66,7 @@ export class PlanView {
         'What can change in it has room among the entries that may wait'],
       [`The most entries that wait after ${withCommas(outage)} ms without a poll`, withCommas(plan.after), 'What can change in it, or all that there is room for; computed, not proved'],
       ['Clean rounds until these are in the record', String(plan.caughtUpIn), `Each takes a block, up to ${BLOCK_ENTRIES} entries`],
-      [`Over a line of ${withCommas(rate)} bit/s the CPU can poll every`, least ? least.pace + ' ms' : 'no pace',
+      [`Over a line of ${withCommas(rate)} bit/s the CPU can poll every`, least ? least.scans + ' ms' : 'no pace',
         least ? `A round takes at most ${least.round} ms, and ends before the next one; a transition is in the record after at most ${withCommas(least.late)} ms`
           : 'No round that is often enough ends before the next one'],
     ];

@@ -2,7 +2,7 @@
 
 import { INPUTS, STANDARD_WAITING } from './constants.js';
 import { byId, element, saveText, say, withCommas } from './dom.js';
-import { fromBase64, hexText } from './hex.js';
+import { fromLetters, hexText } from './hex.js';
 import { ladderOf } from './ladder.js';
 import { Module, Poller } from './library.js';
 import { headerOf, itemText, levelsText, readScript, Run } from './script.js';
@@ -47,7 +47,7 @@ export class PlayView {
 
   // Runs an example.
   show(name) {
-    const text = new TextDecoder().decode(fromBase64(this.examples[name]));
+    const text = new TextDecoder().decode(fromLetters(this.examples[name]));
     this.read(text);
     byId('play-story').textContent = text.split('\n').slice(1).filter((line) => line.startsWith('#')).map((line) => line.slice(2)).join(' ');
     this.ladder.scrollTop = 0;

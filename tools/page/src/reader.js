@@ -2,7 +2,6 @@
 // say.
 
 import { isCapture, linesOfCapture } from './captures.js';
-import { clockOf } from './clocks.js';
 import { LOG_FORMS, LOG_KINDS, LOG_REASONS, LOG_SIDES } from './constants.js';
 import { Foreign, foreignText } from './foreign.js';
 import { fromHex } from './hex.js';
@@ -104,7 +103,7 @@ export class Found extends MessageList {
     const { line, kind, reason, foreign } = verdict, isDropped = DROPPED.includes(reason);
     this.told += 1;
     if (kind === LOG_KINDS.blank) this.blanks += 1;
-    if (isDropped) this.addDamaged(line, REASONS[reason]);
+    if (isDropped) this.addDamaged(line, REASONS[reason], { isBeside: kind === LOG_KINDS.says });
     if (kind === LOG_KINDS.says) {
       this.addFrames(verdict);
       if (isDropped) this.mark(MARKS.lost);
@@ -120,7 +119,7 @@ export class Found extends MessageList {
     }
   }
 
-  // A line that may have held a message. `how` is whether its check is wrong, and whether it is of no form.
+  // A line that may have held a message. `how` says whether it is of no form.
   addDamaged(line, why, how = {}) {
     this.addBad(line, { why, text: this.textOf(line).slice(0, LONGEST_SHOWN), ...how });
   }
@@ -133,11 +132,11 @@ export class Found extends MessageList {
 
   // The numbers of the sides are those of directions. `at` is the octet of the line at which the first frame begins, counted from 1; 0
   // if it begins in a line above.
-  addFrames({ line, said: side, time, address, frames, at = 1 }) {
-    const inTime = time < END_OF_TIME ? time : null, clock = inTime === null ? '' : clockOf([this.textOf(line), this.textOf(line - 1)], inTime);
+  addFrames({ line, said: side, time, timeKind, address, frames, at = 1 }) {
+    const moment = time !== null && time < END_OF_TIME ? { time, timeKind } : {};
     let begin = at;
     for (const octets of frames) {
-      this.addMessage({ line, side, address, octets, time: inTime, clock, at: begin });
+      this.addMessage({ line, side, address, octets, ...moment, at: begin });
       begin += octets.length;
       this.sure += 1;
       this.noteSide(side, octets[0]);

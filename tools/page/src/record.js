@@ -1,7 +1,6 @@
 // The record that the CPU of a log has, by the proved poller: transitions in order, and gap marks where the module said
 // that entries are missing. Times go on from one another, where the counter wraps, is loaded or starts anew.
 
-import { clockAfter } from './clocks.js';
 import { BLOCK, HEARD, POLL } from './library.js';
 import { entryOf, ruleOf } from './rules.js';
 import { itemText } from './script.js';
@@ -15,16 +14,16 @@ export class Record {
   constructor(log) {
     // The items, transitions and gap marks; the lanes of inputs, with the transitions of each; those that break a rule on content.
     Object.assign(this, { log, items: [], lanes: new Map(), broken: new Set() });
-    // Stretches with entries missing, the blocks taken, polls without an answer, polls that left a block out, and restarts.
-    Object.assign(this, { gaps: [], blocks: [], lostPolls: [], skips: [], restarts: [] });
-    Object.assign(this, { offset: 0, latest: 0, isStarted: false });
+    // The seams, each with the time from the block above it, the blocks taken, polls without an answer, polls that left a block out, and restarts.
+    Object.assign(this, { seams: [], blocks: [], lostPolls: [], skips: [], restarts: [] });
+    Object.assign(this, { offset: 0, latest: 0, isStarted: false, gaps: 0 });
     // The first item below a poll; and below which item `fio2070 record` ends, with its last line.
     Object.assign(this, { begin: null, end: null });
   }
 
   // How many transitions there are.
   get count() {
-    return this.items.length - this.gaps.length;
+    return this.items.length - this.gaps;
   }
 
   // Takes the next message. A poll that asks for the block that was taken last changes nothing: its answer is stale. One that asks for any
@@ -52,11 +51,15 @@ export class Record {
 
   // Hears a block, which may break a rule on content.
   hear(place, content) {
-    const { log } = this, heard = log.poller.hear(log.address(place), log.lengths[place]), count = this.items.length;
+    const { log, latest } = this, heard = log.poller.hear(log.address(place), log.lengths[place]), count = this.items.length;
     if (content) this.end ||= [count + Math.min(content.items, heard.items), contentLine(log, place)];
-    if (heard.kind !== HEARD.taken) return;
-    this.add(heard.items, place, log.stamps[place]);
-    if (content && entryOf(log, place, content) >= 0) this.broken.add(this.items[count + content.items]);
+    if (heard.kind === HEARD.taken) {
+      this.add(heard.items, place, log.stamps[place]);
+      if (content && entryOf(log, place, content) >= 0) this.broken.add(this.items[count + content.items]);
+    }
+    if (!log.seams.has(place)) return;
+    const to = this.items.slice(count).find(({ gap }) => !gap)?.time ?? this.latest;
+    this.seams.push({ from: Math.min(latest, to), to, place, ...log.seams.get(place) });
   }
 
   // Follows the counter to the stamp of a block. A step back of more than half its range is a wrap; after any other, the
@@ -69,21 +72,15 @@ export class Record {
 
   // Adds the items of a block that the poller took.
   add(count, place, stamp) {
-    const before = this.latest;
     this.follow(stamp);
     this.blocks.push({ time: this.latest, place });
-    let gap = null;
     for (let index = 0; index < count; index++) {
       // An entry is at most 65,536 ms older than its block.
       const { gap: isGap, input, state, wide } = this.log.poller.recordItem(index), time = Math.max(this.latest - ((stamp - wide) >>> 0), 0);
       const item = { gap: isGap, input, state, wide, place, time };
       this.items.push(item);
-      if (isGap) this.gaps.push(gap = { from: before, to: this.latest });
-      else {
-        if (gap) Object.assign(gap, { from: Math.min(before, time), to: time });
-        gap = null;
-        this.lane(input).push(item);
-      }
+      if (isGap) this.gaps += 1;
+      else this.lane(input).push(item);
     }
   }
 
@@ -95,8 +92,8 @@ export class Record {
 
   // The log's clock at a time of the record, by the latest block up to it; empty if the log has no time there.
   clockAt(time) {
-    const block = this.blocks[Math.max(firstFrom(this.blocks, time + 1) - 1, 0)], clock = block ? this.log.clocks[block.place] : '';
-    return clock && clockAfter(clock, (time - block.time) / 1000);
+    const block = this.blocks[Math.max(firstFrom(this.blocks, time + 1) - 1, 0)];
+    return block ? this.log.clockOf(block.place, (time - block.time) / 1000) : '';
   }
 
   // The lines that `fio2070 record` writes of a log: the record, to the first breach of a rule on content or the first restart of the

@@ -1,6 +1,7 @@
 // What is said of a message: the rule that it breaks, what a breach or a restart means, what a rule says, what the bits of its status say,
 // and why it is not judged.
 
+import { seamWords } from './answer.js';
 import { BITS } from './bits.js';
 import { ADVANCE_BREACHES, CONTENT_RULES, INPUTS, RULES } from './constants.js';
 import { BLOCK, FIRST_ANSWER, STATUS_BITS, WATCHDOG_ANSWER } from './library.js';
@@ -72,8 +73,9 @@ function limitsWords(log, place) {
 // The bits of a block's status in few words; the detail has them in full.
 const IN_SHORT = { C: 'more entries wait', F: 'entries were pushed out', E: 'sent again', G: 'a block number was left out' };
 
-// The bits that are 1 in a value of the flags or the status of a type: their letters, and what they say.
-export const bitsOf = (code, value) => (BITS[code]?.bits || []).filter(([, bit]) => (value & bit) !== 0).map(([letter, , says]) => [letter, says]);
+// The bits that are 1 in a value of the flags or the status of a type, F of a block first: their letters, and what they say.
+export const bitsOf = (code, value) => (BITS[code]?.bits || []).filter(([, bit]) => (value & bit) !== 0).sort(([one], [other]) => (other === 'F') - (one === 'F'))
+  .map(([letter, , says]) => [letter, says]);
 
 // The same of a status, in few words.
 export const statusNotes = (code, status) => BITS[code]?.word !== 'status' ? []
@@ -83,8 +85,9 @@ export const statusNotes = (code, status) => BITS[code]?.word !== 'status' ? []
 export const doubtOf = (log, place) => (log.damaged.get(place) || log.others.get(place) || { why: '' }).why;
 
 export function noteOf(log, place) {
-  const reason = log.reason(place), notes = statusNotes(log.codes[place], log.status[place]);
+  const reason = log.reason(place), seam = log.seams.get(place), notes = statusNotes(log.codes[place], log.status[place]);
   if (reason) notes.unshift(reason);
+  else if (seam?.cause) notes.push(seamWords({ ...seam, is_lost: 0 }));
   if (doubtOf(log, place)) notes.push(doubtOf(log, place));
   if (log.isUnanswered(place)) notes.push('no answer');
   return notes.join('; ');
@@ -93,6 +96,6 @@ export function noteOf(log, place) {
 // Whether a row of a log has a note.
 export function hasNotes(log) {
   const { summary, status, codes } = log;
-  return log.breaches.size + log.restarts.size + log.damaged.size + log.others.size + summary.unanswered > 0
+  return log.breaches.size + log.restarts.size + log.seams.size + log.damaged.size + log.others.size + summary.unanswered > 0
     || status.some((it, place) => it > 0 && statusNotes(codes[place], it).length > 0);
 }

@@ -84,7 +84,6 @@ export function aloneOf(log, address) {
     above = 0;
   }
   const columns = Object.entries(COLUMN_OF).map(([name, column]) => [name, column.from([...places, log.count], (place) => log[name][place])]);
-  return { ...Object.fromEntries(columns), marks: Uint8Array.from([...marks, above | log.marks[log.count]]), clocks: places.map((place) => log.clocks[place]),
-    damaged, others: new Map(), octets: new Uint8Array(0), end: 0, count: places.length, form: log.form, remarks: log.remarks, isReversed: log.isReversed,
+  return { ...Object.fromEntries(columns), marks: Uint8Array.from([...marks, above | log.marks[log.count]]), damaged, others: new Map(), octets: new Uint8Array(0), end: 0, count: places.length, form: log.form, remarks: log.remarks, isReversed: log.isReversed,
     isWithoutLines: log.isWithoutLines, whole: log, places };
 }

@@ -1,48 +1,60 @@
-// The verdict on a log, by all rules: what is said first, where the first breach or restart is, and what was not judged, with the
-// reason.
+// The verdict on a log: the answer first, then what rules say, where the first breach, restart or seam is, and what was not judged, with
+// the reason.
 
+import { answerOf } from './answer.js';
 import { WHY } from './constants.js';
 import { capital, counted, sentence, withCommas } from './dom.js';
 import { CAUSES, ENDS } from './judging.js';
 import { POLL } from './library.js';
-import { SIDES, SIGNS } from './log_words.js';
+import { CURES, SIDES, SIGNS } from './log_words.js';
 import { RESTART_HELP, ruleOf } from './rules.js';
 import { stationText } from './stations.js';
 
-// Its kind, as the style names it; its sentence, and more on it; the place of the first breach or restart (-1 if there is none); and
-// sentences on what was not judged.
+// Its kind, as the style names it; the sentences of the answer, none for several stations; what rules say, and more on it; the place of the
+// first breach, restart or seam (-1 if there is none); and sentences on what was not judged.
 export function verdictOf(log) {
   return log.stations.size > 0 ? verdictApart(log) : verdictOfLink(log);
 }
 
 function verdictOfLink(log) {
   const { messages, badLines } = log.summary, readable = messages - badLines;
-  const [kind, text, more = '', first = -1] = saidOf(log, readable);
-  return { kind, text, more, first, notJudged: sentencesOf(log, readable > 0) };
+  const [kind, text, more = '', first = [...log.seams.keys(), -1][0]] = saidOf(log, readable);
+  return { kind: kindWith(log, kind), answer: answerOf(log), text, more, first, notJudged: sentencesOf(log, readable > 0) };
+}
+
+// The kind of a verdict, of which rules say one: green only if it is known that nothing is lost.
+function kindWith({ seams, counted: { lost, restarts, blocks } }, kind) {
+  if (kind === 'broken' || kind === 'none') return kind;
+  if (lost > 0) return 'lost';
+  if (restarts > 0 || kind === 'restarted') return 'restarted';
+  return seams.size > 0 ? 'missing' : kind !== 'unjudged' && blocks < 2 ? 'few' : kind;
 }
 
 // The kinds, the worst first, and what is said of this many stations that have it.
 const APART = {
   broken: (some) => `A rule is broken at ${some}`,
+  lost: (some) => `Transitions are lost at ${some}`,
   restarted: (some) => `The module restarted at ${some}`,
+  missing: (some) => `Transitions may be missing at ${some}`,
   unjudged: (some) => `Little could be judged at ${some}`,
-  partly: (some, all) => `No rule is broken at ${all}`,
-  good: (some, all) => `No rule is broken at ${all}`,
+  few: (some) => `Too few blocks to say at ${some}`,
+  partly: (some, all) => `Nothing is lost, and no rule broken, at ${all}`,
+  good: (some, all) => `Nothing is lost, and no rule broken, at ${all}`,
 };
 
 // The verdict on a line of several stations has that on each, by its address.
 function verdictApart(log) {
   const verdicts = [...log.stations.values()].map(({ verdict }) => verdict), kind = Object.keys(APART).find((one) => verdicts.some((verdict) => verdict.kind === one));
   const all = counted(verdicts.length, 'station'), some = `${verdicts.filter((verdict) => verdict.kind === kind).length} of ${all}`;
-  const [first = -1] = [...log.breaches.keys(), ...log.restarts], isPart = kind === 'good' && log.others.size > 0;
-  return { kind: isPart ? 'partly' : kind, text: `${APART[kind](some, all)}, each judged by itself.`, more: '', first, notJudged: sentencesOf(log, true),
+  const [first = -1] = [...log.breaches.keys(), ...log.restarts, ...log.seams.keys()], isPart = kind === 'good' && log.others.size > 0;
+  return { kind: isPart ? 'partly' : kind, answer: [], text: `${APART[kind](some, all)}, each judged by itself.`, more: '', first, notJudged: sentencesOf(log, true),
     stations: [...log.stations].map(([address, alone]) => [stationText(address), wordsOf(alone)]) };
 }
 
 // What is said of a station in short.
-function wordsOf({ isFit, logged, summary, verdict: { text, more } }) {
+function wordsOf({ isFit, logged, summary, verdict: { answer, text, more } }) {
   const silent = isFit && sentence(SIDES[logged] || '');
-  return `${counted(summary.messages - summary.badLines, 'message')}. ${text}${more}${silent ? ` ${silent}` : ''}`;
+  return `${counted(summary.messages - summary.badLines, 'message')}. ${answer.join(' ')} ${text}${more}${silent ? ` ${silent}` : ''}`;
 }
 
 // The kind, the sentence, more, and the place, where so many messages are sure.
@@ -66,9 +78,9 @@ function brokenOf(log, readable) {
     return ['broken', `None of the ${withCommas(readable)} lines with octets is a message`,
       `; ${log.where(place)}: ${log.words(place)[0]}. Perhaps the log is of another link, or the bits of its octets are in reverse order.`, place];
   }
-  const rule = `${log.where(place)} breaks the rule ${ruleOf(breach)}`;
-  return ['broken', broken === 1 ? capital(rule) : `${counted(broken, 'message')} of ${withCommas(readable)} break a rule. The first: ${rule}`,
-    `: ${log.meaning(place)}.${restarts > 0 ? ` ${restartsIn(log)}. ${RESTART_HELP}` : ''}`, place];
+  const rule = `${log.where(place)} breaks the rule ${ruleOf(breach)}`, whose = log.isSent(place) ? 'CPU' : 'module', cure = CURES[ruleOf(breach)];
+  return ['broken', broken === 1 ? `${capital(whose)}: ${rule}` : `${counted(broken, 'message')} of ${withCommas(readable)} break a rule, the first one of the ${whose}: ${rule}`,
+    `: ${log.meaning(place)}.${cure ? ` ${cure}` : ''}${restarts > 0 ? ` ${restartsIn(log)}. ${RESTART_HELP}` : ''}`, place];
 }
 
 // Where the module restarted.

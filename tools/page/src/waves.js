@@ -101,7 +101,7 @@ export class Waves {
       it.clip();
     }
     this.drawAxis(head, paint);
-    this.drawGaps(head, paint);
+    this.drawSeams(head, paint);
     this.drawLanes(paint);
     head.fillStyle = this.colour('soft');
     for (const x of this.placesOf(record.blocks, 2)) head.fillRect(x, this.low - 17, 1, 10);
@@ -153,19 +153,31 @@ export class Waves {
     }
   }
 
-  // A gap mark is a stretch over all lanes: entries are missing in it.
-  drawGaps(head, paint) {
-    head.textAlign = 'left';
-    paint.fillStyle = this.colour('bad-back');
-    paint.strokeStyle = head.fillStyle = this.colour('bad');
+  // Where a seam begins, and its width.
+  bandOf({ from, to }) {
+    const x = this.xOf(from);
+    return [x, Math.max(this.xOf(to) - x, 3)];
+  }
+
+  // The latest seam at a point; undefined if there is none.
+  seamAt(at) {
+    return this.record.seams.findLast((seam) => {
+      const [x, width] = this.bandOf(seam);
+      return at >= x && at <= x + width;
+    });
+  }
+
+  // A seam is a band over all lanes: transitions are lost in it, or may be missing.
+  drawSeams(head, paint) {
     paint.setLineDash([3, 3]);
-    for (const gap of this.record.gaps) {
-      const from = this.xOf(gap.from), width = Math.max(this.xOf(gap.to) - from, 3);
-      if (from + width < LEFT || from > this.width) continue;
-      paint.fillRect(from, 0, width, this.canvas.clientHeight);
-      paint.strokeRect(from + 0.5, -1, width, this.canvas.clientHeight + 2);
-      head.fillRect(from, this.low - 3, width, 3);
-      head.fillText('gap', Math.max(from, LEFT) + 2, this.low - 6);
+    for (const seam of this.record.seams) {
+      const [x, width] = this.bandOf(seam), colour = seam.is_lost ? 'bad' : 'warn';
+      if (x + width < LEFT || x > this.width) continue;
+      paint.fillStyle = this.colour(`${colour}-back`);
+      paint.strokeStyle = head.fillStyle = this.colour(colour);
+      paint.fillRect(x, 0, width, this.canvas.clientHeight);
+      paint.strokeRect(x + 0.5, -1, width, this.canvas.clientHeight + 2);
+      head.fillRect(x, this.low - 4, width, 4);
     }
     paint.setLineDash([]);
   }

@@ -128,6 +128,7 @@ pub const LOG_NO_OCTETS: u8 = 1;
 pub const LOG_NO_MESSAGE: u8 = 2;
 pub const LOG_NO_FORM: u8 = 3;
 pub const LOG_MORE: u8 = 4;
+pub const LOG_UNREAD_FRAME: u8 = 5;
 pub const LOG_TOO_LONG: u8 = 6;
 pub const LOG_BAD_LINE: u8 = 7;
 pub const LOG_LOSS: u8 = 10;
@@ -139,6 +140,12 @@ pub const LOG_BROKEN: u8 = 14;
 pub const LOG_NO_SIDE: u8 = 0;
 pub const LOG_FROM_CPU: u8 = 1;
 pub const LOG_FROM_MODULE: u8 = 2;
+
+// What the time of a line of a log counts from.
+pub const LOG_NO_TIME: u8 = 0;
+pub const LOG_DATE: u8 = 1;
+pub const LOG_TIME_OF_DAY: u8 = 2;
+pub const LOG_SINCE_START: u8 = 3;
 
 /// Where a log was taken.
 pub const LOG_TAKEN_AUTO: u8 = 0;
@@ -158,6 +165,14 @@ pub const LOG_SIGN_TWICE: u8 = 1;
 pub const LOG_SIGN_BOTH_ENDS: u8 = 2;
 pub const LOG_SIGN_REVERSED: u8 = 3;
 pub const LOG_SIGN_TWO_LINKS: u8 = 4;
+
+/// Why a stretch of a log ends above a block.
+pub const SEAM_NONE: u8 = 0;
+pub const SEAM_MISSING: u8 = 1;
+pub const SEAM_PASSED_OVER: u8 = 2;
+pub const SEAM_UNKNOWN: u8 = 3;
+pub const SEAM_RESTART: u8 = 4;
+pub const SEAM_DISBELIEVED: u8 = 5;
 
 // One's own frames on a line, and the most octets of one.
 pub const WIRE_ADDRESS: u8 = 0x14;

@@ -34,6 +34,7 @@ mod errors;
 mod judges;
 mod logs;
 mod raw;
+mod stretches;
 mod wire;
 mod written;
 
@@ -44,7 +45,8 @@ pub use judges::{LinkJudge, LogJudge, LogSigns};
 pub use logs::{Forms, Frames, LogBatch, LogReader, Verdict};
 pub use raw::{
     Answer, Breach, Command, ConfigurationItem, ContentBreach, Entry, ErrorCounts, Fault,
-    JudgeOutcome, Line, LogCounts, LogPlace, LogReadAs, Outputs, Pace, RecordItem, State,
+    JudgeOutcome, Line, LogCounts, LogPlace, LogReadAs, LogSeam, LogStretches, Outputs, Pace,
+    RecordItem, State,
 };
 pub use wire::{wire_check, wire_frame, Wire, WireBits, WireHeard};
 pub use written::Unwritten;
@@ -66,7 +68,7 @@ macro_rules! new_by_default {
     )*};
 }
 
-new_by_default! { Checker, ContentChecker, Counter, Filters, LogSigns, LogCounts, LogBatch }
+new_by_default! { Checker, ContentChecker, Counter, Filters, LogSigns, LogCounts, LogStretches, LogBatch }
 
 impl fmt::Display for Fault {
     /// As `fio2070 show` writes it.
@@ -98,23 +100,6 @@ pub fn decode_answer(octets: &[u8]) -> Result<Answer, Fault> {
     // SAFETY: as in `decode_command`.
     let fault = unsafe { raw::fio2070_decode_answer(octets.as_ptr(), octets.len(), &mut answer) };
     read(fault, answer)
-}
-
-/// Reads the module's millisecond counter in its answer to command 55 (answer 183).
-pub fn read_outputs_answer(octets: &[u8]) -> Result<u32, Fault> {
-    let mut stamp = 0;
-    // SAFETY: as in `decode_command`.
-    let fault =
-        unsafe { raw::fio2070_read_outputs_answer(octets.as_ptr(), octets.len(), &mut stamp) };
-    read(fault, stamp)
-}
-
-/// Reads which module answered command 60 (answer 188).
-pub fn read_identification(octets: &[u8]) -> Result<u8, Fault> {
-    let mut id = 0;
-    // SAFETY: as in `decode_command`.
-    let fault = unsafe { raw::fio2070_read_identification(octets.as_ptr(), octets.len(), &mut id) };
-    read(fault, id)
 }
 
 /// Copies the entries of a block answer to the front of `entries`.

@@ -91,7 +91,7 @@ impl LogBatch {
             places: 0,
             kind: 0,
             reason: 0,
-            has_time: 0,
+            time_kind: 0,
             said: 0,
             address: 0,
             control: 0,
@@ -141,7 +141,8 @@ impl LogBatch {
                     line: verdict.line,
                     kind: verdict.kind,
                     reason: verdict.reason,
-                    time: Some(verdict.time).filter(|_| verdict.has_time != 0),
+                    time: Some(verdict.time).filter(|_| verdict.time_kind != 0),
+                    time_kind: verdict.time_kind,
                     said: verdict.said,
                     address: Some(verdict.address).filter(|_| verdict.header > 0),
                     control: Some(verdict.control).filter(|_| verdict.header > 1),
@@ -166,8 +167,10 @@ pub struct Verdict<'a> {
     pub kind: u8,
     /// Why it gives no frame: one of `constants::LOG_NO_REASON` and those after it.
     pub reason: u8,
-    /// The time in microseconds since 1970, or since midnight or a start.
+    /// The time in microseconds, from what `time_kind` says.
     pub time: Option<u64>,
+    /// What it counts from: one of `constants::LOG_NO_TIME` and those after it.
+    pub time_kind: u8,
     /// Who sent its octets, as the line says: one of `constants::LOG_NO_SIDE` and those after it.
     pub said: u8,
     /// The address that stands before its messages, if all have one and the same.

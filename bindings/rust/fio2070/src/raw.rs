@@ -45,7 +45,8 @@ pub struct Line {
     pub inputs: u8,
     pub filter: u8,
     pub stop_bits: u8,
-    pub reserved: [u8; 4],
+    pub drift: u16,
+    pub jitter: u16,
 }
 
 /// A pace of a line, in scans; the load in thousandths.
@@ -252,7 +253,7 @@ pub struct LogVerdict {
     pub places: u32,
     pub kind: u8,
     pub reason: u8,
-    pub has_time: u8,
+    pub time_kind: u8,
     pub said: u8,
     pub address: u8,
     pub control: u8,
@@ -303,6 +304,56 @@ pub(crate) struct RawLogFormList {
     pub count: u32,
     pub reserved: [u8; 4],
     pub forms: [LogReadAs; 16],
+}
+
+/// A place of a log where a stretch ends, or transitions are lost: above a block answer. `cause` is one of `constants::SEAM_NONE` and
+/// those after it.
+#[derive(Clone, Copy, Debug, Default, PartialEq, Eq)]
+#[repr(C)]
+pub struct LogSeam {
+    pub pause: u64,
+    pub frame: u32,
+    pub cause: u8,
+    pub is_lost: u8,
+    pub has_pause: u8,
+    pub missing: u8,
+}
+
+/// What a log records of the transitions of one module, modulo 2^64: begin with `LogStretches::new`. The fields from `pause` on are the
+/// library's own.
+#[derive(Clone, Copy, Debug, PartialEq, Eq)]
+#[repr(C)]
+pub struct LogStretches {
+    pub blocks: u64,
+    pub transitions: u64,
+    pub lost: u64,
+    pub missing: u64,
+    pub missing_blocks: u64,
+    pub passed_over: u64,
+    pub unknown: u64,
+    pub restarts: u64,
+    pub disbelieved: u64,
+    pub timed: u64,
+    pub timed_whole: u64,
+    pub stamped: u64,
+    pub stamped_whole: u64,
+    pub loads: u64,
+    pub longest_pause: u64,
+    pub pause: u64,
+    pub polled_at: u64,
+    pub block_at: u64,
+    pub stamp: u32,
+    pub length: u16,
+    pub entries: u8,
+    pub number: u8,
+    pub status: u8,
+    pub has_block: u8,
+    pub has_block_at: u8,
+    pub has_polled_at: u8,
+    pub has_pause: u8,
+    pub is_loaded: u8,
+    pub items: [u8; 773],
+    pub reserved: [u8; 5],
 }
 
 /// What is counted of the frames of a log, modulo 2^64: begin with `LogCounts::new`. `waits` is 1 where the latest poll is not
@@ -405,10 +456,6 @@ extern "C" {
     pub(crate) fn fio2070_encode_answer(answer: &Answer, entries: *const Entry,
         entries_count: usize, body: *const u8, body_count: usize, out: *mut u8,
         out_count: usize) -> usize;
-    pub(crate) fn fio2070_read_outputs_answer(octets: *const u8, octets_count: usize,
-        stamp: &mut u32) -> Fault;
-    pub(crate) fn fio2070_read_identification(octets: *const u8, octets_count: usize,
-        id: &mut u8) -> Fault;
     pub(crate) fn fio2070_decode_answer(octets: *const u8, octets_count: usize,
         answer: &mut Answer) -> Fault;
     pub(crate) fn fio2070_block_entries(octets: *const u8, octets_count: usize, entries: *mut Entry,
@@ -482,6 +529,9 @@ extern "C" {
     pub(crate) fn fio2070_log_signs_batch(signs: &mut RawLogSigns, as_said: u8,
         batch: &RawLogBatch);
     pub(crate) fn fio2070_log_signs_sign(signs: &RawLogSigns) -> u8;
+    pub(crate) fn fio2070_log_stretches_start(stretches: &mut LogStretches);
+    pub(crate) fn fio2070_log_stretches_batch(stretches: &mut LogStretches, batch: &RawLogBatch,
+        outcomes: &[JudgeOutcome; 20480], seams: &mut [LogSeam; 20480]) -> u32;
     pub(crate) fn fio2070_sized_module_makers_command(device: &mut RawSizedModule,
         octets: *const u8, octets_count: usize) -> u8;
     pub(crate) fn fio2070_sized_module_answer_other(device: &mut RawSizedModule, command: u8,

@@ -51,10 +51,6 @@ fn messages_are_read_and_written() {
     let read = command_items(&BLOCK, &mut room);
     assert_eq!(read, Err(Unwritten::NoMessage));
     assert_eq!(decode_answer(&[0xb6]).unwrap_err().needed, 8);
-    assert_eq!(read_outputs_answer(&[0xb7, 0, 1, 2, 3, 4]), Ok(0x01020304));
-    assert_eq!(read_outputs_answer(&[0xb7, 0]).unwrap_err().got, 2);
-    assert_eq!(read_identification(&[0xbc, 254]), Ok(254));
-    assert_eq!(read_identification(&BLOCK).unwrap_err().code, 0xb6);
 }
 
 #[test]
@@ -140,6 +136,7 @@ fn numbers_have_texts() {
     let pace = plan(&line).unwrap();
     assert_eq!((pace.scans, pace.round, pace.late, pace.load), (4, 4, 7, 833));
     assert_eq!(plan(&Line { rate: 153_600, ..line }), None);
+    assert_eq!(plan(&Line { drift: 100, jitter: 2, ..line }).unwrap().scans, 16);
 }
 
 #[test]
@@ -365,6 +362,11 @@ fn read_by_batches() {
     let mut counts = LogCounts::new();
     assert_eq!(counts.batch(&batch, &mut taken), [3000, 2000]);
     assert_eq!((counts.frames, counts.polls), (4, 2));
+    let (mut stretches, mut seams) = (LogStretches::new(), [LogSeam::default(); 20480]);
+    let found = stretches.batch(&batch, &outcomes, &mut seams);
+    let causes: Vec<_> = found.iter().map(|it| (it.frame, it.cause, it.missing)).collect();
+    assert_eq!(causes, [(3, SEAM_MISSING, 1)]);
+    assert_eq!((stretches.blocks, stretches.missing_blocks), (2, 1));
     let mut part = Box::new(LogBatch::new());
     assert_eq!(part.take_part(&batch, &[1, 1, 2]), 2);
     let kinds: Vec<_> = part.verdicts().map(|it| it.kind).collect();

@@ -144,10 +144,9 @@ impl FormReader {
     pub(crate) fn has_near_tail(&self, line: &[u8], said: LineSaid) -> bool
         ensures { said.found.end ≡ length line.now → result ≡ false }
     {
-        said.found.end <= line.len()
-            && self
-                .counts
-                .has_near_tail(said.form, &line[said.found.end..])
+        let end = said.found.end;
+        end < line.len()
+            && (self.above.lacks_octets(line) || self.counts.has_near_tail(said.form, &line[end..]))
     }
 
     /// Returns whether no message is before that of a line. Only a form whose front may begin anywhere leaves one out.

@@ -61,11 +61,7 @@ impl FormReader {
         let is_all = self.is_quiet_from(line.text, found.end)
             && !self.has_odd_tail(line.text, heard.said);
         let mut is_whole = self.stream_rows.push(StreamRow::of(place, count, said)) && is_all;
-        let is_flags = self
-            .forms
-            .list()
-            .iter()
-            .any(|form| form.rows == LineRows::Flags);
+        let is_flags = self.is_of_flags();
         for at in 0..count {
             if let Some(octet) = self.reading.octets.get(at).copied() {
                 is_whole = self.stream.take(octet) && is_whole;
@@ -78,6 +74,14 @@ impl FormReader {
         kind_of_stream(is_whole, told.frames())
     }
 
+    /// Returns whether the frames of a stream are between flags.
+    pub(super) fn is_of_flags(&self) -> bool {
+        self.forms
+            .list()
+            .iter()
+            .any(|form| form.rows == LineRows::Flags)
+    }
+
     /// Divides off what the octets of the stream have ended; returns whether that was all messages.
     fn divide(&mut self, is_flags: bool, told: &mut Told) -> bool
         ensures forms { self.new.forms ≡ self.old.forms }
@@ -85,7 +89,7 @@ impl FormReader {
     {
         let mut is_whole = true;
         'parts: for _ in 0..KEPT {
-            let begin = begin_of(&self.stream.octets);
+            let begin = inside_of(&self.stream.octets);
             let next = if is_flags {
                 self.stream.unframe()
             } else {
@@ -94,8 +98,10 @@ impl FormReader {
             match next {
                 Next::Message(count) => {
                     if is_flags {
+                        let (flags, first) = begin;
                         let message = self.stream.message.len();
-                        self.headers.add(frame_header(count, message, &begin));
+                        self.headers
+                            .add(frame_header(count.saturating_sub(flags), message, &first));
                     }
                     is_whole = self.tell_of_stream(count, told) && is_whole;
                 }
@@ -112,23 +118,28 @@ impl FormReader {
         is_whole
     }
 
-    /// Takes a message of the stream, which has this many of its octets; returns whether there was room.
+    /// Takes a message of the stream, which has this many of its octets; returns whether there was room. The row of its first octet
+    /// says the time of the first message of a line, and who sent it.
     pub(super) fn tell_of_stream(&mut self, count: usize, told: &mut Told) -> bool
         ensures more { length told.old.frames ≤ length told.new.frames }
         ensures first { KeepsFirst told.old.frames told.new.frames }
         ensures forms { self.new.forms ≡ self.old.forms }
         ensures reading { self.new.reading ≡ self.old.reading }
     {
+        if told.frames() == 0 {
+            self.begun = self.stream_rows.top();
+        }
         let is_told = told.add_frame(&self.stream.message);
         self.stream_rows.take(count, true, told) && is_told
     }
 }
 
-/// Returns the first octets of a stream, with zeros after them if there are fewer.
-fn begin_of(octets: &[u8]) -> [u8; 5] {
+/// Returns how many flags a frame has with which octets begin, and the first four octets after the first flag; zeros if there are fewer.
+fn inside_of(octets: &[u8]) -> (usize, [u8; 4]) {
     match octets {
-        [flag, first, second, third, fourth, ..] => [*flag, *first, *second, *third, *fourth],
-        _ => [0; 5],
+        [0x7e, first, second, third, fourth, ..] => (2, [*first, *second, *third, *fourth]),
+        [first, second, third, fourth, ..] => (1, [*first, *second, *third, *fourth]),
+        _ => (0, [0; 4]),
     }
 }
 

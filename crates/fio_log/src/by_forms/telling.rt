@@ -7,13 +7,14 @@ ghost use Rattle.fio_log.specs.Heard.{LeavesOpen, Tells, TellsSaid, above_of, is
 ghost use Rattle.fio_log.specs.Verdicts.{Agrees, has_frames, has_reason};
 ghost use Rattle.fio_log.specs.Wordings.{SaysWords};
 
+use crate::ahead::is_part;
 use crate::by_forms::{FormReader, LineHeard};
-use crate::cut::{has_ends, is_cut_line};
+use crate::cut::is_cut_line;
 use crate::foreign::{Foreign, NONE, foreign_in};
 use crate::header::{FrameHeader, NO_HEADER, header_in, header_of_front};
 use crate::heading::Heading;
+use crate::heads::is_border;
 use crate::lines::NumberedLine;
-use crate::middle::lacks_middle;
 use crate::quiet::{Hidden, has_fronts, has_further, held_by_text};
 use crate::second::is_quiet_between;
 use crate::spoilt::has_odd_digits;
@@ -47,25 +48,28 @@ impl FormReader {
         };
         let own = Heading::of(line.text, place);
         let said = self.heading_of(own, heard);
-        let above = if self.stream.octets.is_empty() {
-            said
-        } else {
-            self.stream_rows.top()
-        };
         let (kind, reason) = self.tell_kind(line, heard, said, told);
-        if kind != Kind::PassedOver || heard.said.said != Said::Other {
-            self.above.pass();
+        match (kind, heard.said.said) {
+            (Kind::PassedOver, Said::Other) => {}
+            (Kind::Blank, _) => self.above.pass_blank(),
+            (_, Said::Other) => self.above.pass(),
+            _ => self.above.pass_row(),
         }
+        self.heads.take(
+            line.text,
+            heard.said.said != Said::Other,
+            kind == Kind::Frames,
+        );
         let foreign = self.foreign_of(line.text, heard, kind);
         self.count(line, heard, kind);
-        let shown = match heard.said.said {
-            Said::Stream => above,
-            _ if kind == Kind::Frames => self.begun,
-            _ => said,
+        let shown = if kind == Kind::Frames {
+            self.begun
+        } else {
+            said
         };
         let header = self.header_of(line.text, heard, kind);
         LineVerdict {
-            time: shown.time.or(own.time),
+            time: shown.time,
             header: if foreign.octets > 0 {
                 foreign.header()
             } else {
@@ -240,11 +244,14 @@ impl FormReader {
         }
     }
 
-    /// Returns whether the text after the octets of a row is nearer to them than those of the rows above, or has another row.
+    /// Returns whether the text after the octets of a row is nearer to them than those of the rows above, or has another row; or the offset
+    /// before them is not whole.
     pub(super) fn has_odd_tail(&mut self, line: &[u8], said: LineSaid) -> bool
         ensures kept { self.new ≡ record self.old { octets = self.new.octets } }
     {
+        let front = line.get(said.found.front..said.found.start);
         self.has_near_tail(line, said)
+            || front.is_some_and(|front| self.counts.lacks_offset(said.form, front))
             || said.found.end <= line.len()
                 && has_further(self.forms.list(), &line[said.found.end..], &mut self.octets)
     }
@@ -258,6 +265,15 @@ impl FormReader {
         is_quiet_between(self.forms.list(), line, from, line.len(), &mut self.octets)
     }
 
+    /// Returns whether the line directly above stands above octets, as the lines of the window and those above show it.
+    fn is_below_heading(&self) -> bool {
+        self.above.is_opening()
+            || self
+                .heads
+                .is_heading(self.above.shape())
+                .unwrap_or(self.above.is_heading())
+    }
+
     /// Returns what a line is that no form has.
     fn tell_other(&mut self, line: NumberedLine) -> (Kind, Reason)
         ensures told { is_of_others result.0 ≡ true }
@@ -268,13 +284,19 @@ impl FormReader {
         ensures words { SaysWords line.entry.text.now result.1 }
         ensures blank { result.0 ≡ Kind.Blank → is_blank_line (record { octets = line.entry.text.now; is_long = line.entry.is_long }) ≡ true }
     {
-        if line.is_blank() && !self.above.is_heading() {
+        let lacks_row = self.is_below_heading() && !is_border(line.text);
+        if line.is_blank() && !lacks_row {
             if self.counts.has_odd_blank() {
                 return (Kind::Possible, Reason::NoForm);
             }
             return (Kind::Blank, Reason::None);
         }
-        if self.above.is_heading()
+        if !lacks_row && self.heads.is_opening(line.text) {
+            self.above.take_opening(line.text);
+            self.is_loud = false;
+            return (Kind::PassedOver, Reason::NoOctets);
+        }
+        if lacks_row
             || is_cut_line(
                 self.forms.list(),
                 line.text,
@@ -288,14 +310,17 @@ impl FormReader {
         let is_odd = self.counts.has_odd(line.text);
         let held = held_by_text(self.forms.list(), line.text, &mut self.octets);
         self.is_loud = held != Hidden::Nothing
-            || has_ends(
+            || is_part(
                 self.forms.list(),
                 line.text,
                 &mut self.octets,
                 &mut self.held,
             )
-            || lacks_middle(self.forms.list(), line.text)
             || is_odd && reason_without_octets(line.text) == Reason::NoOctets;
+        if self.heads.is_of_message(line.text) {
+            self.above.take(line.text, true);
+            return (Kind::PassedOver, Reason::NoOctets);
+        }
         if !self.is_loud {
             let reason = reason_without_octets(line.text);
             self.above.take(line.text, reason == Reason::NoOctets);
@@ -305,7 +330,11 @@ impl FormReader {
         if reason != Reason::None {
             return (Kind::PassedOver, reason);
         }
-        let is_usual = self.shapes.are_usual(line.text, held == Hidden::Message);
+        let is_known = self.shapes.are_known(line.text, true);
+        let is_usual = self.shapes.are_usual(line.text, held.is_message()) || is_known;
+        if held == Hidden::Frame {
+            return (Kind::Possible, Reason::UnreadFrame);
+        }
         if is_usual && !has_fronts(self.forms.list(), line.text, &mut self.octets) {
             (Kind::PassedOver, Reason::NoMessage)
         } else {

@@ -1,9 +1,8 @@
 //! The four tools, and the program that chooses one, over readers and writers that fail at a call.
 use super::ends::{Feed, Sink};
 use crate::rows::expect_word;
-use fio_tool::{Ending, Tool, ToolFault, check, record, run_program, show, simulate};
+use fio_tool::{Ending, Tool, ToolFault, run_program, run_tool};
 use std::alloc::Global;
-use std::io::{Read, Write};
 use std::process::Abort;
 
 /// A tool, what it reads, what it then writes, and how it ends.
@@ -36,21 +35,6 @@ fn expect_tool(rt: &impl Abort, tool: Tool, call: usize, holds: bool) {
     assert!(*rt; holds, "{tool:?}, call {call}");
 }
 
-/// Runs a tool.
-fn run<R: Read, W: Write>(
-    alloc: Global,
-    tool: Tool,
-    reader: &mut R,
-    writer: &mut W,
-) -> Result<Ending, ToolFault> {
-    match tool {
-        Tool::Show => show(alloc, reader, writer),
-        Tool::Simulate => simulate(alloc, reader, writer),
-        Tool::Check => check(alloc, reader, writer),
-        Tool::Record => record(alloc, reader, writer),
-    }
-}
-
 /// A reader that fails at this call, or never for 0.
 fn feed(octets: &[u8], failing: usize) -> Feed<'_> {
     Feed {
@@ -66,7 +50,7 @@ fn feed(octets: &[u8], failing: usize) -> Feed<'_> {
 fn passes_octets(alloc: Global, (tool, input, text, expected): Row) -> bool {
     let mut feed = feed(input, 0);
     let mut sink = Sink::new(alloc);
-    run(alloc, tool, &mut feed, &mut sink) == Ok(expected)
+    run_tool(alloc, tool, &mut feed, &mut sink) == Ok(expected)
         && feed.calls == input.len().saturating_add(1)
         && sink.calls == text.len()
         && has_whole(&sink, text)
@@ -93,7 +77,7 @@ fn an_octet_a_call(rt: HostRuntime) {
 fn ends_at_read(alloc: Global, tool: Tool, input: &[u8], failing: usize) -> bool {
     let mut feed = feed(input, failing);
     let mut sink = Sink::new(alloc);
-    run(alloc, tool, &mut feed, &mut sink) == Err(ToolFault::Read)
+    run_tool(alloc, tool, &mut feed, &mut sink) == Err(ToolFault::Read)
         && feed.calls == failing
         && sink.calls == 0
 }
@@ -123,7 +107,7 @@ fn ends_at_write(
     let mut sink = Sink::new(alloc);
     sink.failing = failing;
     sink.takes_none = takes_none;
-    run(alloc, tool, &mut feed(input, 0), &mut sink) == Err(ToolFault::Write)
+    run_tool(alloc, tool, &mut feed(input, 0), &mut sink) == Err(ToolFault::Write)
         && sink.calls == failing
         && text.get(..failing.saturating_sub(1)) == Some(sink.octets.as_slice())
 }
@@ -149,7 +133,7 @@ fn each_write_may_fail(rt: HostRuntime) {
 fn ends_at_flush(alloc: Global, (tool, input, text, _): Row) -> bool {
     let mut sink = Sink::new(alloc);
     sink.is_flush_failing = true;
-    run(alloc, tool, &mut feed(input, 0), &mut sink) == Err(ToolFault::Write)
+    run_tool(alloc, tool, &mut feed(input, 0), &mut sink) == Err(ToolFault::Write)
         && has_whole(&sink, text)
 }
 
@@ -165,7 +149,7 @@ fn ends_at_limit(alloc: Global, tool: Tool) -> bool {
     let mut feed = feed(b"\n", 0);
     feed.is_endless = true;
     let mut sink = Sink::new(alloc);
-    run(alloc, tool, &mut feed, &mut sink) == Ok(Ending::Bad)
+    run_tool(alloc, tool, &mut feed, &mut sink) == Ok(Ending::Bad)
         && sink.octets.as_slice() == b"input too long\n".as_slice()
         && feed.calls == 1_048_577
 }

@@ -8,6 +8,7 @@
 static struct fio2070_log_reader reader;
 static struct fio2070_log_batch batch, part;
 static struct fio2070_judge_outcome outcomes[sizeof batch.lengths / sizeof batch.lengths[0]];
+static struct fio2070_log_seam seams[sizeof batch.lengths / sizeof batch.lengths[0]];
 static uint64_t taken_times[sizeof batch.lengths / sizeof batch.lengths[0]];
 static struct fio2070_log_form_list forms;
 
@@ -22,7 +23,7 @@ static void require_batch(uint64_t *line) {
         require(verdict->line == ++*line, "lines are numbered without a gap");
         frames += verdict->frames, places += verdict->places;
         mix(verdict->line), mix(verdict->time), mix(verdict->frames), mix(verdict->places), mix(verdict->kind);
-        mix(verdict->reason), mix(verdict->has_time), mix(verdict->said);
+        mix(verdict->reason), mix(verdict->time_kind), mix(verdict->said);
     }
     require(frames == batch.frame_count && places == batch.place_count, "the counts of verdicts are those of the batch");
     for (place = 0; place < batch.place_count; place++)
@@ -42,6 +43,7 @@ struct kept {
     struct fio2070_log_judge judge;
     struct fio2070_log_counts counts;
     struct fio2070_log_signs signs;
+    struct fio2070_log_stretches stretches;
 };
 
 static void start_kept(struct kept *kept, uint8_t how) {
@@ -50,6 +52,7 @@ static void start_kept(struct kept *kept, uint8_t how) {
     require(fio2070_log_judge_start(&kept->judge, limits, how % 4, (uint8_t)(how >> 3)) == FIO2070_STARTED, "limits in their range are taken");
     fio2070_log_counts_start(&kept->counts);
     fio2070_log_signs_start(&kept->signs);
+    fio2070_log_stretches_start(&kept->stretches);
 }
 
 static void keep(struct kept *kept, const struct fio2070_log_batch *said, uint8_t as_said) {
@@ -57,6 +60,13 @@ static void keep(struct kept *kept, const struct fio2070_log_batch *said, uint8_
     uint32_t count = fio2070_log_judge_batch(&kept->judge, as_said, said, outcomes), place;
     require(count == said->frame_count, "each frame of a batch has an outcome");
     for (place = 0; place < count; place++) mix(outcomes[place].kind), mix(outcomes[place].why), mix(outcomes[place].rule);
+    count = fio2070_log_stretches_batch(&kept->stretches, said, outcomes, seams);
+    require(count <= said->frame_count, "no more places than frames");
+    for (place = 0; place < count; place++) {
+        require(seams[place].frame < said->frame_count && (place == 0 || seams[place].frame > seams[place - 1].frame), "places are in order");
+        mix(seams[place].frame), mix(seams[place].cause), mix(seams[place].is_lost), mix(seams[place].missing);
+    }
+    mix(kept->stretches.blocks), mix(kept->stretches.transitions), mix(kept->stretches.missing_blocks), mix(kept->stretches.stamped_whole);
     count = fio2070_log_counts_batch(&kept->counts, said, taken_times);
     require(count <= said->frame_count && kept->counts.frames - above <= said->frame_count, "no more is counted than there is");
     for (place = 0; place < count; place++) mix(taken_times[place]);

@@ -59,8 +59,6 @@ static void decode_block(const uint8_t *frame, size_t length, size_t room) {
 static void decode_answer(const uint8_t *frame, size_t length) {
     struct fio2070_answer answer;
     struct fio2070_fault fault;
-    uint32_t stamp = 0;
-    uint8_t id = 0;
     untouch(&answer, sizeof answer);
     fault = fio2070_decode_answer(frame, length, &answer);
     mix_fault(&fault);
@@ -71,10 +69,6 @@ static void decode_answer(const uint8_t *frame, size_t length) {
         mix_octets(answer.reserved, sizeof answer.reserved);
         encode_again(NULL, &answer, frame, length);
     }
-    fault = fio2070_read_outputs_answer(frame, length, &stamp);
-    mix_fault(&fault), mix(stamp);
-    fault = fio2070_read_identification(frame, length, &id);
-    mix_fault(&fault), mix(id);
 }
 
 static void show(const uint8_t *frame, size_t length, size_t room) {

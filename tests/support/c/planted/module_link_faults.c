@@ -4,6 +4,9 @@
 static const struct fault FAULTS[] = {
     /* Waiting entries */
     {"state of an entry is turned", STATE_TURNED, 1},
+    {"the first entry of a full block is turned", TURNED_IN_FULL, 0},
+    {"the 100th entry of a full block is turned", TURNED_IN_FULL, 99},
+    {"the last entry of a full block is turned", TURNED_IN_FULL, 254},
     {"entries carry the high half of the counter", STAMP_SHIFT, 16},
     {"entries carry the counter before the scan", STAMP_PLUS, -1},
     {"entries of a scan come in descending order", DESCENDING, 1},

@@ -45,7 +45,8 @@ static size_t write_block(uint8_t number, uint8_t status, uint8_t *out) {
     out[2] = (uint8_t)module.in_block;
     for (place = 0; place < module.in_block; place++) {
         const struct entry *entry = &module.block[place];
-        out[length++] = (uint8_t)(entry->state << 7 | entry->input);
+        int is_turned = module.in_block == FIO2070_MOST_ENTRIES && place == (size_t)Q(TURNED_IN_FULL);
+        out[length++] = (uint8_t)((entry->state ^ is_turned) << 7 | entry->input);
         out[length++] = (uint8_t)(entry->stamp >> 8);
         out[length++] = (uint8_t)entry->stamp;
     }

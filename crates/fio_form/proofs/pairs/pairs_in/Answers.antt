@@ -22,34 +22,28 @@ returns-then-place-text-clause-rest c =
     let here = rw (steps, last) at c.steps.invariant.rest in
     sym (one_rest c.args.cycle.now (drop (c.steps.at + 1) c.args.cycle.now) (drop c.steps.end c.args.text.now) (slice_index_or c.args.text.now c.steps.place 0)) ∙ here
 
-pub returns-then-not-add-clause-full : goal.returns-then-not-add-clause-full
-returns-then-not-add-clause-full c =
+pub returns-then-not-add : goal.returns-then-not-add
+returns-then-not-add c =
     let rest = drop (c.steps.place + 2) c.args.text.now in
     let left = drop (c.steps.at + 1) c.args.cycle.now in
     let steps = octet_at c.args.cycle.now c.steps.at c.if-at-cycle.true c.in-Octet.is in
     let two = two_at c.args.text.now c.steps.place (omega (arith, c.if-place-text.false)) in
     let here = rw (steps, two) at c.steps.invariant.same in
     let pair = sym c.octet_of_pair.ensures ∙ c.in-Some.is in
+    let all = run_in Pairs c.args.cycle.now c.args.text.now in
     let read = some_read c.args.cycle.now left c.steps.octets.items rest (slice_index_or c.args.text.now c.steps.place 0) (slice_index_or c.args.text.now (c.steps.place + 1) 0)
-    c.in-Some.octet (run_in Pairs c.args.cycle.now c.args.text.now) pair here in
+    c.in-Some.octet all pair here in
     let on = extends Pairs c.args.cycle.now (steps_at c.args.cycle.now left rest) Nothing (c.steps.octets.items ++ c.in-Some.octet ∷ []) rest in
     let whole = subst (λ (read : List ℕ). Extends (c.steps.octets.items ++ c.in-Some.octet ∷ []) read) read on in
-    let before = (c.if-not-add.ensures.full refl).0 in
-    omega (arith, more_left c.steps.octets.items c.in-Some.octet (run_in Pairs c.args.cycle.now c.args.text.now) whole, before)
-
-pub returns-then-not-add-clause-first : goal.returns-then-not-add-clause-first
-returns-then-not-add-clause-first c =
-    let rest = drop (c.steps.place + 2) c.args.text.now in
-    let left = drop (c.steps.at + 1) c.args.cycle.now in
-    let steps = octet_at c.args.cycle.now c.steps.at c.if-at-cycle.true c.in-Octet.is in
-    let two = two_at c.args.text.now c.steps.place (omega (arith, c.if-place-text.false)) in
-    let here = rw (steps, two) at c.steps.invariant.same in
-    let pair = sym c.octet_of_pair.ensures ∙ c.in-Some.is in
-    let read = some_read c.args.cycle.now left c.steps.octets.items rest (slice_index_or c.args.text.now c.steps.place 0) (slice_index_or c.args.text.now (c.steps.place + 1) 0)
-    c.in-Some.octet (run_in Pairs c.args.cycle.now c.args.text.now) pair here in
-    let on = extends Pairs c.args.cycle.now (steps_at c.args.cycle.now left rest) Nothing (c.steps.octets.items ++ c.in-Some.octet ∷ []) rest in
-    let whole = subst (λ (read : List ℕ). Extends (c.steps.octets.items ++ c.in-Some.octet ∷ []) read) read on in
-    (c.if-not-add.ensures.full refl).1 ∙ filled c.steps.octets.items c.in-Some.octet (run_in Pairs c.args.cycle.now c.args.text.now) whole (c.if-not-add.ensures.full refl).0
+    let before = c.if-not-add.ensures.full refl in
+    record {
+      read = tt;
+      few = tt;
+      rest = tt;
+      within = tt;
+      full = omega (arith, more_left c.steps.octets.items c.in-Some.octet all whole, before.0);
+      first = before.1 ∙ filled c.steps.octets.items c.in-Some.octet all whole before.0;
+    }
 
 pub steps-preserved-in-Octet-1 : goal.steps-preserved-in-Octet-1
 steps-preserved-in-Octet-1 c =

@@ -14,5 +14,5 @@ returns-then-not-self-clause-follows c = λ texts above making frames read withi
     let unknown : c.args.self.now.is_known ≡ false = search rules in
     drained_follows texts above c.args.self.now c.drain.new.self making frames read c.args.at.told _ _ unknown c.drain.ensures.known
     (ap (λ t. t.heard) c.drain.ensures.kept) c.drain.ensures.waiting
-    (ap (λ t. t.by_forms.reading) c.drain.ensures.kept ∙ c.add.ensures.reading) (ap (λ t. t.by_forms.rows) c.drain.ensures.kept ∙ c.add.ensures.rows) within c.drain.ensures.first c.drain.ensures.lines
+    (ap (λ t. t.by_forms.reading) c.drain.ensures.kept ∙ (c.look_ahead.ensures.reading ∙ c.add.ensures.reading)) (ap (λ t. t.by_forms.rows) c.drain.ensures.kept ∙ (c.look_ahead.ensures.rows ∙ c.add.ensures.rows)) within c.drain.ensures.first c.drain.ensures.lines
     (rw (← c.last_look-forms.ensures) at (last unknown)) follows

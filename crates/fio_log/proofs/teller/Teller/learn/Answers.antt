@@ -35,5 +35,5 @@ returns-in-Some-clause-follows c = λ texts above frames last next whole knows f
     let more : length c.look.new.self.window ≡ length c.args.self.now.learning.window + 1 = ap length window ∙ length-append c.args.self.now.learning.window (c.args.maker.now.text.octets ∷ []) in
     drained_follows texts above c.args.self.now c.drain.new.self c.args.maker.now frames c.args.at.read c.args.at.told (length c.look.new.self.window) _
     c.requires c.drain.ensures.known (ap (λ t. t.heard) c.drain.ensures.kept) c.drain.ensures.waiting
-    (ap (λ t. t.by_forms.reading) c.drain.ensures.kept ∙ c.add.ensures.reading) (ap (λ t. t.by_forms.rows) c.drain.ensures.kept ∙ c.add.ensures.rows) (omega arith) c.drain.ensures.first c.drain.ensures.lines
+    (ap (λ t. t.by_forms.reading) c.drain.ensures.kept ∙ (c.look_ahead.ensures.reading ∙ c.add.ensures.reading)) (ap (λ t. t.by_forms.rows) c.drain.ensures.kept ∙ (c.look_ahead.ensures.rows ∙ c.add.ensures.rows)) (omega arith) c.drain.ensures.first c.drain.ensures.lines
     (λ number below within. absurd (omega (arith, below, within, all, more, next))) follows
