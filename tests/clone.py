@@ -234,8 +234,8 @@ def library():
     check.holds('it says what to do', 'make library' in bare.stderr and 'Traceback' not in bare.stderr, bare.stderr)
     # Without -O2 a compiler takes a third of the time.
     first, second = (run('tools/fiolog', 'check', '-q', 'examples/doubled-entry.transcript', CFLAGS='-O0', FIO2070_OUT=folder) for folder in ('', 'out/..'))
-    check.equal('fiolog makes its library, once', (['line 10: fresh'] * 2, ''),
-                ([done.stdout[:14] for done in (first, second)], second.stderr))
+    check.equal('fiolog makes its library, once', ([True] * 2, ''),
+                (['\nline 10: fresh: ' in done.stdout for done in (first, second)], second.stderr))
     check.holds('it says so in one line, with its seconds', re.fullmatch(r'fiolog: there is no library yet: making it from dist/fio2070.c, once \.\. \d+ s\n', first.stderr), first.stderr)
     works('make library', 'make -s library')
     changed = room / 'changed'
