@@ -2,10 +2,12 @@
 """The commands of `fiolog`, run as a user runs them: the text of `show`, the rows of docs/PLANNING.md, texts that the
 program reads again, answers while the input goes on; at a terminal too. Last line: `N passed, M failed`."""
 
+import bz2
 import csv
 import glob
 import gzip
 import io
+import lzma
 import os
 import random
 import re
@@ -420,11 +422,14 @@ def check_hostile(check, folder):
     for seed in range(3):
         done = fiolog('decode', written(folder, 'hostile', draw.randbytes(60_000)))
         check.equal('random octets, %d' % seed, (LITTLE, ''), (done.status, done.out))
-    packed = gzip.compress(b''.join(b'TX 36 %02X\nRX B6 %02X 00 00 00 00 00 01\n' % (number % 256, number % 256) for number in range(3000)))
-    for name, octets, words in [('gzip', packed, ''), ('a gzip file cut short', packed[:-20], 'is read'),
-                                ('a damaged gzip file', packed[:-60] + bytes(60), 'is read')]:
-        done = fiolog('decode', written(folder, 'hostile', octets))
-        check.holds(name, done.out.startswith('1:     > poll block 0\n2:     < block 0') and words in done.err, done.err)
+    log = b''.join(b'TX 36 %02X\nRX B6 %02X 00 00 00 00 00 01\n' % (number % 256, number % 256) for number in range(3000))
+    for name, pack in (('gzip', gzip.compress), ('xz', lzma.compress), ('bzip2', bz2.compress)):
+        packed = pack(log)
+        # bzip2 packs all of it in one block.
+        for kind, octets, words, is_read in (('a file packed', packed, '', True), ('two files packed', packed + packed, '', True), ('a file cut short, packed', packed[:-20], 'ends early', name != 'bzip2'),
+                                             ('a damaged file packed', packed + packed[:-60] + bytes(60), 'is read', True)):
+            done = fiolog('decode', written(folder, 'hostile', octets))
+            check.equal('%s by %s' % (kind, name), (is_read, True), (done.out.startswith('1:     > poll block 0\n2:     < block 0'), words in done.err))
     done = fiolog('decode', os.path.join(EXAMPLES, 'captures', 'udp.pcap'))
     check.equal('a capture file', (0, ['1', '2', '3', '4', '5', '6', '7']), (done.status, done.found(r'^([0-9]+):')))
     done = fiolog('decode', folder)

@@ -7,7 +7,7 @@ import struct
 
 CPU4, MODULE4 = bytes((10, 0, 0, 1)), bytes((10, 0, 0, 2))
 CPU6, MODULE6 = (bytes.fromhex('20010db8') + bytes(11) + bytes((last,)) for last in (1, 2))
-NOT_UDP, CUT, PART, WRONG = 'not UDP', 'octets lost: cut off', 'octets lost: part of a packet', 'octets lost: wrong length'
+NOT_UDP, NO_DATA, CUT, PART, WRONG = 'not UDP', 'no data', 'octets lost: cut off', 'octets lost: part of a packet', 'octets lost: wrong length'
 EARLY, BROKEN = 'octets lost: the file ends early', 'octets lost: the file is broken from here on'
 POLL, BLOCK = bytes.fromhex('3600'), bytes.fromhex('b600010c00010000000001')
 
@@ -95,6 +95,47 @@ def simple(order, packet, snap=None):
     return block(order, 3, struct.pack(order + 'I', len(packet)) + packet[:snap])
 
 
+# Packets of USB on bus 2: the transfer, the endpoint, the device, whether it is the end of the transfer, and its data; and the line.
+CONTROL, INTERRUPT, BULK, TO_HOST = 2, 1, 3, 0x80
+SERIAL = [(BULK, 2, 5, False, POLL, 'usbgg 3600'), (BULK, 2, 5, True, b'', NO_DATA), (BULK, 1 | TO_HOST, 5, False, b'', NO_DATA), (BULK, 1 | TO_HOST, 5, True, BLOCK, 'usbgg ' + BLOCK.hex()),
+          (CONTROL, TO_HOST, 5, True, bytes(18), NO_DATA), (INTERRUPT, 3 | TO_HOST, 5, True, bytes.fromhex('a1200000000002000300'), NO_DATA),
+          (BULK, 2, 6, False, POLL, 'usbgh 3600')]
+# What adapters of FTDI hear: of device 5 a state, half of a message, the rest below another state, and 70 octets in two packets; of device 6,
+# which is none, an answer 177 that looks like a state; and of device 7, which is one, the same octets before a message.
+STATE, LONG = b'\x01\x60', bytes(range(100, 162))
+FTDI = [(BULK, 1 | TO_HOST, 5, True, STATE, NO_DATA), (BULK, 1 | TO_HOST, 5, True, STATE + BLOCK[:4], 'usbgg ' + BLOCK[:4].hex()), (BULK, 1 | TO_HOST, 5, True, b'\x31\x00' + BLOCK[4:], 'usbgg ' + BLOCK[4:].hex()),
+        (BULK, 1 | TO_HOST, 5, True, STATE + LONG + STATE + POLL, 'usbgg ' + (LONG + POLL).hex()), (BULK, 1 | TO_HOST, 5, True, b'\xb1\x60', NO_DATA), (BULK, 2, 5, False, STATE, 'usbgg 0160'),
+        (BULK, 1 | TO_HOST, 6, True, b'\xb1\x00', 'usbgh b100'), (BULK, 1 | TO_HOST, 6, True, POLL, 'usbgh 3600'), (BULK, 1 | TO_HOST, 6, True, STATE, 'usbgh 0160'),
+        (BULK, 1 | TO_HOST, 7, True, b'\xb1\x60' + BLOCK, 'usbgi ' + BLOCK.hex()), (BULK, 1 | TO_HOST, 7, True, b'\xb1\x60', NO_DATA)]
+
+
+def usbmon(order, size, transfer, endpoint, device, is_end, data, cut=0):
+    """A packet of Linux, with a head of 48 or 64 octets; of its data so many octets are not there."""
+    kept = len(data) - cut
+    return struct.pack(order + 'QBBBBHBBqiiII8x', 7, ord('SC'[is_end]), transfer, endpoint, device, 2, ord('-'), 0 if data else ord('<>'[endpoint < TO_HOST]), 0, 0, 0 if is_end else -115,
+                       len(data), kept) + bytes(size - 48) + data[:kept]
+
+
+def usbpcap(transfer, endpoint, device, is_end, data):
+    """A packet of Windows."""
+    return struct.pack('<HQIHBHHBBI', 27, 7, 0, 9, is_end, 2, device, endpoint, transfer, len(data)) + data
+
+
+def of_usb():
+    """Captures of serial adapters."""
+    for name, rows in (('USB', SERIAL), ('USB by FTDI', FTDI)):
+        lines = ['1700000000.%03d000000 %s' % (place, row[-1]) for place, row in enumerate(rows)]
+        for order, (size, link) in itertools.product('<>', ((48, 189), (64, 220))):
+            yield '%s, Linux, a head of %d, %s' % (name, size, order), pcap([usbmon(order, size, *row[:-1]) for row in rows], link, order), lines
+        yield name + ', Windows', pcap([usbpcap(*row[:-1]) for row in rows], 249), lines
+        yield (name + ', Linux, pcapng', section('<') + interface('<', 220) + b''.join(enhanced('<', 0, 1_700_000_000_000_000 + 1000 * place, usbmon('<', 64, *row[:-1]))
+                                                                                      for place, row in enumerate(rows)), lines)
+    whole = usbmon('<', 64, *SERIAL[3][:-1])
+    for name, packet, snap in (('in a head of USB', whole, 63), ('in data of USB', whole, 70)):
+        yield 'cut ' + name, pcap([packet], 220, snap=snap), ['1700000000.000000000 ' + CUT]
+    yield 'data of USB that Linux cut', pcap([usbmon('<', 64, *SERIAL[3][:-1], cut=3)], 220), ['1700000000.000000000 ' + WRONG]
+
+
 def said(packet):
     """What is to be said of a packet, after its time: octets in a datagram of the first two ends, or a text."""
     return 'udpgg ' + packet.hex() if isinstance(packet, bytes) else packet
@@ -125,6 +166,7 @@ def files():
     yield 'cut in a head', whole[:-50], ['1700000000.000000000 udpgg 3600', EARLY]
     yield 'cut in a packet', whole[:-5], ['1700000000.000000000 udpgg 3600', EARLY]
     yield 'a packet of more octets than any', whole + struct.pack('<IIII', 0, 0, 1 << 30, 1 << 30) + bytes(9), ['1700000000.000000000 udpgg 3600', '1700000000.001000000 udpgg 3600', BROKEN]
+    yield from of_usb()
     ends = [(40000, 2070), (40001, 2070), (2070, 40000), (2070, 40001)]
     yield ('two pairs of ends', pcap([ipv4(udp(POLL, ports), (CPU4, MODULE4) if place < 2 else (MODULE4, CPU4)) for place, ports in enumerate(ends)], 101),
            ['1700000000.%03d000000 %s 3600' % (place, word) for place, word in enumerate(('udpgg', 'udpgh', 'udpgg', 'udpgh'))])

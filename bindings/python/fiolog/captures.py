@@ -1,8 +1,10 @@
 """Files of captured packets, pcap and pcapng, as the lines of a log: a line for each packet, with its number as Wireshark has it.
-The line has the time, for a UDP datagram a word for its two ends and its octets, and else what the packet is. tools/page/src/captures.js
-does the same. And frames as a pcapng file."""
+The line has the time, for a UDP datagram a word for its two ends and its octets, for a packet of USB (usb.py) a word for its adapter and
+the octets that this sent or heard, and else what the packet is. tools/page/src/captures.js does the same. And frames as a pcapng file."""
 
 import struct
+
+from . import usb
 
 MAGICS = {0xa1b2c3d4: 10 ** 6, 0xa1b23c4d: 10 ** 9}      # how many steps a second has
 SECTION, ORDER, INTERFACE, SIMPLE, PACKET = 0x0a0d0d0a, 0x1a2b3c4d, 1, 3, 6
@@ -19,7 +21,7 @@ LOOPBACK_FAMILIES = 2, 10, 24, 28, 30
 LETTERS = 'ghijklmnopqrstuvwxyz'                         # no hexadecimal digits
 MOST_OF_PACKET = 1 << 24                                 # with more octets the file is broken
 MOST_PAIRS = len(LETTERS) ** 2
-NOT_UDP, CUT, FRAGMENTED, WRONG = 'not UDP', 'octets lost: cut off', 'octets lost: part of a packet', 'octets lost: wrong length'
+NOT_UDP, NO_DATA, CUT, FRAGMENTED, WRONG = 'not UDP', 'no data', 'octets lost: cut off', 'octets lost: part of a packet', 'octets lost: wrong length'
 ENDS_EARLY, BROKEN = 'octets lost: the file ends early', 'octets lost: the file is broken from here on'
 
 
@@ -76,6 +78,7 @@ class Lines:
 
     def __init__(self):
         self.held, self.order, self.steps, self.interfaces, self.pairs = b'', '', 0, [], {}
+        self.adapters = usb.Adapters()
         self.is_broken = False
 
     def feed(self, octets):
@@ -176,8 +179,8 @@ class Lines:
         """The line of a packet. `way` is what a pcapng file says of its direction."""
         link, steps, shift, _ = self.interfaces[index]
         try:
-            text = self._upper(data, way) if link == UPPER_PDU else self._udp(link, data)
-        except _Cut:
+            text = self._upper(data, way) if link == UPPER_PDU else self._usb(link, data) if link in usb.LINKS else self._udp(link, data)
+        except (_Cut, struct.error):
             text = CUT if is_cut else WRONG
         return text if time is None else '%s %s' % (_clock(time, steps, shift), text)
 
@@ -189,14 +192,18 @@ class Lines:
         ports, length = (_number(datagram, 0, 2), _number(datagram, 2, 2)), _number(datagram, 4, 2)
         if length < 8 or length > len(datagram):
             raise _Cut
-        return '%s %s' % (self._word(frozenset(zip(ends, ports))), datagram[8:length].hex())
+        return '%s %s' % (self._word('udp', frozenset(zip(ends, ports))), datagram[8:length].hex())
 
-    def _word(self, pair):
-        """The word for two ends, by their addresses and ports."""
+    def _usb(self, link, data):
+        adapter, octets = self.adapters.octets(link, self.order, data)
+        return NO_DATA if octets is None else '%s %s' % (self._word('usb', adapter), octets.hex())
+
+    def _word(self, kind, pair):
+        """The word for two ends, by their addresses and ports, or for an adapter, by its bus and its number there."""
         if pair not in self.pairs and len(self.pairs) == MOST_PAIRS:
             self.pairs = {}
         index = self.pairs.setdefault(pair, len(self.pairs))
-        return 'udp' + LETTERS[index // len(LETTERS)] + LETTERS[index % len(LETTERS)]
+        return kind + LETTERS[index // len(LETTERS)] + LETTERS[index % len(LETTERS)]
 
     def _upper(self, data, way):
         """The text of a message that `fiolog convert` wrote."""

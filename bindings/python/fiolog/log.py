@@ -1,8 +1,10 @@
 """The files of a command line, read by the reader, with what is said of it on standard error."""
 
+import bz2
 import codecs
 import errno
 import itertools
+import lzma
 import os
 import sys
 import zlib
@@ -18,17 +20,21 @@ from .terminal import say, shown, status
 CHUNK = 1 << 16
 # A file of fewer octets is read at once.
 SHORT = 1 << 22
-GZIP = b'\x1f\x8b\x08'
+# How a file begins that a program packed, its name, and what unpacks it.
+PACKERS = ((b'\x1f\x8b\x08', 'gzip', lambda: zlib.decompressobj(zlib.MAX_WBITS | 16)), (b'\xfd7zXZ\0', 'xz', lzma.LZMADecompressor),
+           (tuple(b'BZh%d1AY&SY' % level for level in range(1, 10)), 'bzip2', bz2.BZ2Decompressor))
 _MARKS = ((codecs.BOM_UTF8, 'utf-8'), (codecs.BOM_UTF16_LE, 'utf-16-le'), (codecs.BOM_UTF16_BE, 'utf-16-be'))
 
 
 def decoded(chunks, is_text=True, begins=lambda first: None):
-    """The octets as UTF-8, without a byte order mark if they are a text, and without what gzip does to them; of captured packets
-    the lines. `begins` is called with the first octets."""
+    """The octets as UTF-8, without a byte order mark if they are a text, and unpacked; of captured packets the lines. `begins`
+    is called with the first octets."""
     first = next(chunks, b'')
-    if first.startswith(GZIP):
-        chunks = _unpacked(first, chunks)
-        first = next(chunks, b'')
+    for beginning, name, begun in PACKERS:
+        if first.startswith(beginning):
+            chunks = _unpacked(name, begun, first, chunks)
+            first = next(chunks, b'')
+            break
     begins(first)
     mark, name = next((one for one in _MARKS if is_text and first.startswith(one[0])), (b'', ''))
     chunks = itertools.chain([first[len(mark):]], chunks)
@@ -38,21 +44,28 @@ def decoded(chunks, is_text=True, begins=lambda first: None):
     return (decode(chunk).encode('utf-8', 'surrogatepass') for chunk in chunks) if name else chunks
 
 
-def _unpacked(first, chunks):
-    """The octets that gzip packed, piece by piece; if the stream ends early or is damaged, what can be read of it."""
-    stream, packed = zlib.decompressobj(zlib.MAX_WBITS | 16), first
+def _unpacked(name, begun, packed, chunks):
+    """The octets that a program packed, piece by piece; if the stream ends early or is damaged, what can be read of it."""
+    stream = begun()
     try:
-        while packed or (packed := next(chunks, b'')):
+        while packed or _has_more(stream) or (packed := next(chunks, b'')):
             if stream.eof:
-                stream = zlib.decompressobj(zlib.MAX_WBITS | 16)
+                stream = begun()
             piece = stream.decompress(packed, CHUNK)
-            packed = stream.unused_data if stream.eof else stream.unconsumed_tail
+            packed = stream.unused_data if stream.eof else getattr(stream, 'unconsumed_tail', b'')
             if piece:
                 yield piece
         if not stream.eof:
-            say('the file packed by gzip ends early: what is there is read')
-    except zlib.error as fault:
-        say('the file packed by gzip is damaged: what comes before is read (%s)' % fault)
+            say('the file packed by %s ends early: what is there is read' % name)
+    except (zlib.error, lzma.LZMAError, OSError) as fault:
+        if getattr(fault, 'filename', None):
+            raise
+        say('the file packed by %s is damaged: what comes before is read (%s)' % (name, fault))
+
+
+def _has_more(stream):
+    """Whether what unpacks has more without further octets."""
+    return not stream.eof and not getattr(stream, 'needs_input', True)
 
 
 def _chunks_of(descriptor, name, seen, idle):

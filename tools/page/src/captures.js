@@ -1,9 +1,10 @@
 // Files of captured packets, pcap and pcapng, as the lines of a log: a line for each packet, with its number as Wireshark has it. The
-// line has the time, for a UDP datagram a word for its two ends and its octets, and else what the packet is.
-// bindings/python/fiolog/captures.py does the same.
+// line has the time, for a UDP datagram a word for its two ends and its octets, for a packet of USB (usb.js) a word for its adapter and the
+// octets that this sent or heard, and else what the packet is. bindings/python/fiolog/captures.py does the same.
 
 import { FILES } from './files.js';
 import { asLatin, hexText, inLines } from './hex.js';
+import { Adapters, USB_LINKS } from './usb.js';
 
 // How many steps a second has.
 const MICRO = 10n ** 6n, NANO = 10n ** 9n, MAGICS = { 0xa1b2c3d4: MICRO, 0xa1b23c4d: NANO };
@@ -19,7 +20,7 @@ const LETTERS = 'ghijklmnopqrstuvwxyz', MOST_PAIRS = LETTERS.length ** 2;
 const RECORDS_AT_ONCE = 256;
 // With more octets the file is broken.
 const MOST_OF_PACKET = 1 << 24;
-const NOT_UDP = 'not UDP', CUT = 'octets lost: cut off', FRAGMENTED = 'octets lost: part of a packet', WRONG = 'octets lost: wrong length';
+const NOT_UDP = 'not UDP', NO_DATA = 'no data', CUT = 'octets lost: cut off', FRAGMENTED = 'octets lost: part of a packet', WRONG = 'octets lost: wrong length';
 const ENDS_EARLY = 'octets lost: the file ends early', BROKEN = 'octets lost: the file is broken from here on';
 
 // A number of two octets, the high one first; a RangeError if the octets of a packet end before it.
@@ -74,7 +75,7 @@ function clock(time, { steps, shift }) {
 // Makes lines of the octets of a capture file.
 class PacketLines {
   constructor(file) {
-    Object.assign(this, { file, view: new DataView(file.buffer, file.byteOffset, file.length), isLow: null, steps: 0n, interfaces: [], pairs: new Map(),
+    Object.assign(this, { file, view: new DataView(file.buffer, file.byteOffset, file.length), isLow: null, steps: 0n, interfaces: [], pairs: new Map(), adapters: new Adapters(),
       lines: [], isBroken: false });
   }
 
@@ -180,7 +181,7 @@ class PacketLines {
     if (from === undefined) return false;
     let text;
     try {
-      text = from.link === UPPER_PDU ? this.upper(data, way) : this.udp(from.link, data);
+      text = from.link === UPPER_PDU ? this.upper(data, way) : USB_LINKS.includes(from.link) ? this.usb(from.link, data) : this.udp(from.link, data);
     } catch (reason) {
       if (!(reason instanceof RangeError)) throw reason;
       text = isCut ? CUT : WRONG;
@@ -194,15 +195,20 @@ class PacketLines {
     if (why) return why;
     const ports = [wordAt(datagram, 0), wordAt(datagram, 2)], length = wordAt(datagram, 4);
     if (length < 8 || length > datagram.length) throw new RangeError();
-    return `${this.wordOf(ends.map((end, at) => `${hexText(end)}:${ports[at]}`).sort().join())} ${hexText(datagram.subarray(8, length)).toLowerCase()}`;
+    return `${this.wordOf('udp', ends.map((end, at) => `${hexText(end)}:${ports[at]}`).sort().join())} ${hexText(datagram.subarray(8, length)).toLowerCase()}`;
   }
 
-  // The word for two ends, by their addresses and ports.
-  wordOf(pair) {
+  usb(link, data) {
+    const { device, octets } = this.adapters.read(link, this.isLow, data);
+    return octets === null ? NO_DATA : `${this.wordOf('usb', device)} ${hexText(octets).toLowerCase()}`;
+  }
+
+  // The word for two ends, by their addresses and ports, or for an adapter, by its bus and its number there.
+  wordOf(kind, pair) {
     if (!this.pairs.has(pair) && this.pairs.size === MOST_PAIRS) this.pairs.clear();
     if (!this.pairs.has(pair)) this.pairs.set(pair, this.pairs.size);
     const index = this.pairs.get(pair);
-    return `udp${LETTERS[Math.floor(index / LETTERS.length)]}${LETTERS[index % LETTERS.length]}`;
+    return `${kind}${LETTERS[Math.floor(index / LETTERS.length)]}${LETTERS[index % LETTERS.length]}`;
   }
 
   // The text of a message that `fiolog convert` wrote.
