@@ -55,7 +55,7 @@ def check_tshark(check, folder):
             found = {int(number): (float(time), octets) for number, time, octets, is_udp in rows
                      if is_udp and 'octets lost' not in expected[int(number) - 1]}
             check.equal('%s, as tshark reads it' % name, datagrams_of(expected), found)
-        if name.startswith('USB,') and check.wants(name):
+        if name.startswith('USB, ') and 'text' not in name and check.wants(name):
             rows = tshark.columns(written(folder, 'capture', octets), [], ['frame.number', 'usb.capdata', 'usb.transfer_type'])
             found = {int(number): data.replace(':', '') for number, data, transfer in rows if data and transfer == '0x03'}
             check.equal('%s, as tshark reads it' % name, {number: line.split(' ')[2] for number, line in enumerate(expected, 1) if ' usb' in line}, found)

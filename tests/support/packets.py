@@ -116,6 +116,13 @@ def usbmon(order, size, transfer, endpoint, device, is_end, data, cut=0):
                        len(data), kept) + bytes(size - 48) + data[:kept]
 
 
+def of_text(transfer, endpoint, device, is_end, data):
+    """A packet as a line of the text of usbmon, which has 32 octets of the data at most."""
+    kind = 'ZICB'[transfer] + 'oi'[endpoint >= TO_HOST]
+    words = [data[place:place + 4].hex() for place in range(0, min(len(data), 32), 4)]
+    return 'ffff88003f0a1180 %d %s %s:2:%03d:%d %d %d %s' % (7_000_000, 'SC'[is_end], kind, device, endpoint & 15, 0 if is_end else -115, len(data), ' '.join(['=', *words]) if data else '<>'[endpoint < TO_HOST])
+
+
 def usbpcap(transfer, endpoint, device, is_end, data):
     """A packet of Windows."""
     return struct.pack('<HQIHBHHBBI', 27, 7, 0, 9, is_end, 2, device, endpoint, transfer, len(data)) + data
@@ -130,6 +137,12 @@ def of_usb():
         yield name + ', Windows', pcap([usbpcap(*row[:-1]) for row in rows], 249), lines
         yield (name + ', Linux, pcapng', section('<') + interface('<', 220) + b''.join(enhanced('<', 0, 1_700_000_000_000_000 + 1000 * place, usbmon('<', 64, *row[:-1]))
                                                                                       for place, row in enumerate(rows)), lines)
+        texts = [of_text(*row[:-1]) for row in rows]
+        yield name + ', text', ''.join(text + '\n' for text in texts).encode(), ['7.000000000 ' + (row[-1] if len(row[-2]) <= 32 or not row[-1].startswith('usb') else CUT) for row in rows]
+    for name, text, line in (('of a text of USB', 'ffff88003f0a1180 7000000 S Bo:2:005:2 -115 2 = 36', '7.000000000 ' + CUT), ('within a line of USB', 'ffff88003f0a1180 7000', CUT),
+                             ('in a digit of USB', 'ffff88003f0a1180 7000000 S Bo:2:005:2 -115 2 = 360', '7.000000000 ' + CUT), ('of a blank line', '', ''),
+                             ('of none, as older systems write it', 'd74ff9a0 2640288196 S Bo:005:02 -115 2 = 3600', '2640.288196000 usbgg 3600')):
+        yield 'cut ' + name, ('ffff88003f0a1180 7000000 C Bo:2:005:2 0 2 >\n%s\n' % text).encode(), ['7.000000000 ' + NO_DATA, line]
     whole = usbmon('<', 64, *SERIAL[3][:-1])
     for name, packet, snap in (('in a head of USB', whole, 63), ('in data of USB', whole, 70)):
         yield 'cut ' + name, pcap([packet], 220, snap=snap), ['1700000000.000000000 ' + CUT]

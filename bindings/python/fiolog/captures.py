@@ -222,9 +222,43 @@ def _clock(time, steps, shift):
     return '%d.%09d' % divmod(max(time * 10 ** 9 // steps + shift * 10 ** 9, 0), 10 ** 9)
 
 
+class TextLines(Lines):
+    """Makes lines of the text of usbmon, one of each."""
+
+    def feed(self, octets):
+        """The lines of those that end in these octets."""
+        whole = (self.held + octets).splitlines(keepends=True)
+        self.held = whole.pop() if whole and not whole[-1].endswith(b'\n') else b''
+        return ''.join(map(self._of_text, whole)).encode()
+
+    def end(self):
+        """The line that has no end."""
+        return self._of_text(self.held).encode() if self.held else b''
+
+    def _of_text(self, line):
+        found = usb.TEXT.fullmatch(line)
+        if not found:
+            return (CUT if line.strip() else '') + '\n'
+        try:
+            adapter, octets = self.adapters.octets_of_text(found)
+            text = NO_DATA if octets is None else '%s %s' % (self._word('usb', adapter), octets.hex())
+        except (struct.error, ValueError):
+            text = CUT
+        return '%s %s\n' % (_clock(int(found[1]), 10 ** 6, 0), text)
+
+
+def is_capture(first):
+    """Whether a file that begins with these octets is a capture of packets."""
+    return first.startswith(BEGINNINGS) or usb.TEXT.match(first.partition(b'\n')[0]) is not None
+
+
 def lines_of(chunks):
     """The lines of a capture file that comes in pieces."""
-    lines = Lines()
+    chunks = iter(chunks)
+    first = next(chunks, b'')
+    # A text of usbmon begins with a hexadecimal digit, and no other one does.
+    lines = TextLines() if first[:1] in b'0123456789abcdef' and first else Lines()
+    yield lines.feed(first)
     for chunk in chunks:
         yield lines.feed(chunk)
     yield lines.end()

@@ -38,7 +38,7 @@ def decoded(chunks, is_text=True, begins=lambda first: None):
     begins(first)
     mark, name = next((one for one in _MARKS if is_text and first.startswith(one[0])), (b'', ''))
     chunks = itertools.chain([first[len(mark):]], chunks)
-    if is_text and first.startswith(captures.BEGINNINGS):
+    if is_text and captures.is_capture(first):
         return captures.lines_of(chunks)
     decode = name and codecs.getincrementaldecoder(name)('replace').decode
     return (decode(chunk).encode('utf-8', 'surrogatepass') for chunk in chunks) if name else chunks

@@ -1,6 +1,7 @@
 """Packets of USB as the lines of a log: what a serial adapter sent and heard, as usbmon of Linux or USBPcap of Windows captured it.
 tools/page/src/usb.js does the same."""
 
+import re
 import struct
 
 # The link types of captures: usbmon with its short header and with its long one, and USBPcap.
@@ -12,6 +13,8 @@ BULK, TO_HOST = 3, 0x80
 FTDI_LINES, FTDI_BUFFERS, FTDI_PACKETS = 1, 0x60, (64, 512)
 # How what a line carries begins: with a type of a command or of an answer, or with a flag.
 BEGINNINGS = (*range(49, 61), *range(177, 189), 0x7e)
+# A line of usbmon's text: microseconds, whether a transfer begins or ends, its kind and direction, bus, device, and its octets.
+TEXT = re.compile(rb'[0-9a-f]{8,16} (\d+) ([SCE]) ([CZIB])([io]):(?:(\d+):)?(\d+):\d+ \S+(?: (\d+)(?: = ([0-9a-f ]*))?.*)?\s*')
 
 
 def _head_of(link, order, data):
@@ -43,13 +46,21 @@ class Adapters:
         """The adapter of a packet, and what it sent or heard there; None if the packet has none of that. A struct.error if the packet ends
         before that does."""
         transfer, endpoint, device, is_of_data, length, octets = _head_of(link, order, data)
-        if transfer != BULK or not is_of_data or not length:
-            return device, None
+        return device, self._carried(device, endpoint & TO_HOST, length, octets) if transfer == BULK and is_of_data else None
+
+    def octets_of_text(self, found):
+        """The same of a line of usbmon's text."""
+        _, event, kind, way, bus, device, length, words = found.groups(b'')
+        is_of_data, device = kind == b'B' and (event, way) in ((b'S', b'o'), (b'C', b'i')), (bus, device)
+        return device, self._carried(device, way == b'i', int(length or 0), bytes.fromhex(words.decode().replace(' ', ''))) if is_of_data else None
+
+    def _carried(self, device, is_heard, length, octets):
+        """What an adapter sent or heard, of whose octets these are here; None if it was nothing."""
         if len(octets) < length:
             raise struct.error
-        if endpoint & TO_HOST and self._is_ftdi(device, octets):
+        if octets and is_heard and self._is_ftdi(device, octets):
             octets = self._heard(octets)
-        return device, octets or None
+        return octets or None
 
     def _is_ftdi(self, device, data):
         """Whether an adapter is of FTDI, by what it heard. An answer 177 and a command 49 may look like the state of one."""

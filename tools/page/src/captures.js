@@ -4,7 +4,7 @@
 
 import { FILES } from './files.js';
 import { asLatin, hexText, inLines } from './hex.js';
-import { Adapters, USB_LINKS } from './usb.js';
+import { Adapters, USB_LINKS, USB_TEXT } from './usb.js';
 
 // How many steps a second has.
 const MICRO = 10n ** 6n, NANO = 10n ** 9n, MAGICS = { 0xa1b2c3d4: MICRO, 0xa1b23c4d: NANO };
@@ -18,6 +18,8 @@ const LOOPBACK_FAMILIES = [2, 10, 24, 28, 30];
 // Pairs of ends that have a word of their own; after so many the words begin anew. No letter is a hexadecimal digit.
 const LETTERS = 'ghijklmnopqrstuvwxyz', MOST_PAIRS = LETTERS.length ** 2;
 const RECORDS_AT_ONCE = 256;
+// No line of usbmon's text is longer.
+const LONGEST_TEXT = 1024;
 // With more octets the file is broken.
 const MOST_OF_PACKET = 1 << 24;
 const NOT_UDP = 'not UDP', NO_DATA = 'no data', CUT = 'octets lost: cut off', FRAGMENTED = 'octets lost: part of a packet', WRONG = 'octets lost: wrong length';
@@ -181,7 +183,7 @@ class PacketLines {
     if (from === undefined) return false;
     let text;
     try {
-      text = from.link === UPPER_PDU ? this.upper(data, way) : USB_LINKS.includes(from.link) ? this.usb(from.link, data) : this.udp(from.link, data);
+      text = from.link === UPPER_PDU ? this.upper(data, way) : USB_LINKS.includes(from.link) ? this.usb(this.adapters.read(from.link, this.isLow, data)) : this.udp(from.link, data);
     } catch (reason) {
       if (!(reason instanceof RangeError)) throw reason;
       text = isCut ? CUT : WRONG;
@@ -198,8 +200,7 @@ class PacketLines {
     return `${this.wordOf('udp', ends.map((end, at) => `${hexText(end)}:${ports[at]}`).sort().join())} ${hexText(datagram.subarray(8, length)).toLowerCase()}`;
   }
 
-  usb(link, data) {
-    const { device, octets } = this.adapters.read(link, this.isLow, data);
+  usb({ device, octets }) {
     return octets === null ? NO_DATA : `${this.wordOf('usb', device)} ${hexText(octets).toLowerCase()}`;
   }
 
@@ -224,8 +225,33 @@ class PacketLines {
   }
 }
 
-// Whether a file is a capture of packets.
-export const isCapture = (file) => FILES.capture.begins.test(asLatin(file.subarray(0, 4)));
+// Makes lines of the text of usbmon, one of each.
+class TextLines extends PacketLines {
+  *read() {
+    const texts = asLatin(this.file).split('\n'), last = texts.pop();
+    for (const [count, text] of [...texts, ...last ? [last] : []].entries()) {
+      if (count % RECORDS_AT_ONCE === 0) yield count / texts.length;
+      this.lines.push(this.ofText(text));
+    }
+    return new TextEncoder().encode(inLines(this.lines));
+  }
 
-// The lines of a capture file, in UTF-8.
-export const linesOfCapture = (file) => new PacketLines(file).read();
+  ofText(line) {
+    const found = USB_TEXT.exec(line);
+    if (found === null) return line.trim() ? CUT : '';
+    let text;
+    try {
+      text = this.usb(this.adapters.readText(found));
+    } catch (reason) {
+      if (!(reason instanceof RangeError)) throw reason;
+      text = CUT;
+    }
+    return `${clock(BigInt(found[1]), { steps: MICRO, shift: 0n })} ${text}`;
+  }
+}
+
+// Whether a file is a capture of packets.
+export const isCapture = (file) => FILES.capture.begins.test(asLatin(file.subarray(0, 4))) || USB_TEXT.test(asLatin(file.subarray(0, LONGEST_TEXT)).split('\n', 1)[0]);
+
+// The lines of a capture file, in UTF-8. A text of usbmon begins with a hexadecimal digit, and no other one does.
+export const linesOfCapture = (file) => new (/^[0-9a-f]/.test(asLatin(file.subarray(0, 1))) ? TextLines : PacketLines)(file).read();

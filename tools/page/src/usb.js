@@ -1,6 +1,8 @@
 // Packets of USB as the lines of a log: what a serial adapter sent and heard, as usbmon of Linux or USBPcap of Windows captured it.
 // bindings/python/fiolog/usb.py does the same.
 
+import { fromHex } from './hex.js';
+
 // The link types of captures: usbmon with its short header and with its long one, and USBPcap.
 const USBMON = 189, LONG_USBMON = 220, USBPCAP = 249;
 export const USB_LINKS = [USBMON, LONG_USBMON, USBPCAP];
@@ -10,6 +12,9 @@ const BULK = 3, TO_HOST = 0x80, COMPLETION = 0x43;
 const FTDI_LINES = 1, FTDI_BUFFERS = 0x60, FTDI_PACKETS = { short: 64, long: 512 };
 // How what a line carries begins: with a type of a command or of an answer, or with a flag.
 const isBeginning = (octet) => octet >= 49 && octet <= 60 || octet >= 177 && octet <= 188 || octet === 0x7e;
+
+// A line of usbmon's text: microseconds, whether a transfer begins or ends, its kind and direction, bus, device, and its octets.
+export const USB_TEXT = /^[0-9a-f]{8,16} (\d+) ([SCE]) ([CZIB])([io]):(?:(\d+):)?(\d+):\d+ \S+(?: (\d+)(?: = ([0-9a-f ]*))?.*)?\s*$/;
 
 // The transfer of a packet, the endpoint, the adapter, whether it has data, how many octets these are in all, and those that are here; a
 // RangeError if the packet ends before.
@@ -46,10 +51,21 @@ export class Adapters {
   // that does.
   read(link, isLow, data) {
     const { transfer, endpoint, device, isOfData, length, octets } = headOf(link, isLow, data);
-    if (transfer !== BULK || !isOfData || length === 0) return { device, octets: null };
+    return { device, octets: transfer === BULK && isOfData ? this.carried(device, (endpoint & TO_HOST) !== 0, length, octets) : null };
+  }
+
+  // The same of a line of usbmon's text, as USB_TEXT finds it.
+  readText([, , event, kind, way, bus = '', number, length = 0, words = '']) {
+    const device = `${bus}.${number}`, isOfData = kind === 'B' && ['So', 'Ci'].includes(event + way), digits = words.replaceAll(' ', '');
+    if (isOfData && digits.length % 2 === 1) throw new RangeError();
+    return { device, octets: isOfData ? this.carried(device, way === 'i', Number(length), fromHex(digits)) : null };
+  }
+
+  // What an adapter sent or heard, of whose octets these are here; null if it was nothing.
+  carried(device, isHeard, length, octets) {
     if (octets.length < length) throw new RangeError();
-    const read = (endpoint & TO_HOST) !== 0 && this.isFtdi(device, octets) ? heard(octets) : octets;
-    return { device, octets: read.length > 0 ? read : null };
+    const read = octets.length > 0 && isHeard && this.isFtdi(device, octets) ? heard(octets) : octets;
+    return read.length > 0 ? read : null;
   }
 
   // Whether an adapter is of FTDI, by what it heard. An answer 177 and a command 49 may look like the state of one.
