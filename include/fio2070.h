@@ -1343,11 +1343,12 @@ uint32_t fio2070_log_judge_batch(struct fio2070_log_judge *judge, uint8_t as_sai
 
 /** What kind of log a log looks like (docs/CAPTURES.md, A log that is not what it seems). */
 enum fio2070_log_sign {
-    FIO2070_LOG_SIGN_NONE = 0,      /**< the log of one link in order, or too few frames to say */
-    FIO2070_LOG_SIGN_TWICE = 1,     /**< each frame is there twice */
-    FIO2070_LOG_SIGN_BOTH_ENDS = 2, /**< the logs of both ends are merged */
-    FIO2070_LOG_SIGN_REVERSED = 3,  /**< the last line is first */
-    FIO2070_LOG_SIGN_TWO_LINKS = 4  /**< it has two links */
+    FIO2070_LOG_SIGN_NONE = 0,          /**< the log of one link in order, or too few frames to say */
+    FIO2070_LOG_SIGN_TWICE = 1,         /**< each frame is there twice */
+    FIO2070_LOG_SIGN_BOTH_ENDS = 2,     /**< the logs of both ends are merged */
+    FIO2070_LOG_SIGN_REVERSED = 3,      /**< the last line is first */
+    FIO2070_LOG_SIGN_TWO_LINKS = 4,     /**< it has two links */
+    FIO2070_LOG_SIGN_EMPTY_LEFT_OUT = 5 /**< the log of one link in order, without the block answers that have no entries */
 };
 
 /** Counts of the frames of a log. Its fields are the library's own. */
@@ -1360,6 +1361,10 @@ struct fio2070_log_signs {
     uint32_t changes;
     uint32_t jumps;
     uint32_t stamp;
+    uint32_t polls;
+    uint32_t passed;
+    uint32_t others;
+    uint32_t empty;
     uint16_t length;
     uint8_t said;
     uint8_t again;
@@ -1370,7 +1375,9 @@ struct fio2070_log_signs {
     uint8_t has_second;
     uint8_t second;
     uint8_t above[773];
-    uint8_t reserved;
+    uint8_t waits;
+    uint8_t polled;
+    uint8_t reserved[3];
 };
 
 /** Starts above the first frame of a log. */
@@ -1390,7 +1397,9 @@ void fio2070_log_signs_batch(struct fio2070_log_signs *signs, uint8_t as_said, c
  * the block answer above less one, and a stamp that is not later. FIO2070_LOG_SIGN_TWO_LINKS holds if of 8 or more block
  * answers at least a quarter go on with the other of two rows of numbers than the block answer above, and at most one in ten
  * starts a row in place of another one. A block answer goes on with a row by its latest number, by the next one, or late by the
- * one above it. */
+ * one above it. FIO2070_LOG_SIGN_EMPTY_LEFT_OUT holds if there are block answers, each with entries, and of 8 or more polls a
+ * quarter or more ask for the next number below a poll that has no block answer, and none asks there for another number than
+ * this and that poll's own. In such a log the rule `advance` accuses nobody of a step by one below a poll without an answer. */
 uint8_t fio2070_log_signs_sign(const struct fio2070_log_signs *signs);
 #endif
 
@@ -2048,7 +2057,7 @@ FIO2070_SAME(log_form_list, sizeof(struct fio2070_log_form_list) == 2440 &&
 
 FIO2070_SAME(log_judge, sizeof(struct fio2070_log_judge) == 752);
 
-FIO2070_SAME(log_signs, sizeof(struct fio2070_log_signs) == 816);
+FIO2070_SAME(log_signs, sizeof(struct fio2070_log_signs) == 836);
 
 FIO2070_SAME(log_seam, sizeof(struct fio2070_log_seam) == 16 &&
              offsetof(struct fio2070_log_seam, frame) == 8 &&

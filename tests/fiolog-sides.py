@@ -8,7 +8,7 @@ import tempfile
 
 from support.check import Check
 from support.fiolog import fiolog, use_library, written
-from support.kinds import KINDS, LIKE, LITTLE, SIGNS, blocks, polls
+from support.kinds import KINDS, LEFT_OUT, LIKE, LITTLE, SIGNS, blocks, polls
 from support.line_model import line_of
 from support.loggers import LOGGERS
 from support.talking import session
@@ -73,6 +73,26 @@ def check_kinds(check):
                 done = fiolog(command, text=text)
                 check.equal('%s, %s' % (title, command), (0, 1, LITTLE), (len(re.findall('breaks|was due', done.out + done.err)),
                                                                           done.err.count(SIGNS[sign]), done.status))
+
+
+def check_left_out(check):
+    """Of a log without empty blocks that is said once, and nobody is accused where a poll has no answer and the next number follows."""
+    words = SIGNS['empty blocks left out']
+    for name, (text, broken, status) in LEFT_OUT.items():
+        done, *objects = fiolog('check', text=text), *fiolog('check', '--json', text=text).objects()
+        last = objects[-1]['summary']
+        check.equal('left out: ' + name, (broken, broken, broken, status is not None, 1 if broken else status),
+                    (len(done.found('^line ')), len(objects) - 1, last['breaches'], words in done.err, done.status))
+        if status is not None:
+            pieces = summary_of_lines(text)
+            check.equal('left out, line by line: ' + name, (0, ['empty blocks left out']), (pieces.breaches, list(pieces.verdicts)))
+            check.holds('left out, said of the places: ' + name, 'which may have had no entries' in done.out, done.out)
+
+
+def summary_of_lines(text):
+    """The summary of a log that comes line by line."""
+    from fiolog.summary import summary_of
+    return summary_of(iter(text.encode().splitlines(True)))
 
 
 # A log, how many of its answers are surely late, and the rules that are broken. Block 6 that the CPU asks for twice has E the second time.
@@ -237,6 +257,7 @@ def main():
     use_library(check, 'logs of one direction')
     check_sides(check)
     check_kinds(check)
+    check_left_out(check)
     check_late(check)
     with tempfile.TemporaryDirectory() as folder:
         check_many(check, folder)

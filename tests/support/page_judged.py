@@ -8,7 +8,7 @@ import re
 
 from support.damage import DAMAGED
 from support.fiolog import LIBRARY, fiolog
-from support.kinds import KINDS, SIGNS, blocks, polls
+from support.kinds import KINDS, LEFT_OUT, SIGNS, blocks, polls
 from support.opened import CELLS, FINISHED, OPEN_ALL, RUN_ADDED, open_with, pasted, text_of, words_in
 from support.page_stations import PAIR, SIZES, STATIONS, heard
 from support.strangers import READ
@@ -192,6 +192,7 @@ def check_as_fiolog(check, browser, _):
     texts = [(os.path.basename(path), text_of(os.path.relpath(path, os.path.join(TOP, 'examples'))))
              for ending in ('*.frames', '*.transcript', 'captures/*.txt') for path in sorted(glob.glob(os.path.join(TOP, 'examples', ending)))]
     texts = [(base, text) for base, text in texts if '\0' not in text]
+    texts += [(title, text) for title, (text, *_) in LEFT_OUT.items()]
     texts += [(title, text) for title, text, *_ in READ[:40] + DAMAGED + LOGS + SIZES] + [(title, heard(*frames)) for title, frames, *_ in STATIONS]
     browser.run(OPEN_ALL.replace(CELLS, FOUND), [text for _, text in texts])
     browser.wait('return window.tables !== null')

@@ -591,7 +591,7 @@ uint32_t fio2070_log_batch_part(const struct fio2070_log_batch *batch, const uin
     return count;
 }
 
-SAME(size_of_log_signs, sizeof(struct fio2070_log_signs), 816);
+SAME(size_of_log_signs, sizeof(struct fio2070_log_signs), 836);
 
 OVER(log_signs, start, 1, void, , (struct fio2070_log_signs * log_signs), it)
 OVER(log_signs, frame, 1, void, ,

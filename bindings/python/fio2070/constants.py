@@ -167,6 +167,7 @@ LOG_SIGN_TWICE = 1
 LOG_SIGN_BOTH_ENDS = 2
 LOG_SIGN_REVERSED = 3
 LOG_SIGN_TWO_LINKS = 4
+LOG_SIGN_EMPTY_LEFT_OUT = 5
 
 # Why a stretch of a log ends above a block.
 SEAM_NONE = 0

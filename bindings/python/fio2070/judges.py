@@ -16,7 +16,8 @@ _PLACES = {'auto': constants.LOG_TAKEN_AUTO, 'cpu': constants.LOG_TAKEN_AT_CPU, 
 # Who sent a frame, as its line says: as in `Verdict.said`.
 _SIDES = {'': constants.LOG_NO_SIDE, '>': constants.LOG_FROM_CPU, '<': constants.LOG_FROM_MODULE}
 _SIGNS = {constants.LOG_SIGN_NONE: '', constants.LOG_SIGN_TWICE: 'twice', constants.LOG_SIGN_BOTH_ENDS: 'both ends',
-          constants.LOG_SIGN_REVERSED: 'reversed', constants.LOG_SIGN_TWO_LINKS: 'two links'}
+          constants.LOG_SIGN_REVERSED: 'reversed', constants.LOG_SIGN_TWO_LINKS: 'two links',
+          constants.LOG_SIGN_EMPTY_LEFT_OUT: 'empty blocks left out'}
 
 # The octets of an outcome, of which the first is its kind; and the kinds of frames that are not kept.
 _OUTCOME, _NOT_KEPT = ctypes.sizeof(c.CJudgeOutcome), re.compile(b'[^\0]')

@@ -51,7 +51,8 @@ class Answer:
         self.places, self.first_lost = [], None     # the first places; the first lost one, its time, and how long no poll came
         self.first = self.last = ''     # the times of the first and of the last block
         self.filters = {}       # of each input that is not ignored the shorter filter, as far as configurations say
-        self.is_fit, self.says_below = True, False      # whether the log is of one link in order, and breaches are said below
+        # Whether the log is of one link in order, breaches are said below, and blocks without entries are left out.
+        self.is_fit, self.says_below, self.leaves_out = True, False, False
 
     def __add__(self, other):
         both = Answer()
@@ -71,9 +72,10 @@ class Answer:
         for seam in seams:
             self._add(batch, seam)
 
-    def end(self, is_fit, says_below):
-        """At the end of the log it is known whether it is of one link in order, and whether breaches are said below."""
-        self.is_fit, self.says_below = is_fit, says_below
+    def end(self, is_fit, says_below, leaves_out=False):
+        """At the end of the log it is known whether it is of one link in order, breaches are said below, and blocks without entries are
+        left out."""
+        self.is_fit, self.says_below, self.leaves_out = is_fit, says_below, leaves_out
         if not is_fit:
             self.numbers, self.places = Counter(), []
 
@@ -157,7 +159,7 @@ class Answer:
     def _rest(self):
         """What is said of all else, if it is not one stretch."""
         numbers, unknown = self.numbers, self.numbers['passed_over'] + self.numbers['unknown']
-        missing, gaps = numbers['missing'], ANSWER['missing' if numbers['missing'] else 'unknown'] if numbers['missing'] or unknown else ''
+        missing, gaps = numbers['missing'], ANSWER['missing' + '_empty' * self.leaves_out if numbers['missing'] else 'unknown'] if numbers['missing'] or unknown else ''
         yield ANSWER['rest_lost' if numbers['lost'] else 'rest'].format(
             share='' if self.permille is None else ANSWER['share'].format(share=self.permille / 10),
             gaps=gaps.format(places=counted('places', missing or unknown), blocks=counted('blocks', numbers['missing_blocks'])))

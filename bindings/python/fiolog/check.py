@@ -78,7 +78,7 @@ class Findings:
     def add(self, event, found):
         """A breach, or a restart."""
         whose = 'CPU' if event.direction == '>' else 'module'
-        self.held.add((event.station, (whose, found.rule), _place(event), self._object(event, found) if self.option.json else
+        self.held.add((event.station, found.is_step, (whose, found.rule), _place(event), self._object(event, found) if self.option.json else
                        '%s%s: %s: %s' % (event.head, event.where, self.paint('fault', found.rule), found.meaning)))
 
     def _object(self, event, found):
@@ -90,9 +90,9 @@ class Findings:
 
     def write(self):
         """Writes and counts those of links, or of stations, of which the rules are judged."""
-        fit = {station for one in self.read.judgements if one.is_fit for station in one.stations}
-        for station, whose, place, written in self.held.take():
-            if station not in fit:
+        fit = {station: one for one in self.read.judgements if one.is_fit for station in one.stations}
+        for station, is_step, whose, place, written in self.held.take():
+            if station not in fit or is_step and fit[station].leaves_out:
                 continue
             self.count += whose[1] != RESTARTED
             self.restarts += whose[1] == RESTARTED

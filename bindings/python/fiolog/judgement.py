@@ -21,10 +21,10 @@ LEAST = 4
 MOST_HELD = 1 << 20
 COMMANDS, ANSWERS, NOT_WHOLE, UNREAD, SILENT, FEW, NONE = 'commands', 'answers', 'not whole', 'unread', 'silent', 'few', 'none'
 ONE_SIDED = COMMANDS, ANSWERS, NOT_WHOLE, UNREAD
-# The sign that answers came late, and the rules that such an answer breaks.
-LATE, LATE_RULES = 'late answers', ('pair', 'number')
+# The sign that answers came late, and the rules that such an answer breaks; and that of a log of which rules are judged.
+LATE, LATE_RULES, EMPTY = 'late answers', ('pair', 'number'), 'empty blocks left out'
 # The verdicts on a log of which no rule is judged.
-UNFIT = (*SIGNS, *ONE_SIDED)
+UNFIT = (*(sign for sign in SIGNS if sign != EMPTY), *ONE_SIDED)
 # The note of a line of no form that has a frame.
 UNREAD_FRAME = REASONS['unread frame']
 _MERGE = ' (two files of one line: see --merge)'
@@ -50,7 +50,7 @@ def say(judgements):
 
 def is_little(verdict, counts_alone=False):
     """Whether little of a log with this verdict could be judged or, if it is counted alone, counted."""
-    return verdict not in ('', SILENT, *(LATE, FEW, *ONE_SIDED) * counts_alone)
+    return verdict not in ('', SILENT, EMPTY, *(LATE, FEW, *ONE_SIDED) * counts_alone)
 
 
 class Sides:
@@ -183,10 +183,10 @@ class Judgement:
     def end(self):
         """Returns the other breaches and restarts, at the end of the log."""
         judged, said = self.frames - self.rules.unjudged_frames - self.rules.begun_again, self.frames + self.losses
-        self.verdict = (NONE if not self.frames else '') or self.sign or self.sides.verdict() or (FEW if 2 * judged < said else '')
-        self.words = WORDS.get(self.verdict, '').format(judged=judged, said=said)
+        self.verdict = (NONE if not self.frames else '') or self.sign or self.sides.verdict() or (FEW if 2 * judged < said else EMPTY * self.leaves_out)
+        self.words = '; '.join(WORDS[one].format(judged=judged, said=said) for one in (self.verdict, EMPTY * (self.leaves_out and self.verdict == FEW)) if one in WORDS)
         # A block that came late is not below the one that was made before it.
-        self.answer.end(not (self.sign or self.rules.unjudged['late_answers']), self.is_fit and self.rules.tells_all)
+        self.answer.end(not (self.sign or self.rules.unjudged['late_answers']), self.is_fit and self.rules.tells_all, self.leaves_out)
         held = self.held.take()
         return held if self.is_fit else ()
 
@@ -198,7 +198,12 @@ class Judgement:
     @property
     def sign(self):
         """What kind of log it looks like by now, a key of SIGNS; empty if it looks like the log of one link in order."""
-        return self._signs.sign or LATE * (self._is_late is True and not self.rules.late_answers)
+        return self._signs.sign * (not self.leaves_out) or LATE * (self._is_late is True and not self.rules.late_answers)
+
+    @property
+    def leaves_out(self):
+        """Whether blocks without entries are not in the log: then a poll for the next number below one without an answer breaks no rule."""
+        return self._signs.sign == EMPTY
 
     @property
     def unjudged(self):

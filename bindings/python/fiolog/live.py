@@ -6,6 +6,7 @@ frame check. What a port loses, or hears with a wrong parity or stop bit, is not
 
 import sys
 import time
+from collections import Counter
 
 from . import check, judgement, listening, log, options, output, statuses, terminal
 from .batch import made_of
@@ -52,6 +53,7 @@ class Station:
     def __init__(self, option, source):
         self.option, self.source, self.counts = option, source, Counts()
         self.broken = {'breaches': 0, 'breaches in content': 0, 'restarted': 0}
+        self.steps = Counter()      # of each station how many polls have the next number though the one above has no answer
         self.out = sys.stderr if option.pcapng == '-' else sys.stdout
         self.paint = terminal.painter('auto')
         self.line = Text(self._write, self.paint)
@@ -102,6 +104,7 @@ class Station:
         """Says what frames break, and where the module restarted."""
         for event, found in broken:
             self.broken['restarted' if found.is_restart else 'breaches in content' if found.is_content else 'breaches'] += 1
+            self.steps[event.station] += found.is_step
             self._write('%s: %s: %s\n' % (event.where, self.paint('fault', found.rule), found.meaning))
 
     def flush(self):
@@ -154,7 +157,8 @@ class Station:
             log.say_others(self.source.reader.others)
             terminal.say('no frame came')
         is_fit = any(one.is_fit for one in judgements)
-        return statuses.of_log(is_fit and self.broken['breaches'] + self.broken['breaches in content'],
+        excused = sum(self.steps[station] for one in judgements if one.leaves_out for station in one.stations)
+        return statuses.of_log(is_fit and self.broken['breaches'] - excused + self.broken['breaches in content'],
                                is_little or any(one.answer.is_little for one in said),
                                is_fit and self.broken['restarted'] or any(one.answer.is_lost for one in said))
 

@@ -28,13 +28,14 @@ CURES = {
     'advance': 'If this is not the log of the CPU, log there.',
     'restarted': 'Look at its supply, and configure its inputs again.',
 }
-# What kind of log it looks like, if it is not the log of one link in order, and what to do: in the order of the library's numbers, and last
-# what it has no number of.
+# What kind of log it looks like, if it is not the whole log of one link in order, and what to do: in the order of the library's numbers, and
+# last what it has no number of.
 SIGNS = {
     'twice': 'this log looks as if each frame is in it twice: keep one of both channels or sources, and judge that',
     'both ends': 'this log looks like the logs of both ends merged: keep the lines of one end, and judge these',
     'reversed': 'this log looks as if its last line is first: reverse it with `tac FILE`',
     'two links': 'this log looks like the lines of two links: split it by port or address, and judge each link by itself',
+    'empty blocks left out': 'blocks without entries are not in this log, so nobody is accused where a poll has no answer and the next one has the next number',
     'late answers': 'answers came late in this log, below commands that were sent again: try --late-answers',
 }
 # What is said of a seam, at the block below it: that transitions are lost, and by the numbers of the library why a stretch ends there.
@@ -99,6 +100,7 @@ ANSWER = {
     'rest_lost': 'Nothing else is lost in what this log has{share}{gaps}.',
     'share': ', {share} % of the time',
     'missing': '; at {places} at least {blocks} not in it',
+    'missing_empty': '; at {places} at least {blocks} not in it, which may have had no entries',
     'unknown': '; at {places} the log does not say it',
     'restarts': 'The module was restarted {times}; what waited in it then is not recorded.',
     'disbelieved': 'At {places} entries are not to be believed{below}.',

@@ -60,6 +60,11 @@ class Breach(NamedTuple):
         return self.says if self.is_restart else '%s (%s)' % (self.says, self.source)
 
     @property
+    def is_step(self):
+        """Whether a poll has the next number though the one above has no answer."""
+        return self.rule == 'advance' and (self.due['got'] - self.due['due']) % 256 == 1
+
+    @property
     def is_content(self):
         """Whether a rule on content is broken."""
         return self.items >= 0 and not self.is_restart

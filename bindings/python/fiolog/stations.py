@@ -130,7 +130,8 @@ class Stations:
 
     def _row(self, address, part):
         """What is said of a station in short."""
-        breaches, restarts = (self.broken[address][kind] * part.is_fit for kind in (False, True))
+        broken = self.broken[address]
+        breaches, restarts = part.is_fit * (broken[False, False] + broken[False, True] * (not part.leaves_out)), part.is_fit * broken[True, False]
         return {**self.counts[address].in_short(), 'breaches': breaches, **({'restarted': restarts} if restarts else {})}
 
     def take(self, batch):
@@ -169,7 +170,7 @@ class Stations:
 
     def _named(self, address, event, found):
         """The event of what is found, with its station."""
-        self.broken[address][found.is_restart] += 1
+        self.broken[address][found.is_restart, found.is_step] += 1
         return event._replace(station=address.hex().upper())
 
     def _take_without(self, batch):

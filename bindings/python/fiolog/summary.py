@@ -94,17 +94,18 @@ def summary_of(source, start_at_poll=False, form='auto', pattern=None, line='', 
     for batch in reader.read(decoded(iter(chunks_of(source)), not line)):
         batch = stations.opened(batch)
         for _, event, found in stations.take(batch):
-            told[event.station].add_breach(event, found)
+            told[event.station, found.is_step].add_breach(event, found)
         summary.counts.take(batch)
     for event, found in stations.end():
-        told[event.station].add_breach(event, found)
+        told[event.station, found.is_step].add_breach(event, found)
     summary.said = stations.answers(summary.counts)
     summary.answer = sum((one.answer for one in summary.said), Answer())
     summary.partial = sum(one.answer.is_little for one in summary.said)
     for one in stations.judgements:
         summary.verdicts.update([one.verdict] * bool(one.verdict))
         for station in one.stations if one.is_fit else ():
-            summary.add_breaches(told[station])
+            for is_step in (False, True)[:1 if one.leaves_out else 2]:
+                summary.add_breaches(told[station, is_step])
     summary.lines, summary.reasons, summary.counts, summary.stations = reader.count, reader.reasons, stations.total(summary.counts), stations.rows()
     summary.unjudged = stations.unjudged + Counter(skipped_lines=sum(summary.reasons.values()), frames_of_others=reader.kinds[OTHER])
     return summary

@@ -2,7 +2,7 @@
 use Rattle.std.specs.Prelude.{ℕ, Bool, ◌==◌, not, take, Option, Some, None, if◌then◌else◌}
 use Rattle.fio_check.specs.declared.block_order.BlockSeen.{BlockSeen}
 use Rattle.fio_check.specs.declared.log_signs.LogSign.{LogSign}
-use Rattle.fio_check.specs.declared.log_signs.LogSign.TheVariants.{BothEnds, Reversed, Twice, TwoLinks}
+use Rattle.fio_check.specs.declared.log_signs.LogSign.TheVariants.{BothEnds, EmptyLeftOut, Reversed, Twice, TwoLinks}
 use Rattle.fio_check.specs.declared.log_signs.LogSigns.{LogSigns}
 use Rattle.fio_c.specs.Checkers.{octet_if}
 use Rattle.fio_check.specs.LogSigns.{signs_with}
@@ -32,6 +32,13 @@ log_signs_in flat = record {
     changes = flat.changes;
     jumps = flat.jumps;
   };
+  left_out = record {
+    waits = octet_if flat.waits flat.polled;
+    polls = flat.polls;
+    passed = flat.passed;
+    others = flat.others;
+    empty = flat.empty;
+  };
 }
 
 -- with an item of a batch more: the frames of a line that is none of frames are not taken
@@ -48,3 +55,4 @@ sign_number (Some Twice) = 1
 sign_number (Some BothEnds) = 2
 sign_number (Some Reversed) = 3
 sign_number (Some TwoLinks) = 4
+sign_number (Some EmptyLeftOut) = 5

@@ -1,5 +1,5 @@
 //! What kind of log a log looks like, in memory of the caller.
-ghost use Rattle.std.specs.Prelude.{◌≡◌, ◌==◌, List, Some, fold, not, length, take};
+ghost use Rattle.std.specs.Prelude.{◌≡◌, ◌==◌, List, Some, fold, not, length, replicate, take};
 ghost use Rattle.fio_check.specs.LogSigns.{no_signs, sign_of, signs_with};
 ghost use Rattle.fio_c.specs.BatchItems.{items_of_content, items_of_told};
 ghost use Rattle.fio_c.specs.LogJudges.{end_in};
@@ -11,7 +11,9 @@ use crate::batch_items::{BatchItems, items_of};
 use crate::log_batch::{FRAMES, LogBatch, LogVerdict};
 use crate::log_judge::{end_from, octet_from};
 use crate::log_judge_batch::is_sent_frame;
-use fio_check::{BlockOrder, BlockRows, BlockSeen, LogSign, LogSigns, RepeatedFrames};
+use fio_check::{
+    BlockOrder, BlockRows, BlockSeen, LeftOutBlocks, LogSign, LogSigns, RepeatedFrames,
+};
 use fio_message::{FRAME_OCTETS, Frame};
 
 /// Counts of the frames of a log. Its fields are the library's own: what it keeps of the frames that it took.
@@ -34,6 +36,14 @@ pub struct FlatLogSigns {
     pub jumps: u32,
     /// The stamp of the latest block answer.
     pub stamp: u32,
+    /// The number of polls.
+    pub polls: u32,
+    /// How many of them ask for the next number below a poll that has no answer.
+    pub passed: u32,
+    /// How many ask there for another number, which is not that poll's own either.
+    pub others: u32,
+    /// The number of block answers without entries.
+    pub empty: u32,
     /// How many octets are kept of the frame directly above.
     pub length: u16,
     /// Who sent that frame by its line: 1 the CPU's end, 2 the module, any other if it does not say it.
@@ -54,15 +64,19 @@ pub struct FlatLogSigns {
     pub second: u8,
     /// The octets that are kept of the frame directly above.
     pub above: [u8; FRAME_OCTETS],
-    /// 0 if the library writes it.
-    pub reserved: u8,
+    /// 1 if the latest poll has no block answer below it.
+    pub waits: u8,
+    /// The number of that poll.
+    pub polled: u8,
+    /// 0 in each octet that the library writes.
+    pub reserved: [u8; 3],
 }
 
 /// Starts above the first frame of a log.
 #[unsafe(no_mangle)]
 pub extern "C" fn fio2070_log_signs_start(signs: &mut FlatLogSigns)
     ensures next { log_signs_in signs.new ≡ no_signs }
-    ensures reserved { signs.new.reserved ≡ 0 }
+    ensures reserved { signs.new.reserved ≡ replicate 3 0 }
 {
     *signs = flat_signs_of(&LogSigns::new());
 }
@@ -77,7 +91,7 @@ pub extern "C" fn fio2070_log_signs_frame(
     octets: &[u8],
 )
     ensures next { log_signs_in signs.new ≡ signs_with (log_signs_in signs.old) (not (from_cpu == 0)) (end_in said) octets.now }
-    ensures reserved { signs.new.reserved ≡ 0 }
+    ensures reserved { signs.new.reserved ≡ replicate 3 0 }
 {
     let mut kept = signs_from(signs);
     kept.frame(from_cpu != 0, end_from(said), octets);
@@ -92,7 +106,7 @@ pub extern "C" fn fio2070_log_signs_batch(signs: &mut FlatLogSigns, as_said: u8,
         ≡ fold (signs_with_item (not (as_said == 0))) (log_signs_in signs.old) (items_of_content content) }
     ensures told { (told : List Told) → Holds batch.now (content_of told) → log_signs_in signs.new
         ≡ fold (signs_with_item (not (as_said == 0))) (log_signs_in signs.old) (items_of_told told) }
-    ensures reserved { signs.new.reserved ≡ 0 }
+    ensures reserved { signs.new.reserved ≡ replicate 3 0 }
 {
     let mut kept = signs_from(signs);
     take_items(&mut kept, as_said != 0, items_of(batch));
@@ -121,7 +135,8 @@ fn take_frame(signs: &mut LogSigns, as_said: bool, verdict: &LogVerdict, octets:
 }
 
 /// Returns what kind of log the log looks like: 0 the log of one link in order, or one with too few frames to say; 1 each frame
-/// occurs twice; 2 the logs of both ends are merged; 3 the last line is first; 4 it has two links.
+/// occurs twice; 2 the logs of both ends are merged; 3 the last line is first; 4 it has two links; 5 it is the log of one link in order,
+/// but block answers without entries are left out.
 #[unsafe(no_mangle)]
 pub extern "C" fn fio2070_log_signs_sign(signs: &FlatLogSigns) -> u8
     ensures { result ≡ sign_number (sign_of (log_signs_in signs.now)) }
@@ -132,6 +147,7 @@ pub extern "C" fn fio2070_log_signs_sign(signs: &FlatLogSigns) -> u8
         Some(LogSign::BothEnds) => 2,
         Some(LogSign::Reversed) => 3,
         Some(LogSign::TwoLinks) => 4,
+        Some(LogSign::EmptyLeftOut) => 5,
     }
 }
 
@@ -158,6 +174,13 @@ fn signs_from(flat: &FlatLogSigns) -> LogSigns
             second: octet_from(flat.has_second, flat.second),
             changes: flat.changes,
             jumps: flat.jumps,
+        },
+        left_out: LeftOutBlocks {
+            waits: octet_from(flat.waits, flat.polled),
+            polls: flat.polls,
+            passed: flat.passed,
+            others: flat.others,
+            empty: flat.empty,
         },
     }
 }
@@ -189,9 +212,14 @@ fn block_from(flat: &FlatLogSigns) -> Option<BlockSeen>
 /// Returns the struct of C that represents counts.
 fn flat_signs_of(signs: &LogSigns) -> FlatLogSigns
     ensures kept { log_signs_in result ≡ signs.now }
-    ensures reserved { result.reserved ≡ 0 }
+    ensures reserved { result.reserved ≡ replicate 3 0 }
 {
-    let (frames, order, rows) = (&signs.frames, &signs.order, &signs.rows);
+    let (frames, order, rows, left_out) = (
+        &signs.frames,
+        &signs.order,
+        &signs.rows,
+        &signs.left_out,
+    );
     FlatLogSigns {
         answers: frames.answers,
         repeated: frames.repeated,
@@ -217,7 +245,13 @@ fn flat_signs_of(signs: &LogSigns) -> FlatLogSigns
         has_second: u8::from(rows.second.is_some()),
         second: rows.second.unwrap_or(0),
         above: octets_of(&frames.above),
-        reserved: 0,
+        polls: left_out.polls,
+        passed: left_out.passed,
+        others: left_out.others,
+        empty: left_out.empty,
+        waits: u8::from(left_out.waits.is_some()),
+        polled: left_out.waits.unwrap_or(0),
+        reserved: [0; 3],
     }
 }
 

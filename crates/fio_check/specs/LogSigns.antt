@@ -1,17 +1,21 @@
 -- Signs that a log is not the log of one link in order: what kind of log it looks like, by counts of its frames.
-use Rattle.std.specs.Prelude.{ℕ, ◌==◌, ◌%◌, ◌+◌, ◌*◌, ◌&&◌, ◌||◌, Bool, List, [], ◌∷◌, false, not, nat_le, length, Option, Some, None, is_some, if◌then◌else◌}
+use Rattle.std.specs.Prelude.{ℕ, ◌==◌, ◌%◌, ◌+◌, ◌*◌, ◌&&◌, ◌||◌, Bool, List, [], ◌∷◌, false, not, nat_le, nat_lt, length, Option, Some, None, is_some, if◌then◌else◌}
 use Rattle.std.specs.Option.{option_and_then}
 use Rattle.std.specs.Str.{bytes_eq}
 use Rattle.fio_check.specs.ContentSaid.{is_later}
 use Rattle.fio_check.specs.Lines.{answer_from}
 use Rattle.fio_check.specs.LogJudges.{is_same_end, one_more}
+use Rattle.fio_check.specs.Observations.{observation_in}
 use Rattle.fio_check.specs.Places.{is_some_and}
 use Rattle.fio_check.specs.declared.block_order.BlockOrder.{BlockOrder}
 use Rattle.fio_check.specs.declared.block_order.BlockSeen.{BlockSeen}
 use Rattle.fio_check.specs.declared.block_rows.BlockRows.{BlockRows}
+use Rattle.fio_check.specs.declared.left_out.LeftOutBlocks.{LeftOutBlocks}
 use Rattle.fio_check.specs.declared.log_signs.LogSign.{LogSign}
-use Rattle.fio_check.specs.declared.log_signs.LogSign.TheVariants.{BothEnds, Reversed, Twice, TwoLinks}
+use Rattle.fio_check.specs.declared.log_signs.LogSign.TheVariants.{BothEnds, EmptyLeftOut, Reversed, Twice, TwoLinks}
 use Rattle.fio_check.specs.declared.log_signs.LogSigns.{LogSigns}
+use Rattle.fio_check.specs.declared.observation.Observation.{Observation}
+use Rattle.fio_check.specs.declared.observation.Observation.TheVariants as observations
 use Rattle.fio_check.specs.declared.repeated_frames.RepeatedFrames.{RepeatedFrames}
 use Rattle.fio_message.specs.declared.answers.Answer.{Answer}
 use Rattle.fio_message.specs.declared.answers.Answer.TheVariants.{Block}
@@ -140,11 +144,50 @@ abbrev pub are_two_links : BlockRows → ℕ → Bool
 are_two_links rows blocks =
     nat_le 8 blocks && (nat_le blocks (4 * rows.changes) && nat_le (10 * rows.jumps) blocks)
 
+-- ---- blocks without entries that are left out
+
+-- the polls without answers above the first frame
+abbrev pub none_left_out : LeftOutBlocks
+none_left_out = record { waits = None; polls = 0; passed = 0; others = 0; empty = 0 }
+
+-- a poll asks for the next number below one that waits for its answer
+abbrev pub is_next_of : Option ℕ → ℕ → Bool
+is_next_of waits number = is_some_and waits (λ above. number == (above + 1) % 256)
+
+-- it asks for neither that number nor for that poll's own
+abbrev pub is_other_of : Option ℕ → ℕ → Bool
+is_other_of waits number = is_some_and waits (λ above. not (number == (above + 1) % 256) && not (number == above))
+
+-- those after a poll
+abbrev pub left_out_with_poll : LeftOutBlocks → ℕ → LeftOutBlocks
+left_out_with_poll blocks number = record blocks {
+  polls = one_more blocks.polls;
+  passed = one_more_if (is_next_of blocks.waits number) blocks.passed;
+  others = one_more_if (is_other_of blocks.waits number) blocks.others;
+  waits = Some number;
+}
+
+-- those after a block with this many entries
+abbrev pub left_out_with_block : LeftOutBlocks → ℕ → LeftOutBlocks
+left_out_with_block blocks entries = record blocks { empty = one_more_if (entries == 0) blocks.empty; waits = None }
+
+-- those after a frame that says this
+abbrev pub left_out_with : LeftOutBlocks → Observation → LeftOutBlocks
+left_out_with blocks (observations.Poll number) = left_out_with_poll blocks number
+left_out_with blocks (observations.Block number status entries absent) = left_out_with_block blocks entries
+left_out_with blocks observation = blocks
+
+-- The log has blocks, but none without entries. Of 8 or more polls a quarter or more ask for the next number below a poll without an answer,
+-- and none asks there for another one than these two.
+abbrev pub are_left_out : LeftOutBlocks → ℕ → Bool
+are_left_out polls blocks = nat_lt 0 blocks && (nat_le 8 polls.polls && (nat_le polls.polls (4 * polls.passed)
+    && (polls.others == 0 && polls.empty == 0)))
+
 -- ---- the log
 
 -- the signs above the first frame
 abbrev pub no_signs : LogSigns
-no_signs = record { frames = no_repeats; order = no_blocks; rows = no_rows }
+no_signs = record { frames = no_repeats; order = no_blocks; rows = no_rows; left_out = none_left_out }
 
 -- the signs after a block answer, if the frame is one
 abbrev pub signs_with_block : LogSigns → Option BlockSeen → LogSigns
@@ -156,13 +199,16 @@ signs_with_block signs (Some block) = record signs {
 
 -- the signs after a frame
 abbrev pub signs_with : LogSigns → Bool → Option Bool → List ℕ → LogSigns
-signs_with signs from_cpu said octets = signs_with_block
-    (record signs { frames = repeats_with signs.frames from_cpu said octets }) (block_seen from_cpu octets)
+signs_with signs from_cpu said octets = signs_with_block (record signs {
+  frames = repeats_with signs.frames from_cpu said octets;
+  left_out = left_out_with signs.left_out (observation_in from_cpu octets);
+}) (block_seen from_cpu octets)
 
--- what kind of log it looks like, if it is not the log of one link in order: the first that holds
+-- what kind of log it looks like, if it is not the whole log of one link in order: the first that holds
 abbrev pub sign_of : LogSigns → Option LogSign
 sign_of signs = if is_twice signs.frames
     then Some (if is_of_both_ends signs.frames then BothEnds else Twice)
     else if is_reversed signs.order then Some Reversed
     else if are_two_links signs.rows signs.order.blocks then Some TwoLinks
+    else if are_left_out signs.left_out signs.order.blocks then Some EmptyLeftOut
     else None

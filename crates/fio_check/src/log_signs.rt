@@ -4,9 +4,11 @@ ghost use Rattle.fio_check.specs.LogSigns.{no_signs, sign_of, signs_with};
 
 use crate::block_order::{BlockOrder, BlockSeen};
 use crate::block_rows::BlockRows;
+use crate::left_out::LeftOutBlocks;
+use crate::observation::Observation;
 use crate::repeated_frames::RepeatedFrames;
 
-/// What kind of log a log looks like, if not the log of one link in order.
+/// What kind of log a log looks like, if not the whole log of one link in order.
 #[derive(Clone, Copy, Debug, PartialEq, Eq, Hash)]
 pub enum LogSign {
     /// Each frame occurs twice.
@@ -17,6 +19,8 @@ pub enum LogSign {
     Reversed,
     /// The log has two links.
     TwoLinks,
+    /// The log is that of one link in order, but the block answers without entries are left out.
+    EmptyLeftOut,
 }
 
 /// Counts of the frames of a log, which show whether it looks like something else than the log of one link in order. No judge
@@ -42,6 +46,8 @@ pub struct LogSigns {
     pub order: BlockOrder,
     /// The rows of the block answers' numbers.
     pub rows: BlockRows,
+    /// The polls whose answers are not in the log.
+    pub left_out: LeftOutBlocks,
 }
 
 impl LogSigns {
@@ -53,6 +59,7 @@ impl LogSigns {
             frames: RepeatedFrames::new(),
             order: BlockOrder::new(),
             rows: BlockRows::new(),
+            left_out: LeftOutBlocks::new(),
         }
     }
 
@@ -62,13 +69,14 @@ impl LogSigns {
         ensures { self.new ≡ signs_with self.old from_cpu said octets.now }
     {
         self.frames.add(from_cpu, said, octets);
+        self.left_out.add(Observation::of(from_cpu, octets));
         if let Some(block) = BlockSeen::of(from_cpu, octets) {
             self.order.add(block);
             self.rows.add(block.number);
         }
     }
 
-    /// Returns what kind of log the log looks like, the first that fits; `None` for the log of one link in order.
+    /// Returns what kind of log the log looks like, the first that fits; `None` for the whole log of one link in order.
     pub fn sign(&self) -> Option<LogSign>
         ensures { result ≡ sign_of self.now }
     {
@@ -82,6 +90,8 @@ impl LogSigns {
             Some(LogSign::Reversed)
         } else if self.rows.are_two_links(self.order.blocks) {
             Some(LogSign::TwoLinks)
+        } else if self.left_out.are_left_out(self.order.blocks) {
+            Some(LogSign::EmptyLeftOut)
         } else {
             None
         }

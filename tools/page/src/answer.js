@@ -17,10 +17,10 @@ const amountOf = (name, count) => COUNTED[name][count === 1 ? 0 : 1].replace('{c
 // The sentences that are said first of the log of a link.
 export function answerOf(log) {
   const { counted } = log, { lost, missing, restarts, disbelieved } = counted;
-  if (log.sign !== 0) return [ANSWER.unfit];
+  if (log.sign !== 0 && !log.leavesOut) return [ANSWER.unfit];
   if (counted.blocks < 2 && lost === 0) return [ANSWER.few];
   const silent = counted.passed_over + counted.unknown, isWhole = missing + silent + restarts + disbelieved === 0;
-  const gaps = missing > 0 ? filled(ANSWER.missing, { places: missing, blocks: counted.missing_blocks }) : silent > 0 ? filled(ANSWER.unknown, { places: silent }) : '';
+  const gaps = missing > 0 ? filled(log.leavesOut ? ANSWER.missing_empty : ANSWER.missing, { places: missing, blocks: counted.missing_blocks }) : silent > 0 ? filled(ANSWER.unknown, { places: silent }) : '';
   return [...lost > 0 ? lostOf(log) : isWhole ? wholeOf(log) : [],
     !isWhole && filled(lost > 0 ? ANSWER.rest_lost : ANSWER.rest, { share: shareOf(counted), gaps }),
     restarts > 0 && filled(ANSWER.restarts, { times: restarts }),

@@ -16,8 +16,10 @@ import { verdictOf } from './verdict.js';
 const { noSide, fromCpu, fromModule } = LOG_SIDES;
 // The messages above an answer among which its command is sought.
 const MOST_ABOVE = 8;
-// The sign that answers came late, which the library has no number of.
-const LATE = SIGNS.length - 1;
+// The sign that answers came late, which the library has no number of; and the last one of the library, of a log without empty blocks.
+const LATE = SIGNS.length - 1, EMPTY = LATE - 1;
+// Whether a poll has the next number though the one above has no answer.
+const isStep = (breach) => !breach.isContent && ruleOf(breach) === 'advance' && (breach.got - breach.due & 255) === 1;
 // Whether a breach is of a rule that a late answer breaks.
 const isOfLate = (breach) => !breach.isContent && ['pair', 'number'].includes(ruleOf(breach));
 
@@ -62,6 +64,7 @@ export class Log {
     Object.assign(this, { logged: sides.kind, sign: signs.call('sign') }).keep(new Judging(this, judge));
     if (this.isInOrder) yield* part(0.3, 0.65, this.judging.work());
     if (this.isLate) this.sign = LATE;
+    else if (this.leavesOut) this.excuseSteps();
     // What rules find of a log whose answers came late, or of one direction, is taken back.
     if (!this.isFit) this.keep(new Judging(this, judge));
     this.record = new Record(this);
@@ -107,14 +110,24 @@ export class Log {
     return false;
   }
 
+  // Nobody is accused where a poll has no answer and the next one has the next number.
+  excuseSteps() {
+    for (const [place, breach] of this.breaches) if (isStep(breach)) this.breaches.delete(place);
+  }
+
+  // Whether blocks without entries are not in the log.
+  get leavesOut() {
+    return this.sign === EMPTY;
+  }
+
   // Whether it looks like the log of one link in order.
   get isInOrder() {
-    return this.sign === 0 || this.sign === LATE;
+    return this.sign === 0 || this.leavesOut || this.sign === LATE;
   }
 
   // Whether rules are judged of it too: it has both directions, and answers in time.
   get isFit() {
-    return this.sign === 0 && !isOfOneSide(this.logged);
+    return (this.sign === 0 || this.leavesOut) && !isOfOneSide(this.logged);
   }
 
   address(place) {

@@ -28,6 +28,7 @@ export const SIGNS = [
   'this log looks like the logs of both ends merged: keep the lines of one end, and judge these',
   'this log looks as if its last line is first: reverse it with `tac FILE`',
   'this log looks like the lines of two links: split it by port or address, and judge each link by itself',
+  'blocks without entries are not in this log, so nobody is accused where a poll has no answer and the next one has the next number',
   'answers came late in this log, below commands that were sent again: try --late-answers',
 ];
 // What is said of a seam: that transitions are lost, and by the number of the seam why a stretch ends.
@@ -92,6 +93,7 @@ export const ANSWER = {
   rest_lost: 'Nothing else is lost in what this log has{share}{gaps}.',
   share: ', {share} % of the time',
   missing: '; at {places} at least {blocks} not in it',
+  missing_empty: '; at {places} at least {blocks} not in it, which may have had no entries',
   unknown: '; at {places} the log does not say it',
   restarts: 'The module was restarted {times}; what waited in it then is not recorded.',
   disbelieved: 'At {places} entries are not to be believed{below}.',

@@ -101,6 +101,7 @@ function sentencesOf(log, isJudged) {
     possible > 0 && `${counted(possible, 'line')} may be a message, and ${possible === 1 ? 'has' : 'have'} no form of this log.`,
     said(log.others.size, 'frame', 'with another address are not judged'),
     log.isFit && sentence(SIDES[log.logged] || ''),
+    log.isFit && sentence(SIGNS[log.sign]),
     said(aboveCommand, 'message', 'above the first command are not judged: what was asked is not in the log'),
     said(unheard, 'message', 'are not judged, since this log was not taken at the CPU: whether the CPU heard the answer above is not known, '
       + 'and to ask for the same block again is right if it did not'),

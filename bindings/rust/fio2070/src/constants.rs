@@ -165,6 +165,7 @@ pub const LOG_SIGN_TWICE: u8 = 1;
 pub const LOG_SIGN_BOTH_ENDS: u8 = 2;
 pub const LOG_SIGN_REVERSED: u8 = 3;
 pub const LOG_SIGN_TWO_LINKS: u8 = 4;
+pub const LOG_SIGN_EMPTY_LEFT_OUT: u8 = 5;
 
 /// Why a stretch of a log ends above a block.
 pub const SEAM_NONE: u8 = 0;

@@ -190,7 +190,7 @@ void call_log_signs(struct input *input) {
         fio2070_log_signs_frame(signs, how & 1, how >> 6, frame, length);
         if (how & 2) fio2070_log_signs_frame(signs, how & 1, how >> 4 & 3, frame, length);
         sign = fio2070_log_signs_sign(signs);
-        require(sign <= FIO2070_LOG_SIGN_TWO_LINKS, "the sign is in its range");
+        require(sign <= FIO2070_LOG_SIGN_EMPTY_LEFT_OUT, "the sign is in its range");
         mix(sign);
         free(frame);
     }
