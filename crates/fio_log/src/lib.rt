@@ -60,6 +60,8 @@
 //! this is tested by `tests/fiolog-reader.py` and `tests/real-logs.py`.
 #![tactic(auto)]
 
+mod addressed;
+mod addresses;
 mod ahead;
 mod blanks;
 mod by_forms;
@@ -96,6 +98,7 @@ mod told;
 mod verdict;
 mod wordings;
 
+pub use addresses::{AddressedFrame, Addresses, SHOWN_FRAMES};
 pub use clock::{Moment, Time, time_in};
 pub use counts::{ReadAs, SAMPLE_CHARACTERS};
 pub use directions::Direction;
