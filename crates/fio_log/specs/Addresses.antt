@@ -1,6 +1,6 @@
 -- Whether the octet before each message of a log is an address, by the first frames that have one without a frame check: a state, and
 -- what a frame does to it.
-use Rattle.std.specs.Prelude.{ℕ, ◌+◌, ◌*◌, ◌%◌, ◌^◌, ◌==◌, ◌&&◌, ◌||◌, Bool, false, not, nat_le, nat_lt, List, replicate, slice_index_or, slice_set, Option, Some, None, if◌then◌else◌}
+use Rattle.std.specs.Prelude.{ℕ, ◌+◌, ◌*◌, ◌%◌, ◌^◌, ◌==◌, ◌&&◌, ◌||◌, Bool, false, not, nat_le, nat_lt, replicate, slice_index_or, slice_set, Option, Some, None, if◌then◌else◌}
 use Rattle.fio_message.specs.declared.types.TheConstants.{ANSWER, POLL}
 use Rattle.fio_log.specs.declared.addresses.AddressedFrame.{AddressedFrame}
 use Rattle.fio_log.specs.declared.addresses.AddressAnswers.{AddressAnswers}
@@ -42,9 +42,9 @@ abbrev pub no_turns : AddressTurns
 no_turns = record { last = None; turns = replicate VALUES 0; values = 0; again = 0 }
 
 -- an octet is that of the frame above
-abbrev pub is_last : Option ℕ → ℕ → Bool
-is_last None address = false
-is_last (Some last) address = last == address
+abbrev pub is_same_turn : Option ℕ → ℕ → Bool
+is_same_turn None address = false
+is_same_turn (Some last) address = last == address
 
 -- how many turns an octet has after one more, at most two
 abbrev pub one_turn_more : ℕ → ℕ
@@ -61,7 +61,7 @@ turns_again turns address count = record turns {
 
 -- the turns below a frame with this octet
 abbrev pub turns_with : AddressTurns → ℕ → AddressTurns
-turns_with turns address = if is_last turns.last address then turns
+turns_with turns address = if is_same_turn turns.last address then turns
     else turns_again turns address (slice_index_or turns.turns address 0)
 
 -- ---- polls
@@ -89,15 +89,15 @@ polls_counted (Some above) (Some latest) polls poll = if above.address == poll.a
     else polls_back polls latest above.number poll.number
 
 -- what is seen below a poll
-abbrev pub polls_with : AddressPolls → AddressedFrame → AddressPolls
-polls_with polls poll = record (polls_counted polls.above (slice_index_or polls.latest poll.address None) polls poll) {
+abbrev pub polls_seen : AddressPolls → AddressedFrame → AddressPolls
+polls_seen polls poll = record (polls_counted polls.above (slice_index_or polls.latest poll.address None) polls poll) {
   above = Some poll;
   latest = slice_set polls.latest poll.address (Some poll.number);
 }
 
 -- what is seen of polls below a frame
-abbrev pub polls_below : AddressPolls → AddressedFrame → AddressPolls
-polls_below polls frame = if frame.code == POLL then polls_with polls frame else polls
+abbrev pub polls_seen_below : AddressPolls → AddressedFrame → AddressPolls
+polls_seen_below polls frame = if frame.code == POLL then polls_seen polls frame else polls
 
 -- ---- the log
 
@@ -111,7 +111,7 @@ addresses_below seen frame = record {
   frames = (seen.frames + 1) % 2 ^ 16;
   answers = answers_with seen.answers frame;
   turns = turns_with seen.turns frame.address;
-  polls = polls_below seen.polls frame;
+  polls = polls_seen_below seen.polls frame;
 }
 
 -- what is seen below a frame: only the first ones show something

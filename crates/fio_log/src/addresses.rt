@@ -1,6 +1,6 @@
 //! Whether the octet before each message of a log is an address, by the first frames that have one without a frame check.
 ghost use Rattle.std.specs.Prelude.{◌≡◌};
-ghost use Rattle.fio_log.specs.Addresses.{addresses_below, addresses_with, answer_alike, answers_below, answers_with, are_addresses, are_of_stations, is_last, more_if, no_addresses, no_answers, no_polls, no_turns, number_goes_on, one_turn_more, polls_back, polls_below, polls_counted, polls_with, turns_again, turns_with};
+ghost use Rattle.fio_log.specs.Addresses.{addresses_below, addresses_with, answer_alike, answers_below, answers_with, are_addresses, are_of_stations, is_same_turn, more_if, no_addresses, no_answers, no_polls, no_turns, number_goes_on, one_turn_more, polls_back, polls_seen_below, polls_counted, polls_seen, turns_again, turns_with};
 
 use fio_message::types::{ANSWER, POLL};
 
@@ -124,8 +124,8 @@ impl AddressAnswers {
 }
 
 /// Returns whether an octet is that of the frame above.
-fn is_last(last: Option<u8>, address: u8) -> bool
-    ensures { result ≡ is_last last address }
+fn is_same_turn(last: Option<u8>, address: u8) -> bool
+    ensures { result ≡ is_same_turn last address }
 {
     match last {
         Some(last) => last == address,
@@ -157,7 +157,7 @@ impl AddressTurns {
     fn add(&mut self, address: u8)
         ensures { self.new ≡ turns_with self.old address }
     {
-        if !is_last(self.last, address) {
+        if !is_same_turn(self.last, address) {
             self.begin(address, self.turns[usize::from(address)]);
         }
     }
@@ -195,7 +195,7 @@ impl AddressPolls {
 
     /// Takes a frame.
     fn add(&mut self, frame: AddressedFrame)
-        ensures { self.new ≡ polls_below self.old frame }
+        ensures { self.new ≡ polls_seen_below self.old frame }
     {
         if frame.code == POLL {
             self.add_poll(frame);
@@ -204,7 +204,7 @@ impl AddressPolls {
 
     /// Takes a poll.
     fn add_poll(&mut self, poll: AddressedFrame)
-        ensures { self.new ≡ polls_with self.old poll }
+        ensures { self.new ≡ polls_seen self.old poll }
     {
         let place = usize::from(poll.address);
         self.count(self.above, self.latest[place], poll);

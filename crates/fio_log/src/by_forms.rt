@@ -205,8 +205,7 @@ impl FormReader {
             window,
             &mut self.octets,
             &mut self.held,
-        )
-        .are_addresses();
+        ).are_addresses();
     }
 
     /// Adds forms that are given by samples: they stay, and come before those that are learnt.
