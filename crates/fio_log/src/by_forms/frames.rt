@@ -214,7 +214,8 @@ impl FormReader {
                 end: found.end,
             };
             let is_told = add_second(&self.octets[start..stop], place, told);
-            self.headers.add(self.header_of_second(is_framed, start));
+            let header = self.header_of_second(is_framed, start);
+            self.headers.add(header);
             is_all = is_all && may_follow(&self.last, &self.octets[start..stop]);
             self.last.clear();
             let _fits = self.last.try_extend_from_slice(&self.octets[start..stop]);
