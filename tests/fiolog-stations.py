@@ -1,14 +1,15 @@
 #!/usr/bin/env -S python3 -B
 """Logs of several stations on one line, read in many parts. What `fiolog check` says of each is what it says of a log with its frames
 alone, whatever is between them: the stations are proved modules, of which some get planted faults; support/mixes.py mixes their lines,
-and cuts some. And logs of which it is known what is said (support/stations.py). Options: how many mixes are made, and the first seed.
-Last line: `N passed, M failed`."""
+and cuts some. And logs of which it is known what is said (support/stations.py), and logs without frame checks: an octet that changes slowly
+is no address, that of a station which is only asked 49 is one. Options: how many mixes are made, the first seed, and how many logs without
+frame checks of each kind. Last line: `N passed, M failed`."""
 
 from collections import Counter
 
 from support.check import Check
 from support.fiolog import fiolog, use_library
-from support.mixes import mix_of
+from support.mixes import asked_alone, mix_of, slow_octet
 from support.stations import CASES
 
 # What is not judged of lines; which of these one is that is cut depends on the forms that the log shows.
@@ -60,13 +61,31 @@ def check_case(check, case):
     check.equal(case.name, (case.rows, case.found, case.missing), (summary.get('stations', {}), found, missing))
 
 
+def check_slow_octet(check, seed):
+    """An octet that changes slowly is no address: the log is one of one link, and accuses nobody."""
+    name, text = slow_octet(seed)
+    found, summary = said_of([text])
+    check.equal(name, ({}, [], 0, text.count('\n')), (summary.get('stations', {}), found, summary['breaches'], summary['frames']))
+
+
+def check_asked_alone(check, seed):
+    """A station that is only asked 49 is one, and nobody is accused."""
+    text = asked_alone(seed)
+    found, summary = said_of([text])
+    check.equal('a station that is only asked 49, seed %d' % seed, ({one: sum(line[3:5] == one for line in text.splitlines()) for one in ('14', '15')}, []),
+                ({address: row['frames'] for address, row in summary.get('stations', {}).items()}, found))
+
+
 def main():
-    check = Check(mixes=(40, 200, 1000), first=0)
+    check = Check(mixes=(40, 200, 1000), first=0, unchecked=(20, 80, 400))
     use_library(check, 'logs of several stations')
     for case in CASES:
         check_case(check, case)
     for seed in range(check.given.first, check.given.first + check.given.mixes):
         check_mix(check, seed)
+    for seed in range(check.given.unchecked):
+        check_slow_octet(check, seed)
+        check_asked_alone(check, seed)
     check.end()
 
 

@@ -1,4 +1,5 @@
-"""Lines of several stations in one log: proved modules, of which some get planted faults, with their exchanges in any order."""
+"""Lines of several stations in one log: proved modules, of which some get planted faults, with their exchanges in any order; and lines
+without frame checks of which an octet before the message is no address, or that of a station with few frames."""
 
 import random
 from typing import List, NamedTuple
@@ -17,6 +18,8 @@ ADDRESSES = 0x00, 0x01, 0x02, 0x10, 0x14, 0x15, 0x20, 0x30, 0x60, 0xfe
 SIDES = {'>': 'TX', '<': 'RX'}
 # So many lines show all stations.
 SHOWN = 40
+# An octet that is no address has so many values, one after the other, and each in so many exchanges.
+VALUES, EACH = (2, 3, 7, 8, 16, 24, 60, 256), (1, 2, 5, 10, 30)
 
 
 def frames_of(draw, count):
@@ -101,3 +104,28 @@ def mix_of(seed):
     for place in cut:
         lines[place] = lines[place][:draw.randrange(len(lines[place]) // 2, len(lines[place]) - 1)].rstrip()
     return Mix(form, addresses, lines, [frame[0] for frame in log], cut)
+
+
+def led(frames):
+    """Lines of frames without checks, each with the octet before its message."""
+    return ''.join('%s %02X %s\n' % (SIDES[direction], octet, octets.hex(' ').upper()) for octet, direction, octets in frames)
+
+
+def slow_octet(seed):
+    """A log of one link, of which an octet before the messages changes slowly: what it is, and its lines."""
+    draw = random.Random('slow octet %d' % seed)
+    values, each, exchange, frames = VALUES[seed % len(VALUES)], EACH[seed // len(VALUES) % len(EACH)], -1, []
+    for direction, octets in frames_of(draw, 200):
+        exchange += direction == '>'
+        frames.append((exchange // each % values, direction, octets))
+    return 'an octet of %d values, each in %d exchanges, seed %d' % (values, each, seed), led(frames)
+
+
+def asked_alone(seed):
+    """A log of a link, and of a station that is only asked 49 between its exchanges, and answers."""
+    draw, frames = random.Random('asked 49 %d' % seed), []
+    for exchange in exchanges_of(frames_of(draw, 120)):
+        frames += [(0x14, *frame) for frame in exchange]
+        if draw.random() < .2:
+            frames += [(0x15, '>', b'\x31\0'), (0x15, '<', b'\xb1\0\0\0\0\0\0\x09')]
+    return led(frames)

@@ -37,6 +37,8 @@ STATIONS = [
     ('messages of another type', BOTH[:4] + [(0x1a, '7001'), (0x1a, 'f001')] + BOTH[4:8], 'Nothing is lost, and no rule broken, at 2 stations',
      ['address 15: 4', 'address 1A: 4 messages. %sNo rule is broken in 4' % WHOLE], 'message of type 112, not of this protocol'),
 ]
+# A log of one link without checks, of which an octet before the messages has one of three values in each five exchanges.
+SLOW_OCTET = ''.join('TX {0:02X} 36 {1:02X}\nRX {0:02X} B6 {1:02X} 00 00 00 00 00 {1:02X}\n'.format(number // 5 % 3, number) for number in range(60))
 STATION_LINES = 'return [...document.querySelectorAll("#stations li")].map((it) => it.textContent)'
 
 
@@ -57,6 +59,9 @@ def check_stations(check, browser, _):
     check.equal('the record of a station is chosen', ['14', '15'], browser.run('return [...document.getElementById("station").options].map((it) => it.textContent)'))
     pasted(browser, PAIR)
     check.equal('a log of one link has none', [], browser.run(STATION_LINES))
+    pasted(browser, SLOW_OCTET)
+    check.holds('an octet that changes slowly is no address', 'No rule is broken in 120 messages' in words_in(browser, '#verdict') and browser.run(STATION_LINES) == [],
+                words_in(browser, '#verdict'))
 
 
 def of_size(size):

@@ -12,6 +12,7 @@ ghost use Rattle.fio_log.specs.Verdicts.{Agrees, has_reason};
 ghost use Rattle.fio_log.specs.Wordings.{SaysWords};
 ghost use Rattle.fio_log.specs.declared.verdict.Kind.TheVariants.{Frames};
 
+use crate::addressed::addresses_in;
 use crate::ahead::look_ahead;
 use crate::counts::{Counts, ReadAs};
 use crate::header::Headers;
@@ -73,6 +74,8 @@ pub(crate) struct FormReader {
     is_loud: bool,
     /// How many forms were given by samples.
     given: usize,
+    /// Whether octets before messages without a frame check are addresses.
+    are_addresses: bool,
 }
 
 /// Returns the index of a form, if it is known; the number of forms if not.
@@ -134,6 +137,7 @@ impl FormReader {
             heads: Heads::new(),
             is_loud: false,
             given: 0,
+            are_addresses: true,
         }
     }
 
@@ -155,6 +159,7 @@ impl FormReader {
         self.heads.clear();
         self.is_loud = false;
         self.given = 0;
+        self.are_addresses = true;
     }
 
     /// Returns the forms.
@@ -180,7 +185,8 @@ impl FormReader {
         }
     }
 
-    /// Learns from the lines of the window what is above octets, and which shapes of lines recur.
+    /// Learns from the lines of the window what is above octets, which shapes of lines recur, and whether octets before messages are
+    /// addresses.
     pub(crate) fn look_ahead(&mut self, window: &Window)
         ensures reading { self.new.reading ≡ self.old.reading }
         ensures rows { self.new.rows ≡ self.old.rows }
@@ -194,6 +200,12 @@ impl FormReader {
             &mut self.octets,
             &mut self.held,
         );
+        self.are_addresses = addresses_in(
+            self.forms.list(),
+            window,
+            &mut self.octets,
+            &mut self.held,
+        ).are_addresses();
     }
 
     /// Adds forms that are given by samples: they stay, and come before those that are learnt.

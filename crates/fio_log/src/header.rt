@@ -100,6 +100,22 @@ pub(crate) fn header_in(form: &LineForm, octets: &[u8], message: usize) -> Frame
     }
 }
 
+/// Returns the header of the octets of a form, which a line has from a place on and which hold a message with this many.
+pub(crate) fn header_by(
+    form: &LineForm,
+    line: &[u8],
+    place: usize,
+    octets: &[u8],
+    message: usize,
+    held: &mut Octets,
+) -> FrameHeader {
+    if form.before > 0 || form.is_framed {
+        header_in(form, octets, message)
+    } else {
+        header_of_front(form, line, place, octets.len(), held)
+    }
+}
+
 /// Returns where the word before a place begins, if there is one.
 fn word_before(line: &[u8], place: usize) -> Option<usize> {
     let mut begin = None;

@@ -2,10 +2,11 @@
 ghost use Rattle.std.specs.Prelude.{◌≡◌, ◌+◌, ◌≤◌, ◌++◌, ◌∷◌, [], length, true, false};
 ghost use Rattle.fio_guess.specs.declared.table.TheConstants.{LINES};
 
+use crate::addressed::addresses_in;
 use crate::lines::LineMaker;
 use crate::quiet::is_plain_quiet;
 use arrayvec::ArrayVec;
-use fio_form::Octets;
+use fio_form::{LineForm, Octets};
 use fio_guess::Window;
 use fio_guess::table::FEW;
 use fio_sniff::{Forms, Looking, Sniffer};
@@ -137,6 +138,25 @@ impl Learning {
         ensures { self.new.window ≡ self.old.window }
     {
         self.looking.look(&mut self.sniffer, &self.window)
+    }
+
+    /// Returns the forms that two looks in a row give in the first window, once its lines show whether octets before messages are
+    /// addresses.
+    pub(crate) fn look_first(&mut self) -> Option<Forms>
+        ensures { self.new.window ≡ self.old.window }
+    {
+        let forms = self.look()?;
+        if self.wants_addresses(&forms) {
+            return None;
+        }
+        Some(forms)
+    }
+
+    /// Returns whether more lines are wanted to show whether octets before the messages of some forms are addresses.
+    fn wants_addresses(&self, forms: &[LineForm]) -> bool {
+        let mut octets: Octets = ArrayVec::new();
+        let mut held: Octets = ArrayVec::new();
+        addresses_in(forms, &self.window, &mut octets, &mut held).wants_more()
     }
 
     /// Returns the forms of all lines of the window; `is_ended`: the log has ended.

@@ -22,6 +22,7 @@
 //! | learn which forms are known, and how many lines each had | `Reader::forms`, `Reader::read_as` |
 //! | split octets into lines, however they are cut into pieces | `LineMaker` |
 //! | find the first time in a line | `time_in` |
+//! | see whether the octets before messages are addresses | `Addresses` |
 //! | read a line of the program's own texts | `read_own_line` |
 //!
 //! A line is kept until the forms are known (`learning`), heard by them (`by_forms`), and reported as soon as its verdict depends on
@@ -30,7 +31,8 @@
 //! what a verdict says (`Verdicts`, `OwnVerdicts`), what a reader has read and returned (`Telling`), how many lines wait
 //! (`Waiting`), what is known of them (`Knowing`), what is heard of a line by the forms and said of that (`Heard`), from one line to the
 //! next (`Following`), in a log of lines by themselves (`LineLogs`), by the forms that are known (`KnownForms`), digits that
-//! go on after octets (`Spoilt`), and the sizes that messages of other modules have (`Foreign`).
+//! go on after octets (`Spoilt`), the sizes that messages of other modules have (`Foreign`), and whether octets before messages are
+//! addresses (`Addresses`).
 //!
 //! # What is proved
 //!
@@ -60,6 +62,8 @@
 //! this is tested by `tests/fiolog-reader.py` and `tests/real-logs.py`.
 #![tactic(auto)]
 
+mod addressed;
+mod addresses;
 mod ahead;
 mod blanks;
 mod by_forms;
@@ -96,6 +100,7 @@ mod told;
 mod verdict;
 mod wordings;
 
+pub use addresses::{AddressedFrame, Addresses, SHOWN_FRAMES};
 pub use clock::{Moment, Time, time_in};
 pub use counts::{ReadAs, SAMPLE_CHARACTERS};
 pub use directions::Direction;

@@ -22,14 +22,15 @@ fn is_told(form: &LineForm) -> bool {
 }
 
 /// Finds the next message of a line from a place on: the first place at which the front of a form is, and after it octets
-/// that are a message. Returns where its octets are, and which of those that it writes to `octets` are the message.
+/// that are a message. Returns where its octets are, which of those that it writes to `octets` are the message, and whether that is in a
+/// frame with its check.
 pub(crate) fn second_in(
     forms: &[LineForm],
     line: &[u8],
     from: usize,
     octets: &mut Octets,
     held: &mut Octets,
-) -> Option<(Found, Whole)>
+) -> Option<(Found, Whole, bool)>
     ensures { HasNoLine forms.now line.now → result ≡ None }
 {
     'places: for place in from..line.len() {
@@ -49,7 +50,7 @@ pub(crate) fn second_in(
                         octets.clear();
                         let _fits = octets.try_extend_from_slice(held);
                     }
-                    return Some((found, whole));
+                    return Some((found, whole, form.is_framed));
                 }
             }
         }

@@ -191,7 +191,7 @@ impl Teller {
             self.know(at);
             return;
         }
-        if let Some(forms) = self.learning.look() {
+        if let Some(forms) = self.learning.look_first() {
             self.by_forms.add(&forms);
             self.by_forms.look_ahead(&self.learning.window);
             self.drain(at);

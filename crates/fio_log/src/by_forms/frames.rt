@@ -7,7 +7,7 @@ ghost use Rattle.fio_log.specs.Wordings.{SaysWords};
 
 use crate::by_forms::{FormReader, LineHeard, take_message};
 use crate::cut::ends_in_gap;
-use crate::header::header_before;
+use crate::header::{FrameHeader, NO_HEADER, header_before};
 use crate::heading::Heading;
 use crate::lines::NumberedLine;
 use crate::places::Place;
@@ -169,6 +169,15 @@ impl FormReader {
         }
     }
 
+    /// Returns the header of a further message, before which the line has this many octets.
+    fn header_of_second(&self, is_framed: bool, count: usize) -> FrameHeader {
+        if is_framed || self.are_addresses {
+            header_before(count, &self.octets)
+        } else {
+            NO_HEADER
+        }
+    }
+
     /// Takes the messages after the first one of a line; returns whether nothing else of it may be one.
     fn tell_seconds(&mut self, line: NumberedLine, end: usize, told: &mut Told) -> bool
         ensures more { length told.old.frames ≤ length told.new.frames }
@@ -183,7 +192,7 @@ impl FormReader {
             if from >= line.text.len() {
                 break;
             }
-            let Some((found, whole)) = second_in(
+            let Some((found, whole, is_framed)) = second_in(
                 self.forms.list(),
                 line.text,
                 from,
@@ -205,7 +214,8 @@ impl FormReader {
                 end: found.end,
             };
             let is_told = add_second(&self.octets[start..stop], place, told);
-            self.headers.add(header_before(start, &self.octets));
+            let header = self.header_of_second(is_framed, start);
+            self.headers.add(header);
             is_all = is_all && may_follow(&self.last, &self.octets[start..stop]);
             self.last.clear();
             let _fits = self.last.try_extend_from_slice(&self.octets[start..stop]);

@@ -11,7 +11,7 @@ use crate::ahead::is_part;
 use crate::by_forms::{FormReader, LineHeard};
 use crate::cut::is_cut_line;
 use crate::foreign::{Foreign, NONE, foreign_in};
-use crate::header::{FrameHeader, NO_HEADER, header_in, header_of_front};
+use crate::header::{FrameHeader, NO_HEADER, header_by};
 use crate::heading::Heading;
 use crate::heads::is_border;
 use crate::lines::NumberedLine;
@@ -129,23 +129,22 @@ impl FormReader {
         }
     }
 
-    /// Returns the header of the message that a line ends or goes on with.
+    /// Returns the header of the message that a line ends or goes on with. Octets before one without a frame check are none, if they are
+    /// no addresses.
     fn header_of_first(&mut self, line: &[u8], heard: LineHeard) -> FrameHeader
         ensures { self.new ≡ record self.old { octets = self.new.octets } }
     {
         let octets = &self.reading.octets;
         match self.forms.get(heard.said.form) {
-            Some(form) if form.before > 0 || form.is_framed => {
-                header_in(form, octets, self.reading.message.len())
-            }
-            Some(form) => header_of_front(
+            Some(form) if form.is_framed || self.are_addresses => header_by(
                 form,
                 line,
                 heard.said.found.start,
-                octets.len(),
+                octets,
+                self.reading.message.len(),
                 &mut self.octets,
             ),
-            None => NO_HEADER,
+            _ => NO_HEADER,
         }
     }
 
