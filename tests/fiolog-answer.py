@@ -117,9 +117,11 @@ def check_cases(check):
 
 # What is known of the second case with F and a block that is not in it: 2 + 1 + 255 entries in 3 blocks.
 NUMBERS = {'recorded': 258, 'blocks': 3, 'lost_places': 1, 'missing_places': 1, 'missing_blocks': 1, 'passed_over': 0, 'unknown': 0, 'restarts': 0, 'disbelieved': 0,
-           'whole_share': 0.5, 'longest_pause_s': 1.0,
+           'whole_share': 0.5, 'longest_pause_s': 1.0, 'first': 7 * 3600 + 0.01, 'last': 7 * 3600 + 2.01, 'span_s': 2.0,
            'places': [{'line': 6, 'time': 7 * 3600 + 2.01, 'kind': 'missing', 'number': 8, 'lost': True, 'missing_blocks': 1}]}
-COLUMNS = 'recorded', 'lost_places', 'missing_blocks', 'passed_over', 'restarts', 'whole_share'
+COLUMNS = 'recorded', 'lost_places', 'missing_blocks', 'passed_over', 'restarts', 'whole_share', 'span_s'
+# What the sum of several logs does not have.
+OF_ONE = 'first', 'last', 'span_s', 'places'
 
 
 def check_numbers(check, folder):
@@ -132,10 +134,10 @@ def check_numbers(check, folder):
     *rows, last = fiolog('check', '--json', *words, *paths).objects()
     check.equal('objects of several', [('lost', found), ('whole', 4)], [(os.path.basename(rows[0]['file']), rows[0]['answer']),
                                                                       (os.path.basename(rows[1]['file']), rows[1]['answer']['recorded'])])
-    total = {name: 262 if name == 'recorded' else 7 if name == 'blocks' else NUMBERS[name] for name in NUMBERS if name != 'places'}
+    total = {name: 262 if name == 'recorded' else 7 if name == 'blocks' else NUMBERS[name] for name in NUMBERS if name not in OF_ONE}
     check.equal('and their sum', {**total, 'whole_share': 0.8}, last['summary']['answer'])
     table = list(csv.DictReader(io.StringIO(fiolog('check', '--csv', *words, *paths).out)))
-    check.equal('--csv', [['258', '1', '1', '0', '0', '0.5'], ['4', '0', '0', '0', '0', '1.0']], [[row[name] for name in COLUMNS] for row in table])
+    check.equal('--csv', [['258', '1', '1', '0', '0', '0.5', '2.0'], ['4', '0', '0', '0', '0', '1.0', '3.0']], [[row[name] for name in COLUMNS] for row in table])
     both = fiolog('check', '--csv', *LIKE, written(folder, 'both', CASES['two links'][0])).out
     check.equal('--csv of two links', [[''] * len(COLUMNS)], [[row[name] for name in COLUMNS] for row in csv.DictReader(io.StringIO(both))])
     done = fiolog('check', *words, *paths)
@@ -161,6 +163,11 @@ def check_order(check, folder):
         check.equal('%s keeps its status' % command, GOOD, fiolog(command, *words, text=text).status)
 
 
+def seconds(first, last):
+    """Two times of a log in seconds from 07:00 on, and how far they are apart."""
+    return 7 * 3600.0 + first, 7 * 3600.0 + last, float(last - first)
+
+
 def check_stations(check, folder):
     """Each station has its line; places name it."""
     parts = rounds(8, FIRST, SECOND)
@@ -171,6 +178,14 @@ def check_stations(check, folder):
     found = fiolog('check', '--json', '--except', 'advance', text=''.join(parts)).summary()['answer']
     check.equal('stations in one object', ('\n'.join(done.out.splitlines()[:2]), 15, [(22, '15', 5)]),
                 (found['says'], found['blocks'], [(place['line'], place['station'], place['number']) for place in found['places']]))
+    # A line each second: blocks of the first station are in the lines 2 to 28, those of the second one in 4 to 30.
+    text = ''.join(clock(1000 * place) + ' ' + line for place, line in enumerate(''.join(parts).splitlines(True)))
+    found = fiolog('check', '--json', '--except', 'advance', text=text).summary()['answer']
+    check.equal('the numbers of each station', {'14': (8, 0, 1.0, *seconds(1, 27)), '15': (7, 1, 0.769, *seconds(3, 29))},
+                {address: tuple(map(row.get, ('blocks', 'missing_blocks', 'whole_share', 'first', 'last', 'span_s'))) for address, row in found['stations'].items()})
+    check.equal('the times of all', seconds(1, 29), tuple(map(found.get, ('first', 'last', 'span_s'))))
+    check.equal('no time is known', {None}, {row[name] for row in [fiolog('check', '--json', text=''.join(parts)).summary()['answer']]
+                                             for row in [row, *row['stations'].values()] for name in ('first', 'last', 'span_s')})
 
 
 def check_times(check, folder):
