@@ -129,24 +129,24 @@ class Answer:
         is_whole = not any(numbers[name] for name in SEAMS)
         return 'lost' if numbers['lost'] else 'restarted' if numbers['restarts'] else '' if numbers['blocks'] < 2 else 'whole' if is_whole else 'not whole'
 
-    def sentences(self, unanswered):
-        """What is said of it, in order; `unanswered` polls are those whose answers were lost."""
+    def sentences(self, unanswered, repeats):
+        """What is said of it, in order; `unanswered` polls have no answer, and `repeats` are polls that ask again."""
         numbers = self.numbers
         if not self.is_fit:
             return [ANSWER['unfit']]
         if numbers['blocks'] < 2 and not numbers['lost']:
             return [ANSWER['few']]
         has_ends = any(numbers[name] for name in SEAMS)
-        said = self._lost() if numbers['lost'] else () if has_ends else self._whole(unanswered)
+        said = self._lost() if numbers['lost'] else () if has_ends else self._whole(unanswered, repeats)
         return [*said, *(self._rest() if has_ends else ())]
 
-    def _whole(self, unanswered):
+    def _whole(self, unanswered, repeats):
         """What is said of a log that is one stretch."""
         count, (first, last) = self.numbers['transitions'], map(clock, self.ends)
         span = ANSWER['span'].format(first=first, last=last) if first and last else ''
         yield ANSWER['whole' if count > 1 else 'whole_one' if count else 'whole_none'].format(transitions=counted('transitions', count), span=span)
         if unanswered:
-            yield ANSWER['again'].format(answers=counted('answers', unanswered))
+            yield ANSWER['again' if unanswered <= repeats else 'silent'].format(answers=counted('answers', unanswered), polls=counted('polls', unanswered))
 
     def _lost(self):
         """What is said where transitions are lost; and how often to poll, if configurations say which inputs are open."""
@@ -180,15 +180,16 @@ class Answer:
 
 
 class Said(NamedTuple):
-    """An answer, with the address of its station, empty if there is one link, and how many polls have no answer there."""
+    """An answer, with the address of its station, empty if there is one link, how many polls have no answer there, and how many ask again."""
     address: str
     answer: Answer
     unanswered: int
+    repeats: int
 
     @property
     def line(self):
         """What is said of it."""
-        return 'address %s: ' % self.address * bool(self.address) + ' '.join(self.answer.sentences(self.unanswered))
+        return 'address %s: ' % self.address * bool(self.address) + ' '.join(self.answer.sentences(self.unanswered, self.repeats))
 
 
 def numbers_of(answers):
