@@ -61,7 +61,8 @@ class Written:
     def _whole(self):
         """What is said if there is no place."""
         made, span = self.made, ' from %s to %s' % tuple(self.clock(self.made.times[place]) for place in (0, -1)) if self.form else ''
-        yield 'Nothing is lost: %s.' % {0: 'no transition' + span, 1: '1 transition%s, once' % span}.get(made.recorded, '%s%s, each once' % (some(made.recorded, 'transition'), span))
+        count = made.recorded
+        yield 'Nothing is lost: %s%s%s.' % (some(count, 'transition') if count else 'no transition', span, {0: '', 1: ', once'}.get(count, ', each once'))
         if made.unanswered:
             yield '%s no answer.' % some(made.unanswered, 'poll', (' had', ' had')) if made.does_rise else '%s lost, and asked for again.' % some(
                 made.unanswered, 'answer', (' was', ' were'))
@@ -93,8 +94,8 @@ class Written:
         """What is due."""
         made, places = self.made, self.made.places
         span = (made.times[-1] - made.times[0]) / SECOND if self.form and made.times else None
-        numbers = {'recorded': made.recorded, 'blocks': len(made.made), 'lost_places': places['lost'], 'missing_places': places['missing'], 'missing_blocks': places['blocks'],
-                   'passed_over': places['passed_over'], 'unknown': places['unknown'], 'restarts': places['restarts'], 'disbelieved': 0,
+        numbers = {'recorded': made.recorded, 'blocks': len(made.made), 'lost_places': places['lost'], 'missing_places': places['missing'],
+                   'missing_blocks': places['blocks'], **{name: places[name] for name in ('passed_over', 'unknown', 'restarts')}, 'disbelieved': 0,
                    'whole_share': None if self.permille is None else self.permille / 1000, 'span_s': span}
         is_little = not made.has_commands or self.permille is not None and self.permille < 500
         return Due(' '.join(self._sentences()), numbers, LOST if places['lost'] + places['restarts'] else LITTLE if is_little else GOOD)

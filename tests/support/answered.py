@@ -216,6 +216,5 @@ class Made:
             return 'unknown'
         if block.passed:
             return 'passed_over' if between or block.passed > 1 else ''
-        # If the CPU passes over numbers, all between are taken as blocks.
-        self.places['blocks'] += (block.number - above.number - 1) % 256 if self.does_rise else between
+        self.places['blocks'] += between
         return 'missing' if between else ''
