@@ -21,7 +21,7 @@ use Rattle.fio_check.specs.declared.seam.ToldBlock.{ToldBlock}
 use Rattle.fio_check.specs.declared.stretches.LogStretches.{LogStretches}
 use Rattle.fio_check.specs.declared.stretches.Seam.{Seam}
 use Rattle.fio_ends.specs.StretchLogs.{LogFrame, Stretch, entries_added, entries_told, entries_unless, stretches_kept_below, stretches_of, stretches_with_entries, stretches_with_seam}
-use Rattle.fio_ends.specs.StretchNumbers.{CountsStretches, HaveOctets, NumbersCountStretches, blocks_missing_by, places_in, says_disbelieved, says_missing, says_passed_over, says_restart, says_unknown}
+use Rattle.fio_ends.specs.StretchNumbers.{CountsStretches, HaveOctets, NumbersCountStretches, blocks_missing_by, seams_in, says_disbelieved, says_missing, says_passed_over, says_restart, says_unknown}
 
 -- ---- numbers modulo another one
 
@@ -94,10 +94,10 @@ module _ (number : LogStretches → ℕ) (weight : Seam → ℕ) (weighs : Weigh
     with_told None = with_block (told_block octets)
 
   counts_places : number (stretches_kept_below []) ≡ 0 → (frames : List LogFrame)
-      → number (stretches_kept_below frames) ≡ sum_by weight (places_in frames) % 2 ^ 64
+      → number (stretches_kept_below frames) ≡ sum_by weight (seams_in frames) % 2 ^ 64
   counts_places none [] = none
   counts_places none (frame ∷ frames) =
-      with_told (stretches_kept_below frames) frame.time frame.octets frame.is_believed (places_in frames) (counts_places none frames) (command_in frame.octets)
+      with_told (stretches_kept_below frames) frame.time frame.octets frame.is_believed (seams_in frames) (counts_places none frames) (command_in frame.octets)
 
 -- ---- what each number weighs
 

@@ -10,9 +10,9 @@ use Rattle.fio_check.specs.declared.stretches.Seam.{Seam}
 use Rattle.fio_ends.specs.StretchLogs.{LogFrame, Stretch, stretches_kept_below, stretches_of}
 
 -- the places of a log, the newest first
-abbrev pub places_in : List LogFrame → List Seam
-places_in [] = []
-places_in (frame ∷ frames) = cons_option (seam_of (stretches_kept_below frames) frame.octets frame.is_believed) (places_in frames)
+abbrev pub seams_in : List LogFrame → List Seam
+seams_in [] = []
+seams_in (frame ∷ frames) = cons_option (seam_of (stretches_kept_below frames) frame.octets frame.is_believed) (seams_in frames)
 
 -- whether blocks are missing by a cause
 abbrev pub says_missing : Option SeamCause → Bool
@@ -48,14 +48,14 @@ says_disbelieved cause = false
 -- at how many blocks are missing, how many blocks these are, and how many places there are of each other cause.
 pub record CountsStretches (frames : List LogFrame) : Type 0 where
   pub transitions : (stretches_kept_below frames).transitions ≡ sum_by (λ (stretch : Stretch). length stretch.entries) (stretches_of frames) % 2 ^ 64
-  pub lost : (stretches_kept_below frames).lost ≡ count_by (λ (place : Seam). place.is_lost) (places_in frames) % 2 ^ 64
-  pub missing : (stretches_kept_below frames).missing ≡ count_by (λ (place : Seam). says_missing place.cause) (places_in frames) % 2 ^ 64
+  pub lost : (stretches_kept_below frames).lost ≡ count_by (λ (place : Seam). place.is_lost) (seams_in frames) % 2 ^ 64
+  pub missing : (stretches_kept_below frames).missing ≡ count_by (λ (place : Seam). says_missing place.cause) (seams_in frames) % 2 ^ 64
   pub missing_blocks :
-      (stretches_kept_below frames).missing_blocks ≡ sum_by (λ (place : Seam). blocks_missing_by place.cause) (places_in frames) % 2 ^ 64
-  pub passed_over : (stretches_kept_below frames).passed_over ≡ count_by (λ (place : Seam). says_passed_over place.cause) (places_in frames) % 2 ^ 64
-  pub unknown : (stretches_kept_below frames).unknown ≡ count_by (λ (place : Seam). says_unknown place.cause) (places_in frames) % 2 ^ 64
-  pub restarts : (stretches_kept_below frames).restarts ≡ count_by (λ (place : Seam). says_restart place.cause) (places_in frames) % 2 ^ 64
-  pub disbelieved : (stretches_kept_below frames).disbelieved ≡ count_by (λ (place : Seam). says_disbelieved place.cause) (places_in frames) % 2 ^ 64
+      (stretches_kept_below frames).missing_blocks ≡ sum_by (λ (place : Seam). blocks_missing_by place.cause) (seams_in frames) % 2 ^ 64
+  pub passed_over : (stretches_kept_below frames).passed_over ≡ count_by (λ (place : Seam). says_passed_over place.cause) (seams_in frames) % 2 ^ 64
+  pub unknown : (stretches_kept_below frames).unknown ≡ count_by (λ (place : Seam). says_unknown place.cause) (seams_in frames) % 2 ^ 64
+  pub restarts : (stretches_kept_below frames).restarts ≡ count_by (λ (place : Seam). says_restart place.cause) (seams_in frames) % 2 ^ 64
+  pub disbelieved : (stretches_kept_below frames).disbelieved ≡ count_by (λ (place : Seam). says_disbelieved place.cause) (seams_in frames) % 2 ^ 64
 
 -- each frame has octets
 abbrev pub HaveOctets : List LogFrame → Type 0
