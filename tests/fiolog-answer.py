@@ -1,14 +1,15 @@
 #!/usr/bin/env -S python3 -B
 """The answer of `fiolog check` and `live`: whether transitions are lost, where and why. Logs of which it is known how they were made,
-also random ones of a model of a module written from docs/PROTOCOL.md; the sentence of each, its numbers and its status follow from
-that. Last line: `N passed, M failed`."""
+also random ones of a model of a link written from docs/PROTOCOL.md, at the CPU, the module and the bus; the sentence of each, its numbers
+and its status follow from that. Last line: `N passed, M failed`."""
 
 import csv
 import io
 import os
 import tempfile
 
-from support.answered import PER_BLOCK, WAITING, Made
+from support.answer_words import STYLES, Due, Written
+from support.answered import Made
 from support.check import Check
 from support.fiolog import fiolog, use_library, written
 from support.kinds import KINDS, LIKE, LITTLE, LOST as LOSS
@@ -88,6 +89,8 @@ CASES = {
                                          'Nothing else is lost in what this log has, 50.0 % of the time; at 1 place at least 1 block is not in it.', LOSS),
     'a poll that the module never got': (link(*BLOCKS[:2], block(8, 4000, (4, 1, 3500), status=GAP)), ('--except', 'advance'),
                                          'Nothing is lost: 4 transitions from 07:00:00 to 07:00:02, each once.', GOOD),
+    'such a poll, and it is in the log': (link(*BLOCKS[:2]) + log((1500, poll(7)), (2000, poll(8)), (2010, block(8, 4000, (4, 1, 3500), status=GAP))), ('--except', 'advance'),
+                                          'Nothing is lost: 4 transitions from 07:00:00 to 07:00:02, each once. 1 poll had no answer.', GOOD),
     'more such polls': (link(*BLOCKS, block(12, 5000, status=GAP)), ('--except', 'advance'), GAPS % ('75.0', '1 place the log does not say it'), GOOD),
     'a load of the counter': (link(*BLOCKS) + log((3500, '3200000000'), (3510, 'b200'), (4000, poll(9)), (4010, block(9, 500)), (5000, poll(10)), (5010, block(10, 1500))), (),
                               GAPS % ('80.0', '1 place the log does not say it'), GOOD),
@@ -117,9 +120,11 @@ def check_cases(check):
 
 # What is known of the second case with F and a block that is not in it: 2 + 1 + 255 entries in 3 blocks.
 NUMBERS = {'recorded': 258, 'blocks': 3, 'lost_places': 1, 'missing_places': 1, 'missing_blocks': 1, 'passed_over': 0, 'unknown': 0, 'restarts': 0, 'disbelieved': 0,
-           'whole_share': 0.5, 'longest_pause_s': 1.0,
+           'whole_share': 0.5, 'longest_pause_s': 1.0, 'first': 7 * 3600 + 0.01, 'last': 7 * 3600 + 2.01, 'span_s': 2.0,
            'places': [{'line': 6, 'time': 7 * 3600 + 2.01, 'kind': 'missing', 'number': 8, 'lost': True, 'missing_blocks': 1}]}
-COLUMNS = 'recorded', 'lost_places', 'missing_blocks', 'passed_over', 'restarts', 'whole_share'
+COLUMNS = 'recorded', 'lost_places', 'missing_blocks', 'passed_over', 'restarts', 'whole_share', 'span_s'
+# What the sum of several logs does not have.
+OF_ONE = 'first', 'last', 'span_s', 'places'
 
 
 def check_numbers(check, folder):
@@ -132,10 +137,10 @@ def check_numbers(check, folder):
     *rows, last = fiolog('check', '--json', *words, *paths).objects()
     check.equal('objects of several', [('lost', found), ('whole', 4)], [(os.path.basename(rows[0]['file']), rows[0]['answer']),
                                                                       (os.path.basename(rows[1]['file']), rows[1]['answer']['recorded'])])
-    total = {name: 262 if name == 'recorded' else 7 if name == 'blocks' else NUMBERS[name] for name in NUMBERS if name != 'places'}
+    total = {name: 262 if name == 'recorded' else 7 if name == 'blocks' else NUMBERS[name] for name in NUMBERS if name not in OF_ONE}
     check.equal('and their sum', {**total, 'whole_share': 0.8}, last['summary']['answer'])
     table = list(csv.DictReader(io.StringIO(fiolog('check', '--csv', *words, *paths).out)))
-    check.equal('--csv', [['258', '1', '1', '0', '0', '0.5'], ['4', '0', '0', '0', '0', '1.0']], [[row[name] for name in COLUMNS] for row in table])
+    check.equal('--csv', [['258', '1', '1', '0', '0', '0.5', '2.0'], ['4', '0', '0', '0', '0', '1.0', '3.0']], [[row[name] for name in COLUMNS] for row in table])
     both = fiolog('check', '--csv', *LIKE, written(folder, 'both', CASES['two links'][0])).out
     check.equal('--csv of two links', [[''] * len(COLUMNS)], [[row[name] for name in COLUMNS] for row in csv.DictReader(io.StringIO(both))])
     done = fiolog('check', *words, *paths)
@@ -161,6 +166,11 @@ def check_order(check, folder):
         check.equal('%s keeps its status' % command, GOOD, fiolog(command, *words, text=text).status)
 
 
+def seconds(first, last):
+    """Two times of a log in seconds from 07:00 on, and how far they are apart."""
+    return 7 * 3600.0 + first, 7 * 3600.0 + last, float(last - first)
+
+
 def check_stations(check, folder):
     """Each station has its line; places name it."""
     parts = rounds(8, FIRST, SECOND)
@@ -171,6 +181,14 @@ def check_stations(check, folder):
     found = fiolog('check', '--json', '--except', 'advance', text=''.join(parts)).summary()['answer']
     check.equal('stations in one object', ('\n'.join(done.out.splitlines()[:2]), 15, [(22, '15', 5)]),
                 (found['says'], found['blocks'], [(place['line'], place['station'], place['number']) for place in found['places']]))
+    # A line each second: blocks of the first station are in the lines 2 to 28, those of the second one in 4 to 30.
+    text = ''.join(clock(1000 * place) + ' ' + line for place, line in enumerate(''.join(parts).splitlines(True)))
+    found = fiolog('check', '--json', '--except', 'advance', text=text).summary()['answer']
+    check.equal('the numbers of each station', {'14': (8, 0, 1.0, *seconds(1, 27)), '15': (7, 1, 0.769, *seconds(3, 29))},
+                {address: tuple(map(row.get, ('blocks', 'missing_blocks', 'whole_share', 'first', 'last', 'span_s'))) for address, row in found['stations'].items()})
+    check.equal('the times of all', seconds(1, 29), tuple(map(found.get, ('first', 'last', 'span_s'))))
+    check.equal('no time is known', {None}, {row[name] for row in [fiolog('check', '--json', text=''.join(parts)).summary()['answer']]
+                                             for row in [row, *row['stations'].values()] for name in ('first', 'last', 'span_s')})
 
 
 def check_times(check, folder):
@@ -184,55 +202,17 @@ def check_times(check, folder):
     check.equal('merged files', CASES['F'][2].replace('in line 8', 'in %s line 4' % paths[1]), said)
 
 
-# By the formulas of docs/PLANNING.md: 2 entries a block and 8 that wait, for 4 inputs with a filter of 20.
-PLAN = 'For 4 inputs with filter 20 a poll each 10 ms is often enough, and an outage of 40 ms loses nothing (plan).'
-
-
-def sentence_of(made):
-    """What is to be said of a log, by how it was made."""
-    def some(count, noun, more=('', '')):
-        return '%s %s%s%s' % ('{:,}'.format(count), noun, 's' * (count != 1), more[count != 1])
-    places, said, span = made.places, [], 'from %s to %s' % tuple(clock(made.times[place])[:8] for place in (0, -1))
-    share = '%.1f' % (1000 * made.whole // made.all / 10)
-    if places['lost']:
-        line, time, pause = made.first_lost
-        where = 'in line %d, %s: the module\'s buffer overflowed%s.' % (line, clock(time)[:8], ', %.1f s after the poll before' % (pause / 1000) if pause else '')
-        said += ['Transitions are lost at %s at least; %s' % (some(places['lost'], 'place'), ('first ' if places['lost'] > 1 else '') + where),
-                 PLAN if made.has_commands else '']
-    if any(places[name] for name in ('missing', 'unknown', 'restarts')):
-        gap = '; at %s at least %s not in it' % (some(places['missing'], 'place'), some(places['blocks'], 'block', (' is', ' are'))) if places['missing'] else \
-            '; at %s the log does not say it' % some(places['unknown'], 'place') if places['unknown'] else ''
-        said += ['Nothing %sis lost in what this log has, %s %% of the time%s.' % ('else ' * bool(places['lost']), share, gap)]
-    elif not places['lost']:
-        what = {0: 'no transition %s', 1: '1 transition %s, once'}.get(made.recorded, '{:,} transitions %s, each once'.format(made.recorded)) % span
-        said += ['Nothing is lost: %s.' % what]
-        said += ['%s lost, and asked for again.' % some(made.unanswered, 'answer', (' was', ' were'))] * (made.unanswered > 0)
-    if places['restarts']:
-        said.append('The module was restarted %s; what waited in it then is not recorded.' % ('once' if places['restarts'] == 1 else '%d times' % places['restarts']))
-    return ' '.join(filter(None, said))
-
-
-# The seeds of logs in which the judge accuses the right module, so that a block is not believed: it restarted twice, and of its first
-# restart, between a repeated block and a configuration, the judge says nothing. Whoever mends that takes the seed out.
-ACCUSED = {463}
-
-
 def check_made(check, count):
-    """Of random logs what is said, and the status; of some of which the commands are not in the log."""
+    """Of random logs in ten styles of lines what is said, the numbers, and the status."""
     for seed in range(count):
-        made = Made(seed)
-        done = fiolog('check', '--limits', str(PER_BLOCK), str(WAITING), '--except', 'advance',
-                      text=''.join('%s %s %s\n' % (clock(time), side, digits) for time, side, digits in made.lines))
-        is_lost, is_little = made.places['lost'] + made.places['restarts'] > 0, 2 * made.whole < made.all or not made.has_commands
-        due, found = (sentence_of(made), LOSS if is_lost else LITTLE if is_little else GOOD), (done.out.splitlines()[0], done.status)
-        if seed in ACCUSED:
-            check.holds('seed %d is still accused' % seed, due != found and found[1] == BREACH, found)
-        else:
-            check.equal('seed %d' % seed, due, found)
+        log = Written(Made(seed), list(STYLES)[seed % len(STYLES)])
+        done = fiolog('check', '--json', *log.words, text=log.text)
+        found = done.summary()['answer']
+        check.equal('seed %d' % seed, log.due, Due(found['says'], {name: found[name] for name in log.due.numbers}, done.status))
 
 
 def main():
-    check = Check(logs=(60, 300, 1000))
+    check = Check(logs=(30, 300, 1000))
     use_library(check, 'the answer')
     check_cases(check)
     check_made(check, check.given.logs)

@@ -66,6 +66,8 @@ LOGS = [
     ('a restart', log(FIRST, SECOND, block(7, 10)), 'restarted', 'Nothing is lost in what this log has, 50.0 % of the time. ' + RESTARTED, 'warn', 'Line 6: the module restarted'),
     ('a breach', log(FIRST, SECOND, block(7, 3000, '830bb8')), 'broken',
      'Nothing is lost in what this log has, 50.0 % of the time. At 1 place entries are not to be believed (below).', 'bad', 'Module: line 6 breaks the rule alternate'),
+    ('a poll that is passed over', log(FIRST, SECOND, '> 3607', block(8, 7000, status=1)), 'broken',
+     'Nothing is lost: 3 transitions from 07:00:01 to 07:00:06, each once. 1 poll had no answer.', 'bad', 'CPU: line 6 breaks the rule advance'),
     ('one block', log(FIRST), 'few', 'Too few blocks to say.', 'line', 'No rule is broken in 2 messages.'),
     ('two links', ''.join([polls(99), *KINDS['two links'][0], polls(99), blocks(98)]), 'unjudged', 'This log is not of one link in order, so nothing is said.', 'warn', 'This log looks like'),
 ]

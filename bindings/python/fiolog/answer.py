@@ -18,7 +18,7 @@ NUMBERS = ('blocks', 'transitions', 'lost', 'missing', 'missing_blocks', 'passed
 # The places that end a stretch, by why; those with F are lost, too.
 SEAMS = 'missing', 'passed_over', 'unknown', 'restarts', 'disbelieved'
 # What a row of a table says of it.
-COLUMNS = 'recorded', 'lost_places', 'missing_blocks', 'passed_over', 'restarts', 'whole_share'
+COLUMNS = 'recorded', 'lost_places', 'missing_blocks', 'passed_over', 'restarts', 'whole_share', 'span_s'
 # The most places that are kept; their numbers count all.
 MOST_PLACES = 1000
 # So many thousandths of the time of a log are in stretches, else little is said of it.
@@ -36,11 +36,16 @@ def duration(micro):
     return '%.1f s' % (micro / SECOND) if micro >= SECOND else '%d ms' % (micro // MILLI)
 
 
-def clock(batch, frame):
-    """The time of a frame in whole seconds, or since a start with its unit; empty if it has none."""
+def time_of(batch, frame):
+    """The time of a frame in microseconds, with what it counts from; None if it has none."""
     line = batch.said.told(batch.line_of(frame))
-    words = '' if seconds_of(line.time) is None else clock_of(line.time, line.time_kind)
-    return words + ' s' if words and line.time_kind == SINCE_START else words.partition('.')[0]
+    return None if seconds_of(line.time) is None else (line.time, line.time_kind)
+
+
+def clock(time):
+    """A time in whole seconds, or since a start with its unit; empty if there is none."""
+    words = clock_of(*time) if time else ''
+    return words + ' s' if words and time[1] == SINCE_START else words.partition('.')[0]
 
 
 class Answer:
@@ -49,7 +54,7 @@ class Answer:
     def __init__(self, limits=()):
         self.limits, self.numbers, self.longest_pause = limits, Counter(), 0
         self.places, self.first_lost = [], None     # the first places; the first lost one, its time, and how long no poll came
-        self.first = self.last = ''     # the times of the first and of the last block
+        self.ends = ()      # the times of the first and of the last block, if there is one
         self.filters = {}       # of each input that is not ignored the shorter filter, as far as configurations say
         # Whether the log is of one link in order, breaches are said below, and blocks without entries are left out.
         self.is_fit, self.says_below, self.leaves_out = True, False, False
@@ -66,7 +71,7 @@ class Answer:
         self.numbers, self.longest_pause = Counter({name: getattr(stretches, name) for name in NUMBERS}), stretches.longest_pause
         types = batch.said.types()
         if BLOCK in types:
-            self.first, self.last = self.first or clock(batch, types.find(BLOCK)), clock(batch, types.rfind(BLOCK))
+            self.ends = *(self.ends[:1] or [time_of(batch, types.find(BLOCK))]), time_of(batch, types.rfind(BLOCK))
         for at in [at for at, code in enumerate(types) if code == TYPE_CONFIGURE_INPUTS] if TYPE_CONFIGURE_INPUTS in types else ():
             self._configure(batch.octets[at])
         for seam in seams:
@@ -93,7 +98,7 @@ class Answer:
             return
         event = batch.event(seam.frame)
         if is_first:
-            words = event.head + event.where, clock(batch, seam.frame)
+            words = event.head + event.where, clock(time_of(batch, seam.frame))
             self.first_lost = ', '.join(filter(None, words)), seam.pause
         if len(self.places) < MOST_PLACES:
             file = {'file': shown(event.file)} if event.file else {}
@@ -126,24 +131,24 @@ class Answer:
         is_whole = not any(numbers[name] for name in SEAMS)
         return 'lost' if numbers['lost'] else 'restarted' if numbers['restarts'] else '' if numbers['blocks'] < 2 else 'whole' if is_whole else 'not whole'
 
-    def sentences(self, unanswered):
-        """What is said of it, in order; `unanswered` polls are those whose answers were lost."""
+    def sentences(self, unanswered, repeats):
+        """What is said of it, in order; `unanswered` polls have no answer, and `repeats` are polls that ask again."""
         numbers = self.numbers
         if not self.is_fit:
             return [ANSWER['unfit']]
         if numbers['blocks'] < 2 and not numbers['lost']:
             return [ANSWER['few']]
         has_ends = any(numbers[name] for name in SEAMS)
-        said = self._lost() if numbers['lost'] else () if has_ends else self._whole(unanswered)
+        said = self._lost() if numbers['lost'] else () if has_ends else self._whole(unanswered, repeats)
         return [*said, *(self._rest() if has_ends else ())]
 
-    def _whole(self, unanswered):
+    def _whole(self, unanswered, repeats):
         """What is said of a log that is one stretch."""
-        count, span = self.numbers['transitions'], ANSWER['span'] if self.first and self.last else ''
-        yield ANSWER['whole' if count > 1 else 'whole_one' if count else 'whole_none'].format(
-            transitions=counted('transitions', count), span=span.format(first=self.first, last=self.last))
+        count, (first, last) = self.numbers['transitions'], map(clock, self.ends)
+        span = ANSWER['span'].format(first=first, last=last) if first and last else ''
+        yield ANSWER['whole' if count > 1 else 'whole_one' if count else 'whole_none'].format(transitions=counted('transitions', count), span=span)
         if unanswered:
-            yield ANSWER['again'].format(answers=counted('answers', unanswered))
+            yield ANSWER['again' if unanswered <= repeats else 'silent'].format(answers=counted('answers', unanswered), polls=counted('polls', unanswered))
 
     def _lost(self):
         """What is said where transitions are lost; and how often to poll, if configurations say which inputs are open."""
@@ -169,7 +174,7 @@ class Answer:
             yield ANSWER['disbelieved'].format(places=counted('places', numbers['disbelieved']), below=ANSWER['below'] * self.says_below)
 
     def object(self):
-        """Its numbers with --json, of which COLUMNS are those of a table; none if nothing is said."""
+        """Its numbers with --json; none if nothing is said."""
         numbers, pause, permille = self.numbers, self.longest_pause, self.permille
         return {'recorded': numbers['transitions'], 'blocks': numbers['blocks'], 'lost_places': numbers['lost'], 'missing_places': numbers['missing'],
                 **{name: numbers[name] for name in ('missing_blocks', 'passed_over', 'unknown', 'restarts', 'disbelieved')},
@@ -177,20 +182,30 @@ class Answer:
 
 
 class Said(NamedTuple):
-    """An answer, with the address of its station, empty if there is one link, and how many polls have no answer there."""
+    """An answer, with the address of its station, empty if there is one link, how many polls have no answer there, and how many ask again."""
     address: str
     answer: Answer
     unanswered: int
+    repeats: int
 
     @property
     def line(self):
         """What is said of it."""
-        return 'address %s: ' % self.address * bool(self.address) + ' '.join(self.answer.sentences(self.unanswered))
+        return 'address %s: ' % self.address * bool(self.address) + ' '.join(self.answer.sentences(self.unanswered, self.repeats))
+
+
+def numbers_of(answers):
+    """The numbers of these answers, which are of one log, with the times of the first and the last block, and the seconds between these; None
+    of what is not known, and no number if nothing is said."""
+    numbers = sum(answers, Answer()).object() if len(answers) > 1 else answers[0].object()
+    firsts, lasts = zip(*(one.ends or (None, None) for one in answers))
+    first, last = min(filter(None, firsts), default=None), max(filter(None, lasts), default=None)
+    span = (last[0] - first[0]) / SECOND if first and last and first[1] == last[1] and first <= last else None
+    return {**numbers, 'first': first and seconds_of(first[0]), 'last': last and seconds_of(last[0]), 'span_s': span} if numbers else {}
 
 
 def answer_of(said):
-    """What --json has of these answers, those of one log."""
-    answers = [one.answer for one in said]
-    numbers = sum(answers, Answer()).object() if len(answers) > 1 else answers[0].object()
+    """What --json has of these answers, those of one log, of which COLUMNS are those of a table."""
     places = [{**place, **({'station': one.address} if one.address else {})} for one in said for place in one.answer.places]
-    return {'says': '\n'.join(one.line for one in said), **numbers, 'places': places}
+    stations = {one.address: numbers_of([one.answer]) for one in said if one.address}
+    return {'says': '\n'.join(one.line for one in said), **numbers_of([one.answer for one in said]), **({'stations': stations} if stations else {}), 'places': places}

@@ -92,6 +92,7 @@ ANSWER = {
     'whole_none': 'Nothing is lost: no transition{span}.',
     'span': ' from {first} to {last}',
     'again': '{answers} lost, and asked for again.',
+    'silent': '{polls} no answer.',
     'lost': "Transitions are lost at {places} at least; first in {place}: the module's buffer overflowed{pause}.",
     'lost_one': "Transitions are lost at 1 place at least; in {place}: the module's buffer overflowed{pause}.",
     'pause': ', {pause} after the poll before',
@@ -109,6 +110,7 @@ ANSWER = {
 COUNTED = {
     'transitions': ('1 transition', '{count} transitions'),
     'answers': ('1 answer was', '{count} answers were'),
+    'polls': ('1 poll had', '{count} polls had'),
     'places': ('1 place', '{count} places'),
     'blocks': ('1 block is', '{count} blocks are'),
     'times': ('once', '{count} times'),

@@ -122,7 +122,7 @@ class Stations:
     def answers(self, counts):
         """What is said of the transitions of each station, or of one link."""
         parts = [(address.hex().upper(), self.parts[address], self.counts[address]) for address in sorted(self.parts)]
-        return [Said(address, part.answer, of_it.unanswered) for address, part, of_it in parts or [('', self.alone, counts)]]
+        return [Said(address, part.answer, of_it.unanswered, of_it.repeats) for address, part, of_it in parts or [('', self.alone, counts)]]
 
     def rows(self):
         """Of each station what is said of it in short, by its address."""

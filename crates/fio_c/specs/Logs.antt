@@ -1,12 +1,15 @@
 -- What the reader of logs says of lines, as C sees it.
-use Rattle.std.specs.Prelude.{◌≡◌, ℕ, ◌+◌, ◌≤◌, ◌<◌, ◌-◌, ◌^◌, ◌==◌, ◌&&◌, Bool, true, false, nat_le, nat_lt, if◌then◌else◌, List, [], ◌∷◌, length, map, take, Option, Some, None, min}
+use Rattle.std.specs.Prelude.{◌≡◌, ℕ, ◌+◌, ◌≤◌, ◌<◌, ◌-◌, ◌^◌, ◌==◌, ◌&&◌, Bool, true, false, nat_le, nat_lt, if◌then◌else◌, List, [], ◌∷◌, ◌++◌, drop, length, map, replicate, take, Option, Some, None, min}
 use Rattle.std.specs.List.{All, concat, flat_map}
+use Rattle.fio_message.specs.Bits.{bit_of}
 use Rattle.fio_log.specs.Blanks.{Texts}
 use Rattle.fio_log.specs.Lines.{Text, finished, lines_after, no_line, only}
 use Rattle.fio_log.specs.OwnVerdicts.{own_form_of}
 use Rattle.fio_log.specs.declared.own_texts.OwnForm.{OwnForm}
 use Rattle.fio_log.specs.Telling.{HasReadAsBefore, IsTextOf, KeepsVerdict, Telling, has_told_all, read_at_end}
 use Rattle.fio_log.specs.declared.clock.Moment.{Moment}
+use Rattle.fio_log.specs.declared.counts.ReadAs.{ReadAs}
+use Rattle.fio_log.specs.declared.counts.TheConstants.{SAMPLE_CHARACTERS}
 use Rattle.fio_log.specs.declared.directions.Direction.{Direction}
 use Rattle.fio_log.specs.declared.directions.Direction.TheVariants as directions
 use Rattle.fio_log.specs.declared.parts.TimeKind.{TimeKind}
@@ -20,6 +23,7 @@ use Rattle.fio_log.specs.declared.verdict.Reason.{Reason}
 use Rattle.fio_log.specs.declared.verdict.Reason.TheVariants as reasons
 use Rattle.fio_log.specs.declared.verdict.LineVerdict.{LineVerdict}
 use Rattle.fio_c.specs.Told.{AreLinesAfter, HasReadOf, IsVerdictOf, ReturnsAll, Told}
+use Rattle.fio_c.specs.declared.log_forms.LogReadAs.{LogReadAs}
 use Rattle.fio_c.specs.declared.log_batch.TheConstants.{LOG_OCTETS, LOG_VERDICTS, VERDICT_OCTETS}
 use Rattle.fio_c.specs.declared.log_batch.LogBatch.{LogBatch}
 use Rattle.fio_c.specs.declared.log_batch.FlatLogPlace.{FlatLogPlace}
@@ -162,6 +166,26 @@ pub record HasBegun (form : Form) (telling : Telling) : Type 0 where
   pub told : telling.told ≡ 0
   pub is_ended : telling.is_ended ≡ false
   pub log : (texts : Texts) → HasReadOf texts telling
+
+-- the characters of a front that C sees: the first ones
+abbrev pub front_seen : List ℕ → List ℕ
+front_seen front = take (min (length front) SAMPLE_CHARACTERS) front
+
+-- room that begins with these characters, and has zeros after them
+abbrev pub in_room : List ℕ → List ℕ
+in_room front = front ++ drop (length front) (replicate SAMPLE_CHARACTERS 0)
+
+-- a form as C sees it
+abbrev pub flat_form : ReadAs → LogReadAs
+flat_form read_as = record {
+  from = read_as.from;
+  lines = read_as.lines;
+  damaged = read_as.damaged;
+  is_echo = bit_of read_as.is_echo;
+  front_length = length (front_seen read_as.front.now);
+  reserved = replicate 6 0;
+  front = in_room (front_seen read_as.front.now);
+}
 
 -- A reader has written its forms, at most 16, and stays as it was.
 pub record HasForms (before : Telling) (count : ℕ) (after : Telling) : Type 0 where

@@ -1,11 +1,11 @@
 //! The forms by which a reader of logs reads, as C sees them.
-ghost use Rattle.std.specs.Prelude.{◌≤◌};
+ghost use Rattle.std.specs.Prelude.{◌≡◌, ◌≤◌, length};
 ghost use Rattle.std.specs.Borrow.{full_share, sem};
 ghost use Rattle.std.specs.Ptr.{lies_at};
 ghost use base.Fml.{fex};
 ghost use Rattle.fio_log.specs.Telling.{Telling};
 ghost use Rattle.fio_log.specs.contracts.reader.Reader.{the_row as ReaderRow};
-ghost use Rattle.fio_c.specs.Logs.{HasForms, HasLearnt};
+ghost use Rattle.fio_c.specs.Logs.{HasForms, HasLearnt, flat_form, front_seen, in_room};
 ghost use Rattle.fio_c.specs.declared.log_forms.TheConstants.{FORMS};
 
 use crate::log::LogReader;
@@ -99,18 +99,35 @@ fn forms_of(reader: &Reader, forms: &mut LogFormList)
 }
 
 /// Returns a form as C sees it.
-fn flat_form(read_as: &ReadAs<'_>) -> LogReadAs {
-    let mut form = LogReadAs {
+fn flat_form(read_as: &ReadAs<'_>) -> LogReadAs
+    ensures { result ≡ flat_form read_as.now }
+{
+    let front = front_seen(read_as.front);
+    LogReadAs {
         from: read_as.from,
         lines: read_as.lines,
         damaged: read_as.damaged,
         is_echo: u8::from(read_as.is_echo),
-        front_length: 0,
+        front_length: front.len() as u8,
         reserved: [0; 6],
-        front: [0; SAMPLE_CHARACTERS],
-    };
-    let count = read_as.front.len().min(SAMPLE_CHARACTERS);
-    form.front[..count].copy_from_slice(&read_as.front[..count]);
-    form.front_length = count as u8;
-    form
+        front: in_room(front),
+    }
+}
+
+/// Returns the characters of a front that C sees.
+fn front_seen(front: &[u8]) -> &[u8]
+    ensures seen { result.now ≡ front_seen front.now }
+    ensures few { length result.now ≤ SAMPLE_CHARACTERS }
+{
+    &front[..front.len().min(SAMPLE_CHARACTERS)]
+}
+
+/// Returns room that begins with these characters, and has zeros after them.
+fn in_room(front: &[u8]) -> [u8; SAMPLE_CHARACTERS]
+    requires { length front.now ≤ SAMPLE_CHARACTERS }
+    ensures { result ≡ in_room front.now }
+{
+    let mut room = [0; SAMPLE_CHARACTERS];
+    room[..front.len()].copy_from_slice(front);
+    room
 }

@@ -128,3 +128,4 @@ pub mod StretchPolls
 pub mod QuietSteps
 pub mod PolledSteps
 pub mod StretchLogs
+mod StretchNumbers

@@ -21,3 +21,4 @@ pub mod EventLogs
 pub mod LateLogs
 pub mod TapLogs
 pub mod StretchLogs
+pub mod StretchNumbers

@@ -15,6 +15,7 @@ ghost use Rattle.fio_ends.specs.PromptRuns.{FromCommand, HasNoBreach, HasNoBreac
 ghost use Rattle.fio_ends.specs.RestartedLogs.{JudgeFindsRestarts, JudgeFindsRestartsAnywhere, RestartsAreFound};
 ghost use Rattle.fio_ends.specs.RunRecords.{KeepsRecord};
 ghost use Rattle.fio_ends.specs.StretchLogs.{OneStretchGoesOn, StretchesArePieces};
+ghost use Rattle.fio_ends.specs.StretchNumbers.{NumbersCountStretches};
 ghost use Rattle.fio_ends.specs.TapLogs.{TapsBreakNoRule, TapsExcusePolls};
 ghost use Rattle.fio_ends.specs.SharedLines.{AtDecoders, AtModules, EachFrameMayComeToAll, HeadlineOverSharedLines, SharedLinesAreABus, SharedLinesBringRecords};
 
@@ -340,4 +341,12 @@ pub fn stretches_are_pieces()
 #[tactic(auto, using(crate::proofs::StretchLogs::one_stretch_goes_on))]
 pub fn one_stretch_goes_on()
     ensures { OneStretchGoesOn }
+{}
+
+/// The numbers that are kept of a log count its stretches and the places between them, modulo 2^64: the entries of all stretches, the places
+/// where transitions are lost, those where blocks are missing and how many blocks these are, and the places of each other cause. The log
+/// may be of any module.
+#[tactic(auto, using(crate::proofs::StretchNumbers::numbers_count_stretches))]
+pub fn numbers_count_stretches()
+    ensures { NumbersCountStretches }
 {}

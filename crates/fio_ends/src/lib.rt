@@ -20,7 +20,7 @@
 //! answers out, it finds no breach of a rule of transcripts where frames are lost, repeated at once and delayed
 //! (`late_answers_break_no_rule`), nor at a tap on the line (`taps_break_no_rule`). Of a right module's log, whichever frames are missing,
 //! the stretches are pieces of the module's transition list, and rise (`stretches_are_pieces`), and where nothing is missing it is one
-//! (`one_stretch_goes_on`). The transcript's record is the run's (`prompt_runs_are_recorded`). A good transcript's poller has
+//! (`one_stretch_goes_on`); the numbers that are kept of a log count them (`numbers_count_stretches`). The transcript's record is the run's (`prompt_runs_are_recorded`). A good transcript's poller has
 //! the number of each poll, and takes each block answer (`good_transcripts_are_of_pollers`). Calls of both ends in C are a run
 //! (`calls_are_runs`), and so are both ends over two lines of octets (`lines_are_runs`), and each station of a bus
 //! (`stations_are_runs`). `docs/PROMISES.md` says what is assumed.

@@ -3,7 +3,7 @@
 import { dateOf } from './clocks.js';
 import { LOG_TIMES } from './constants.js';
 import { withCommas } from './dom.js';
-import { BLOCK, CONFIGURE_INPUTS } from './library.js';
+import { BLOCK, CONFIGURE_INPUTS, POLL } from './library.js';
 import { ANSWER, COUNTED, SEAMS } from './log_words.js';
 import { rowOf } from './planning.js';
 
@@ -31,7 +31,13 @@ export function answerOf(log) {
 function wholeOf(log) {
   const { counted: { transitions }, codes, summary: { unanswered } } = log, [first, last] = [codes.indexOf(BLOCK), codes.lastIndexOf(BLOCK)].map((place) => secondsOf(log, place));
   return [filled(ANSWER[['whole_none', 'whole_one'][transitions] || 'whole'], { transitions, span: first && last && filled(ANSWER.span, { first, last }) }),
-    unanswered > 0 && filled(ANSWER.again, { answers: unanswered })];
+    unanswered > 0 && filled(unanswered <= repeatsIn(log) ? ANSWER.again : ANSWER.silent, { answers: unanswered, polls: unanswered })];
+}
+
+// How many polls have the number of the poll before.
+function repeatsIn({ codes, blocks }) {
+  const numbers = blocks.filter((_, place) => codes[place] === POLL);
+  return numbers.filter((number, place) => number === numbers[place - 1]).length;
 }
 
 // Where transitions are lost first, and what would be often enough.
