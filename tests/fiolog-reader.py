@@ -4,6 +4,7 @@ frames of the protocol's tables and with random ones; logs of strangers; who sen
 other text; and a reader that has read other logs says the same. Last line: `N passed, M failed`."""
 
 import base64
+import json
 import random
 
 from support.check import Check
@@ -248,6 +249,16 @@ def check_dumped(check):
     check.holds('a row of which the offset is cut off', one.kind == 'damaged' or one.reason == 'broken', (one.kind, one.reason))
 
 
+def check_literals(check):
+    """Octets of a literal are its own: A0, a blank that does not break, is read as in hexadecimal digits."""
+    blocks = [('<', bytes([182, number, 2, 0x9f, 1, 0xa0, 0xa0, 2, number, 0, 0, 0, 3, 0xa0])) for number in range(12)]
+    for name, quoted in (('JSON', lambda octets: json.dumps(octets.decode('latin-1'), ensure_ascii=False)),
+                         ('u-escapes', lambda octets: '"%s"' % ''.join('\\u%04x' % octet for octet in octets))):
+        log = [one for pair in zip(POLLS[::2], blocks) for one in pair]
+        read = Read(''.join('%s %s\n' % (WORDS[side], quoted(octets)) for side, octets in log))
+        check.equal('octets of a literal: %s' % name, [octets for _, octets in log], read.octets)
+
+
 def check_own_rows(check):
     """A row that may be a message by itself ends the message above it, if that says its length; below rows that are lost it is read."""
     blocks = [bytes([182, number, 7]) + b''.join(bytes([place, *stamp.to_bytes(2, 'big')]) for place in range(7)) + bytes([0, 0, 0, 0xb5, 0])
@@ -395,7 +406,7 @@ def check_again(check):
 def main():
     check = Check(logs=(26, 52, 128))
     use_library(check, 'all of fiolog')
-    for part in (check_forms, check_sides, check_streams, check_headings, check_above, check_dumped, check_own_rows, check_unread, check_broken, check_reasons, check_strangers, check_other_text, check_again):
+    for part in (check_forms, check_sides, check_streams, check_headings, check_above, check_dumped, check_literals, check_own_rows, check_unread, check_broken, check_reasons, check_strangers, check_other_text, check_again):
         part(check)
     seeds = 2 if check.whole('damage, seed 1') else 1
     for place, name in enumerate(LOGGERS):
