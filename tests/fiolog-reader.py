@@ -259,6 +259,19 @@ def check_literals(check):
         check.equal('octets of a literal: %s' % name, [octets for _, octets in log], read.octets)
 
 
+# Numbers before the octets that could be messages by themselves.
+NUMBERS = {'a process': 'fiod[%s] ', 'a port': ':%s-:2070 ', 'a line of a program': 'link.c:%s: ', 'an address': '0x%s: ', 'a thread': '%s 1234 D '}
+
+
+def check_numbers(check):
+    """A number that is the same in all lines of a direction is no message, and hides none."""
+    for name, form in NUMBERS.items():
+        for numbers in (('3605', '3605'), ('3605', '3612'), ('36051', '36051'), ('3100', '3888')):
+            text = ''.join('07:15:%02d.000 %s%s %s\n' % (place, form % numbers[side == '<'], WORDS[side], octets.hex()) for place, (side, octets) in enumerate(POLLS))
+            for more in '', '07:14:59.000 %s started\n' % (form % numbers[0]):
+                check.equal('%s before octets: %s%s' % (name, ' '.join(numbers), more and ', started'), [octets for _, octets in POLLS], Read(more + text).octets)
+
+
 def check_own_rows(check):
     """A row that may be a message by itself ends the message above it, if that says its length; below rows that are lost it is read."""
     blocks = [bytes([182, number, 7]) + b''.join(bytes([place, *stamp.to_bytes(2, 'big')]) for place in range(7)) + bytes([0, 0, 0, 0xb5, 0])
@@ -406,7 +419,7 @@ def check_again(check):
 def main():
     check = Check(logs=(26, 52, 128))
     use_library(check, 'all of fiolog')
-    for part in (check_forms, check_sides, check_streams, check_headings, check_above, check_dumped, check_literals, check_own_rows, check_unread, check_broken, check_reasons, check_strangers, check_other_text, check_again):
+    for part in (check_forms, check_sides, check_streams, check_headings, check_above, check_dumped, check_literals, check_numbers, check_own_rows, check_unread, check_broken, check_reasons, check_strangers, check_other_text, check_again):
         part(check)
     seeds = 2 if check.whole('damage, seed 1') else 1
     for place, name in enumerate(LOGGERS):
