@@ -4,6 +4,7 @@ frames of the protocol's tables and with random ones; logs of strangers; who sen
 other text; and a reader that has read other logs says the same. Last line: `N passed, M failed`."""
 
 import base64
+import collections
 import json
 import random
 
@@ -259,6 +260,17 @@ def check_literals(check):
         check.equal('octets of a literal: %s' % name, [octets for _, octets in log], read.octets)
 
 
+def check_joined(check):
+    """Two lines that became one, of which the second has an escape that is no octet: it may hold more."""
+    polls = [one for number in range(12) for one in (('>', bytes([54, number])), ('<', bytes([182, number, 1, 1 + 128 * (number % 2), number + 1]) + b'`\0\0\0%ch' % (number + 1)))]
+    lines = ['07:15:00.%03d %s "%s"' % (9 * place, WORDS[side].lower(), ''.join(chr(one) if 32 <= one < 127 else '\\x%02x' % one for one in octets))
+             for place, (side, octets) in enumerate(polls)]
+    for name, lost in ('last', 2), ('first', len(lines[13]) - 17):
+        read = Read('\n'.join(lines[:12] + [lines[12] + lines[13][:-lost] + '\\u0217"'] + lines[14:]) + '\n')
+        check.equal('a line joined with one whose %s octet is none' % name, {('frames', ''): 22, ('frames', 'more'): 1},
+                    dict(collections.Counter((one.kind, one.reason) for one in read.verdicts)))
+
+
 # Numbers before the octets that could be messages by themselves.
 NUMBERS = {'a process': 'fiod[%s] ', 'a port': ':%s-:2070 ', 'a line of a program': 'link.c:%s: ', 'an address': '0x%s: ', 'a thread': '%s 1234 D '}
 
@@ -419,7 +431,7 @@ def check_again(check):
 def main():
     check = Check(logs=(26, 52, 128))
     use_library(check, 'all of fiolog')
-    for part in (check_forms, check_sides, check_streams, check_headings, check_above, check_dumped, check_literals, check_numbers, check_own_rows, check_unread, check_broken, check_reasons, check_strangers, check_other_text, check_again):
+    for part in (check_forms, check_sides, check_streams, check_headings, check_above, check_dumped, check_literals, check_numbers, check_joined, check_own_rows, check_unread, check_broken, check_reasons, check_strangers, check_other_text, check_again):
         part(check)
     seeds = 2 if check.whole('damage, seed 1') else 1
     for place, name in enumerate(LOGGERS):
