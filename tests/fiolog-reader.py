@@ -260,6 +260,25 @@ def check_literals(check):
         check.equal('octets of a literal: %s' % name, [octets for _, octets in log], read.octets)
 
 
+def check_short(check):
+    """A row of a stream that is shorter than the others, and not the last, has lost octets, maybe whole frames; so has a dump that is
+    shorter than what is before each message."""
+    octets = b''.join(line_of(one) for number in range(40) for one in (bytes([54, number]), bytes([182, number]) + bytes(5) + bytes([number])))
+    rows = [octets[place:place + 30].hex() for place in range(0, len(octets), 30)]
+    lost = rows[22][:16]
+    check.equal('a row of a stream that begins with a frame', line_of(bytes([54, 30])).hex(), lost)
+    for name, log, expected in (('no row', rows, []), ('a row', rows[:22] + [rows[22].removeprefix(lost)] + rows[23:], [23])):
+        read = Read('\n'.join(log) + '\n')
+        check.equal('a stream of which %s has lost a frame' % name, expected, [one.line for one in read.verdicts if one.reason])
+        check.holds('a stream of which %s has lost a frame: all others are read' % name, len(read.octets) == 80 - len(expected), len(read.octets))
+    header = bytes(12) + bytes.fromhex('08004500001e508940004011ec437f0000017f0000016c0381ae000afe1d')
+    packets = [header + octets for _, octets in POLLS + [('>', b'4'), ('<', bytes([180]) + bytes(12)), ('>', b'5'), ('<', bytes([181]) + bytes(12))]]
+    for count, expected in (44, []), (42, []), (41, ['broken']), (33, ['broken']), (20, ['broken']):
+        texts = [''.join('%04x  %s\n' % (16 * place, row.hex(' ')) for place, row in enumerate(rows_of(packet[:count] if at == 12 else packet)))
+                 for at, packet in enumerate(packets)]
+        check.equal('a packet of 44 octets of which %d are left' % count, expected, [one.reason for one in Read('\n'.join(texts)).verdicts if one.reason])
+
+
 def check_joined(check):
     """Two lines that became one, of which the second has an escape that is no octet: it may hold more."""
     polls = [one for number in range(12) for one in (('>', bytes([54, number])), ('<', bytes([182, number, 1, 1 + 128 * (number % 2), number + 1]) + b'`\0\0\0%ch' % (number + 1)))]
@@ -431,7 +450,7 @@ def check_again(check):
 def main():
     check = Check(logs=(26, 52, 128))
     use_library(check, 'all of fiolog')
-    for part in (check_forms, check_sides, check_streams, check_headings, check_above, check_dumped, check_literals, check_numbers, check_joined, check_own_rows, check_unread, check_broken, check_reasons, check_strangers, check_other_text, check_again):
+    for part in (check_forms, check_sides, check_streams, check_headings, check_above, check_dumped, check_literals, check_numbers, check_joined, check_short, check_own_rows, check_unread, check_broken, check_reasons, check_strangers, check_other_text, check_again):
         part(check)
     seeds = 2 if check.whole('damage, seed 1') else 1
     for place, name in enumerate(LOGGERS):

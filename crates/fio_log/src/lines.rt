@@ -378,6 +378,8 @@ pub(crate) struct NumberedLine<'a> {
     pub text: &'a [u8],
     /// Whether the line has more characters than are kept.
     pub is_long: bool,
+    /// Whether the log ends with it.
+    pub is_last: bool,
 }
 
 impl NumberedLine<'_> {
