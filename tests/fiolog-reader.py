@@ -279,6 +279,16 @@ def check_short(check):
         check.equal('a packet of 44 octets of which %d are left' % count, expected, [one.reason for one in Read('\n'.join(texts)).verdicts if one.reason])
 
 
+def check_left_over(check):
+    """A last row of one octet, below a row of characters, is no message of a type of any length."""
+    blocks = [('<', bytes([182, number, 3, 1, 1, number, 2, 2, number, 3, 3, number, 0, 0, 0, 4, last])) for number, last in enumerate(b'\xbc\xbb\xb9\xbc')]
+    sent = [one for block in blocks for one in (('>', bytes([54, block[1][1]])), block)] + POLLS
+    text = ''.join('%s:\n' % WORDS[side] + ''.join('%06x%s\n      %s\n' % (16 * place, ''.join('  %02x' % one for one in row), DUMPED['od -c'](row))
+                                                  for place, row in enumerate(rows_of(octets))) + '%06x\n' % len(octets) for side, octets in sent)
+    read = Read(text)
+    check.holds('rows of octets and of characters, no other frame', is_below(read.octets, [octets for _, octets in sent]), [one.hex() for one in read.octets])
+
+
 def check_joined(check):
     """Two lines that became one, of which the second has an escape that is no octet: it may hold more."""
     polls = [one for number in range(12) for one in (('>', bytes([54, number])), ('<', bytes([182, number, 1, 1 + 128 * (number % 2), number + 1]) + b'`\0\0\0%ch' % (number + 1)))]
@@ -450,7 +460,7 @@ def check_again(check):
 def main():
     check = Check(logs=(26, 52, 128))
     use_library(check, 'all of fiolog')
-    for part in (check_forms, check_sides, check_streams, check_headings, check_above, check_dumped, check_literals, check_numbers, check_joined, check_short, check_own_rows, check_unread, check_broken, check_reasons, check_strangers, check_other_text, check_again):
+    for part in (check_forms, check_sides, check_streams, check_headings, check_above, check_dumped, check_literals, check_numbers, check_left_over, check_joined, check_short, check_own_rows, check_unread, check_broken, check_reasons, check_strangers, check_other_text, check_again):
         part(check)
     seeds = 2 if check.whole('damage, seed 1') else 1
     for place, name in enumerate(LOGGERS):
