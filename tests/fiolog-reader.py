@@ -263,14 +263,15 @@ def check_literals(check):
 def check_short(check):
     """A row of a stream that is shorter than the others, and not the last, has lost octets, maybe whole frames; so has a dump that is
     shorter than what is before each message."""
-    octets = b''.join(line_of(one) for number in range(40) for one in (bytes([54, number]), bytes([182, number]) + bytes(5) + bytes([number])))
-    rows = [octets[place:place + 30].hex() for place in range(0, len(octets), 30)]
-    lost = rows[22][:16]
-    check.equal('a row of a stream that begins with a frame', line_of(bytes([54, 30])).hex(), lost)
-    for name, log, expected in (('no row', rows, []), ('a row', rows[:22] + [rows[22].removeprefix(lost)] + rows[23:], [23])):
+    frames = [line_of(one) for number in range(60) for one in (bytes([54, number]), bytes([182, number]) + bytes(5) + bytes([number]))]
+    octets, ends = b''.join(frames), [sum(map(len, frames[:count])) for count in range(len(frames))]
+    rows = [octets[place:place + 32].hex() for place in range(0, len(octets), 32)]
+    row = next(row for row in range(12, len(rows)) if 32 * row in ends[::2])
+    lost = frames[ends.index(32 * row)].hex()
+    for name, log, expected in (('no row', rows, []), ('a row', rows[:row] + [rows[row].removeprefix(lost)] + rows[row + 1:], [row + 1])):
         read = Read('\n'.join(log) + '\n')
         check.equal('a stream of which %s has lost a frame' % name, expected, [one.line for one in read.verdicts if one.reason])
-        check.holds('a stream of which %s has lost a frame: all others are read' % name, len(read.octets) == 80 - len(expected), len(read.octets))
+        check.holds('a stream of which %s has lost a frame: all others are read' % name, len(read.octets) == 120 - len(expected), len(read.octets))
     header = bytes(12) + bytes.fromhex('08004500001e508940004011ec437f0000017f0000016c0381ae000afe1d')
     packets = [header + octets for _, octets in POLLS + [('>', b'4'), ('<', bytes([180]) + bytes(12)), ('>', b'5'), ('<', bytes([181]) + bytes(12))]]
     for count, expected in (44, []), (42, []), (41, ['broken']), (33, ['broken']), (20, ['broken']):

@@ -29,16 +29,16 @@ fn ends_within(form: &LineForm, line: &[u8]) -> bool {
 
 /// Returns a text without the dots at its end, which say that a logger left something out, and the blanks before them.
 fn before_dots(text: &[u8]) -> &[u8] {
-    let is_cut = text.ends_with(b"..") || text.ends_with(&[0xe2, 0x80, 0xa6]);
-    let mut end = text.len();
-    'dots: for place in 0..text.len() {
-        let at = text.len() - 1 - place;
-        if !is_cut || !matches!(text[at], b'.' | b' ' | 0xe2 | 0x80 | 0xa6) {
-            break;
-        }
-        end = at;
+    if !matches!(text, [.., b'.', b'.'] | [.., 0xe2, 0x80, 0xa6]) {
+        return text;
     }
-    &text[..end]
+    'dots: for place in 0..text.len() {
+        let end = text.len() - place;
+        if !matches!(text[end - 1], b'.' | b' ' | 0xe2 | 0x80 | 0xa6) {
+            return &text[..end];
+        }
+    }
+    &[]
 }
 
 /// Returns whether a line ends within the front of a form, and dots follow.

@@ -82,7 +82,7 @@ fn is_long(form: &LineForm) -> bool {
     let mut has_letter = false;
     for piece in form.front() {
         has_letter = has_letter
-            || matches!(piece, Piece::Character(character) if is_letter(*character));
+            || matches!(*piece, Piece::Character(character) if is_letter(character));
     }
     has_letter && form.front().len() >= PIECES && !form.is_anywhere && is_told(form)
 }
