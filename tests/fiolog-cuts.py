@@ -50,6 +50,21 @@ def fault_of_cuts(form, kind, trials):
     return None
 
 
+# What a logger writes behind a line that it cut.
+DOTS = {'nothing': '', 'dots': '...', 'a blank and dots': ' ...', 'two dots': '..', 'dots as one character': '\u2026'}
+
+
+def fault_of_fronts(form, word, dots):
+    """Logs in which the fronts of four commands are cut at one and the same place accuse nobody."""
+    lines = LOGGERS[form](session(60)).removeprefix('\ufeff').split('\n')
+    commands = [place for place, line in enumerate(lines) if word in line][10::12][:4]
+    for end in range(1, lines[commands[0]].index(word) + 1):
+        found = summary([line[:end] + dots if place in commands else line for place, line in enumerate(lines)])
+        if found.breaches:
+            return '%d characters: %r' % (end, found.first_breach)
+    return None
+
+
 def doubled(frames):
     """The frames, in which three blocks with one entry have that of the block with one entry before instead."""
     blocks = [place for place, (_, _, octets) in enumerate(frames) if octets[0] == 182 and octets[2] == 1]
@@ -133,6 +148,9 @@ def main():
         for kind in CUTS:
             check.fault('%s, cut: %s' % (form, kind), fault_of_cuts, form, kind, check.given.trials)
         check.fault('%s, faults that are planted' % form, fault_of_planted, form)
+    for form, word in ('ISO times', 'tx'), ('US times', 'Sent'), ('syslog', 'TX'):
+        for name, dots in DOTS.items():
+            check.fault('%s, four fronts cut at one place, after them %s' % (form, name), fault_of_fronts, form, word, dots)
     check_survivors(check)
     check.end()
 

@@ -4,6 +4,8 @@ frames of the protocol's tables and with random ones; logs of strangers; who sen
 other text; and a reader that has read other logs says the same. Last line: `N passed, M failed`."""
 
 import base64
+import collections
+import json
 import random
 
 from support.check import Check
@@ -248,6 +250,70 @@ def check_dumped(check):
     check.holds('a row of which the offset is cut off', one.kind == 'damaged' or one.reason == 'broken', (one.kind, one.reason))
 
 
+def check_literals(check):
+    """Octets of a literal are its own: A0, a blank that does not break, is read as in hexadecimal digits."""
+    blocks = [('<', bytes([182, number, 2, 0x9f, 1, 0xa0, 0xa0, 2, number, 0, 0, 0, 3, 0xa0])) for number in range(12)]
+    for name, quoted in (('JSON', lambda octets: json.dumps(octets.decode('latin-1'), ensure_ascii=False)),
+                         ('u-escapes', lambda octets: '"%s"' % ''.join('\\u%04x' % octet for octet in octets))):
+        log = [one for pair in zip(POLLS[::2], blocks) for one in pair]
+        read = Read(''.join('%s %s\n' % (WORDS[side], quoted(octets)) for side, octets in log))
+        check.equal('octets of a literal: %s' % name, [octets for _, octets in log], read.octets)
+
+
+def check_short(check):
+    """A row of a stream that is shorter than the others, and not the last, has lost octets, maybe whole frames; so has a dump that is
+    shorter than what is before each message."""
+    frames = [line_of(one) for number in range(60) for one in (bytes([54, number]), bytes([182, number]) + bytes(5) + bytes([number]))]
+    octets, ends = b''.join(frames), [sum(map(len, frames[:count])) for count in range(len(frames))]
+    rows = [octets[place:place + 32].hex() for place in range(0, len(octets), 32)]
+    row = next(row for row in range(12, len(rows)) if 32 * row in ends[::2])
+    lost = frames[ends.index(32 * row)].hex()
+    for name, log, expected in (('no row', rows, []), ('a row', rows[:row] + [rows[row].removeprefix(lost)] + rows[row + 1:], [row + 1])):
+        read = Read('\n'.join(log) + '\n')
+        check.equal('a stream of which %s has lost a frame' % name, expected, [one.line for one in read.verdicts if one.reason])
+        check.holds('a stream of which %s has lost a frame: all others are read' % name, len(read.octets) == 120 - len(expected), len(read.octets))
+    header = bytes(12) + bytes.fromhex('08004500001e508940004011ec437f0000017f0000016c0381ae000afe1d')
+    packets = [header + octets for _, octets in POLLS + [('>', b'4'), ('<', bytes([180]) + bytes(12)), ('>', b'5'), ('<', bytes([181]) + bytes(12))]]
+    for count, expected in (44, []), (42, []), (41, ['broken']), (33, ['broken']), (20, ['broken']):
+        texts = [''.join('%04x  %s\n' % (16 * place, row.hex(' ')) for place, row in enumerate(rows_of(packet[:count] if at == 12 else packet)))
+                 for at, packet in enumerate(packets)]
+        check.equal('a packet of 44 octets of which %d are left' % count, expected, [one.reason for one in Read('\n'.join(texts)).verdicts if one.reason])
+
+
+def check_left_over(check):
+    """A last row of one octet, below a row of characters, is no message of a type of any length."""
+    blocks = [('<', bytes([182, number, 3, 1, 1, number, 2, 2, number, 3, 3, number, 0, 0, 0, 4, last])) for number, last in enumerate(b'\xbc\xbb\xb9\xbc')]
+    sent = [one for block in blocks for one in (('>', bytes([54, block[1][1]])), block)] + POLLS
+    text = ''.join('%s:\n' % WORDS[side] + ''.join('%06x%s\n      %s\n' % (16 * place, ''.join('  %02x' % one for one in row), DUMPED['od -c'](row))
+                                                  for place, row in enumerate(rows_of(octets))) + '%06x\n' % len(octets) for side, octets in sent)
+    read = Read(text)
+    check.holds('rows of octets and of characters, no other frame', is_below(read.octets, [octets for _, octets in sent]), [one.hex() for one in read.octets])
+
+
+def check_joined(check):
+    """Two lines that became one, of which the second has an escape that is no octet: it may hold more."""
+    polls = [one for number in range(12) for one in (('>', bytes([54, number])), ('<', bytes([182, number, 1, 1 + 128 * (number % 2), number + 1]) + b'`\0\0\0%ch' % (number + 1)))]
+    lines = ['07:15:00.%03d %s "%s"' % (9 * place, WORDS[side].lower(), ''.join(chr(one) if 32 <= one < 127 else '\\x%02x' % one for one in octets))
+             for place, (side, octets) in enumerate(polls)]
+    for name, lost in ('last', 2), ('first', len(lines[13]) - 17):
+        read = Read('\n'.join(lines[:12] + [lines[12] + lines[13][:-lost] + '\\u0217"'] + lines[14:]) + '\n')
+        check.equal('a line joined with one whose %s octet is none' % name, {('frames', ''): 22, ('frames', 'more'): 1},
+                    dict(collections.Counter((one.kind, one.reason) for one in read.verdicts)))
+
+
+# Numbers before the octets that could be messages by themselves.
+NUMBERS = {'a process': 'fiod[%s] ', 'a port': ':%s-:2070 ', 'a line of a program': 'link.c:%s: ', 'an address': '0x%s: ', 'a thread': '%s 1234 D '}
+
+
+def check_numbers(check):
+    """A number that is the same in all lines of a direction is no message, and hides none."""
+    for name, form in NUMBERS.items():
+        for numbers in (('3605', '3605'), ('3605', '3612'), ('36051', '36051'), ('3100', '3888')):
+            text = ''.join('07:15:%02d.000 %s%s %s\n' % (place, form % numbers[side == '<'], WORDS[side], octets.hex()) for place, (side, octets) in enumerate(POLLS))
+            for more in '', '07:14:59.000 %s started\n' % (form % numbers[0]):
+                check.equal('%s before octets: %s%s' % (name, ' '.join(numbers), more and ', started'), [octets for _, octets in POLLS], Read(more + text).octets)
+
+
 def check_own_rows(check):
     """A row that may be a message by itself ends the message above it, if that says its length; below rows that are lost it is read."""
     blocks = [bytes([182, number, 7]) + b''.join(bytes([place, *stamp.to_bytes(2, 'big')]) for place in range(7)) + bytes([0, 0, 0, 0xb5, 0])
@@ -395,7 +461,7 @@ def check_again(check):
 def main():
     check = Check(logs=(26, 52, 128))
     use_library(check, 'all of fiolog')
-    for part in (check_forms, check_sides, check_streams, check_headings, check_above, check_dumped, check_own_rows, check_unread, check_broken, check_reasons, check_strangers, check_other_text, check_again):
+    for part in (check_forms, check_sides, check_streams, check_headings, check_above, check_dumped, check_literals, check_numbers, check_left_over, check_joined, check_short, check_own_rows, check_unread, check_broken, check_reasons, check_strangers, check_other_text, check_again):
         part(check)
     seeds = 2 if check.whole('damage, seed 1') else 1
     for place, name in enumerate(LOGGERS):

@@ -107,6 +107,7 @@ READ = [
 
 # What is not read, or not all of it: nothing is read that is not in the log.
 PASSED = [
+    ('decimal numbers that go up', ''.join('i2c w 36 %02d\n' % number for number in range(30)), []),
     ('question and answer on one line', '36 05 -> B3 00\n36 05 -> 34\n', []),
     ('a packet that is cut', '\t0x0000:  4500 0024 0001 4000 4011 3cc6 7f00 0001\n\t0x0010:  7f00 0002 0816 0817 0010 0000 b605\n', []),
     ('what is no octets after a direction', 'TX 36 05\nRX B3 00\nTX retries 36 00\nRX window 36:05\nCPU temperature 36,05\nTX to B3 00\n'

@@ -4,6 +4,7 @@ use crate::cuts::last_said;
 use crate::cycles::cycle_of;
 use crate::fronts::{front_of, shared_front};
 use crate::hashes::{front_hash, hash_of, short};
+use crate::numbers::{is_answered, is_number};
 use crate::window::Window;
 use arrayvec::ArrayVec;
 use fio_form::{Digits, LineForm, LineRows, Octets, Piece, Size, Step, size_of};
@@ -103,6 +104,31 @@ pub fn plain_form(
     cycle: usize,
     is_anywhere: bool,
 ) -> Option<LineForm> {
+    form_with(line, place, digits, cycle, is_anywhere, None)
+}
+
+/// Returns the form of a place of a line of a window, as `plain_form`; a message in the front that the lines around have too is a number.
+pub(crate) fn window_form(
+    lines: &Window,
+    at: usize,
+    place: usize,
+    digits: Digits,
+    cycle: usize,
+    is_anywhere: bool,
+) -> Option<LineForm> {
+    let line = lines.line(at);
+    form_with(line, place, digits, cycle, is_anywhere, Some((lines, at)))
+}
+
+/// Returns the form of a place of a line, which may be one of a window.
+fn form_with(
+    line: &[u8],
+    place: usize,
+    digits: Digits,
+    cycle: usize,
+    is_anywhere: bool,
+    around: Option<(&Window, usize)>,
+) -> Option<LineForm> {
     if place > line.len() {
         return None;
     }
@@ -111,7 +137,13 @@ pub fn plain_form(
     let front = match last_said(&line[..place], digits, &cycle, &mut octets) {
         None => front_of(line, place, digits, is_anywhere)?,
         Some(said) if is_anywhere => shared_front(line, said, place, digits)?,
-        Some(_said) => return None,
+        Some(said) => {
+            let (lines, at) = around?;
+            if !is_number(lines, at, said) || is_answered(&octets, &line[place..], digits, &cycle) {
+                return None;
+            }
+            front_of(line, place, digits, false)?
+        }
     };
     let front = if is_anywhere {
         from_mark(&front)?
@@ -135,9 +167,9 @@ impl Guess {
 
     /// Returns the form; `None` if the window has other lines than those that it was guessed of.
     pub fn form(&self, lines: &Window) -> Option<LineForm> {
-        let line = lines.line(usize::from(self.line));
-        let mut form = plain_form(
-            line,
+        let mut form = window_form(
+            lines,
+            usize::from(self.line),
             usize::from(self.place),
             self.digits,
             usize::from(self.cycle),

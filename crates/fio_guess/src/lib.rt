@@ -17,6 +17,7 @@ mod guess;
 mod guesses;
 mod hashes;
 mod literals;
+mod numbers;
 mod places;
 mod rows;
 pub mod table;

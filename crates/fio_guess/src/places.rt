@@ -3,7 +3,7 @@ ghost use Rattle.std.specs.Prelude.{◌≡◌, ◌≤◌, ◌<◌, length};
 
 use crate::cuts::{FLAG, add_cuts};
 use crate::cycles::cycle_of;
-use crate::guess::{GuessPlace, is_type, is_words, plain_form};
+use crate::guess::{GuessPlace, is_type, is_words, window_form};
 use crate::guesses::Guesses;
 use crate::literals::{base64_end, has_escape, is_literal};
 use crate::table::{CYCLES, LONG, PLACES, WORDS};
@@ -221,10 +221,11 @@ impl Guesses {
         if !has_below && !at.is_cut && !may_be_message(&self.octets) {
             return;
         }
-        let text = lines.line(usize::from(at.line));
-        let place = usize::from(at.place).min(text.len());
+        let line = usize::from(at.line);
+        let place = usize::from(at.place);
         let cycle = usize::from(at.cycle);
-        let Some(mut form) = plain_form(text, place, at.digits, cycle, at.is_anywhere) else {
+        let Some(mut form) = window_form(lines, line, place, at.digits, cycle, at.is_anywhere)
+        else {
             return;
         };
         if self.octets.is_empty() {

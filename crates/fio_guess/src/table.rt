@@ -94,6 +94,10 @@ pub const NUMBERS_TRIED: u8 = 6;
 pub const ROWS: usize = 128;
 /// How far before its octets a front begins that may begin anywhere.
 pub const NEAR: usize = 160;
+/// Octets before others are a number if this many of the nearest lines have the same ones.
+pub const SAME_LINES: usize = 2;
+/// This many lines above a line, and below it, are the nearest ones.
+pub const NEAREST: usize = 4;
 /// The most characters of an octet.
 pub const OCTET: usize = 12;
 /// The most octets of a cycle.

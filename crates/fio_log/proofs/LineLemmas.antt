@@ -18,9 +18,8 @@ plain-octet text octet plain =
     let return : (octet == 13) ≡ false = grind (arith, nat_tests, plain) in
     let nul : (octet == 0) ≡ false = grind (arith, nat_tests, plain) in
     let escape : (octet == 27) ≡ false = grind (arith, nat_tests, plain) in
-    let break : (octet == 194) ≡ false = grind (arith, nat_tests, plain) in
     let mark : (octet == 239) ≡ false = grind (arith, nat_tests, plain) in
-    simp (feed, return, nul, escape, break, mark)
+    simp (feed, return, nul, escape, mark)
 
 -- printable octets are appended
 pub plain-lines : (octets : List ℕ) (text : Text)

@@ -1,8 +1,8 @@
--- Lines of a log, octet by octet, without byte order marks, NULs by themselves and colour sequences; a no-break space is a blank.
+-- Lines of a log, octet by octet, without byte order marks, NULs by themselves and colour sequences.
 use Rattle.std.specs.Prelude.{◌≡◌, ℕ, ◌==◌, ◌||◌, Bool, true, false, nat_lt, if◌then◌else◌, List, [], ◌∷◌, ◌++◌, length, fold}
 use Rattle.fio_log.specs.Digits.{is_between}
 use Rattle.fio_log.specs.declared.lines.Held.{Held}
-use Rattle.fio_log.specs.declared.lines.Held.TheVariants.{Nothing, Nul, Escape, Colour, NoBreak, Mark, SecondMark}
+use Rattle.fio_log.specs.declared.lines.Held.TheVariants.{Nothing, Nul, Escape, Colour, Mark, SecondMark}
 use Rattle.fio_log.specs.declared.lines.LineEnding.{LineEnding}
 use Rattle.fio_log.specs.declared.lines.LineEnding.TheVariants.{Open, Feed, Return}
 use Rattle.fio_log.specs.declared.lines.TheConstants.{LINE_OCTETS}
@@ -27,10 +27,9 @@ pushed text octet =
 abbrev pub with_all : Text → List ℕ → Text
 with_all text octets = fold pushed text octets
 
--- The octets that begin what may be taken out: ESC is 27, a no-break space is 194 160, a byte order mark is 239 187 191.
+-- The octets that begin what may be taken out: ESC is 27, a byte order mark is 239 187 191.
 abbrev pub held_octets : Held → List ℕ
 held_octets Escape = 27 ∷ []
-held_octets NoBreak = 194 ∷ []
 held_octets Mark = 239 ∷ []
 held_octets SecondMark = 239 ∷ 187 ∷ []
 held_octets _ = []
@@ -41,7 +40,6 @@ goes_on_held Nothing octet = false
 goes_on_held Nul octet = octet == 0
 goes_on_held Escape octet = octet == 91
 goes_on_held Colour octet = true
-goes_on_held NoBreak octet = octet == 160
 goes_on_held Mark octet = octet == 187
 goes_on_held SecondMark octet = octet == 191
 
@@ -53,17 +51,16 @@ held_next Colour octet = if is_between 65 90 octet || is_between 97 122 octet th
 held_next Mark octet = SecondMark
 held_next _ octet = Nothing
 
--- what the line gets in place of what is held, if an octet continues it: a blank for a no-break space, and each NUL after a NUL
+-- what the line gets in place of what is held, if an octet continues it: each NUL after a NUL
 abbrev pub held_text : Held → List ℕ
 held_text Nul = 0 ∷ []
-held_text NoBreak = 32 ∷ []
 held_text other = []
 
 -- what an octet by itself begins
 abbrev pub held_first : ℕ → Held
 held_first octet =
     if octet == 0 then Nul
-    else (if octet == 27 then Escape else (if octet == 194 then NoBreak else (if octet == 239 then Mark else Nothing)))
+    else (if octet == 27 then Escape else (if octet == 239 then Mark else Nothing))
 
 -- whether an octet is printable: it adds itself to a line, does not end it, and begins nothing that may be taken out
 abbrev pub is_plain : ℕ → Bool
@@ -71,7 +68,7 @@ is_plain octet = is_between 32 126 octet
 
 -- what an octet by itself adds to the line
 abbrev pub own_text : ℕ → List ℕ
-own_text octet = if octet == 0 || octet == 27 || octet == 194 || octet == 239 then [] else octet ∷ []
+own_text octet = if octet == 0 || octet == 27 || octet == 239 then [] else octet ∷ []
 
 -- A line that is being made: its text, the octets that are held, and its ending.
 pub record Making : Type 0 where

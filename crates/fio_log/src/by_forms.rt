@@ -21,7 +21,7 @@ use crate::heads::Heads;
 use crate::known_forms::KnownForms;
 use crate::lines::NumberedLine;
 use crate::quiet::is_plain_quiet;
-use crate::rows::{MessageRows, StreamRows};
+use crate::rows::{MessageRows, RowWidths, StreamRows};
 use crate::shapes::Shapes;
 use crate::told::Told;
 use crate::verdict::{Kind, LineVerdict, Reason};
@@ -59,6 +59,7 @@ pub(crate) struct FormReader {
     stream: Stream,
     /// The rows of the octets of the stream that are in no message yet.
     stream_rows: StreamRows,
+    widths: RowWidths,
     above: LineAbove,
     /// What is said of the message that is open.
     begun: Heading,
@@ -127,6 +128,7 @@ impl FormReader {
             rows: MessageRows::new(),
             stream: Stream::new(),
             stream_rows: StreamRows::new(),
+            widths: RowWidths::default(),
             above: LineAbove::new(),
             begun: Heading::new(),
             headers: Headers::new(),
@@ -151,6 +153,7 @@ impl FormReader {
         self.rows.clear();
         self.stream.clear();
         self.stream_rows.clear();
+        self.widths = RowWidths::default();
         self.above.clear();
         self.begun = Heading::new();
         self.headers.clear();

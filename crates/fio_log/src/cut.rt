@@ -27,6 +27,26 @@ fn ends_within(form: &LineForm, line: &[u8]) -> bool {
     !is_offset && ends_in_form(form, line)
 }
 
+/// Returns a text without the dots at its end, which say that a logger left something out, and the blanks before them.
+fn before_dots(text: &[u8]) -> &[u8] {
+    if !matches!(text, [.., b'.', b'.'] | [.., 0xe2, 0x80, 0xa6]) {
+        return text;
+    }
+    'dots: for place in 0..text.len() {
+        let end = text.len() - place;
+        if !matches!(text[end - 1], b'.' | b' ' | 0xe2 | 0x80 | 0xa6) {
+            return &text[..end];
+        }
+    }
+    &[]
+}
+
+/// Returns whether a line ends within the front of a form, and dots follow.
+fn ends_in_dots(form: &LineForm, line: &[u8]) -> bool {
+    let text = before_dots(line);
+    text.len() < line.len() && ends_in_form(form, text)
+}
+
 /// Returns whether a line has at a place, after the front of a form, a message, or octets that begin one.
 fn has_message(
     form: &LineForm,
@@ -236,6 +256,7 @@ pub(crate) fn is_cut_line(
 ) -> bool {
     for form in forms {
         let is_cut = ends_within(form, line)
+            || ends_in_dots(form, line)
             || begins_within(form, line, octets, held)
             || has_digits(form, line)
             || has_spoilt_octet(form, line, octets)

@@ -22,8 +22,6 @@ enum Held {
     Escape,
     /// A colour sequence.
     Colour,
-    /// The first octet of a no-break space.
-    NoBreak,
     /// The first octet of a byte order mark.
     Mark,
     /// The first two octets of a byte order mark.
@@ -38,7 +36,6 @@ impl Held {
         match self {
             Held::Nothing | Held::Nul | Held::Colour => b"",
             Held::Escape => b"\x1b",
-            Held::NoBreak => b"\xc2",
             Held::Mark => b"\xef",
             Held::SecondMark => b"\xef\xbb",
         }
@@ -50,7 +47,6 @@ impl Held {
     {
         match self {
             Held::Nul => b"\0",
-            Held::NoBreak => b" ",
             _ => b"",
         }
     }
@@ -64,7 +60,6 @@ impl Held {
             Held::Nul => octet == 0,
             Held::Escape => octet == b'[',
             Held::Colour => true,
-            Held::NoBreak => octet == 0xa0,
             Held::Mark => octet == 0xbb,
             Held::SecondMark => octet == 0xbf,
         }
@@ -90,7 +85,6 @@ impl Held {
         match octet {
             0 => Held::Nul,
             0x1b => Held::Escape,
-            0xc2 => Held::NoBreak,
             0xef => Held::Mark,
             _ => Held::Nothing,
         }
@@ -157,8 +151,8 @@ impl LineText {
     }
 }
 
-/// Makes lines of octets. A line ends at LF, CR LF or CR. Byte order marks, a NUL by itself and colour sequences are taken out,
-/// and a no-break space is a blank. Of several NULs in a row all but the first stay: there is a gap in the line.
+/// Makes lines of octets. A line ends at LF, CR LF or CR. Byte order marks, a NUL by itself and colour sequences are taken out.
+/// Of several NULs in a row all but the first stay: there is a gap in the line.
 #[derive(Drop)]
 pub struct LineMaker {
     text: LineText,
@@ -218,7 +212,7 @@ impl LineMaker {
         } else {
             self.text.push_all(self.held.octets());
             self.held = Held::first(octet);
-            if !matches!(octet, 0 | 0x1b | 0xc2 | 0xef) {
+            if !matches!(octet, 0 | 0x1b | 0xef) {
                 self.text.push(octet);
             }
         }
@@ -384,6 +378,8 @@ pub(crate) struct NumberedLine<'a> {
     pub text: &'a [u8],
     /// Whether the line has more characters than are kept.
     pub is_long: bool,
+    /// Whether the log ends with it.
+    pub is_last: bool,
 }
 
 impl NumberedLine<'_> {

@@ -190,20 +190,20 @@ fn is_within(form: &LineForm, text: &[u8], place: usize) -> bool {
     }
 }
 
-/// Returns whether the front of a form is somewhere in a line. A front without a word is everywhere.
-fn has_front(form: &LineForm, line: &[u8], octets: &mut Octets) -> bool {
+/// Returns whether the front of a form is somewhere in a line.
+pub(crate) fn has_front(form: &LineForm, line: &[u8]) -> bool {
     'places: for place in 0..line.len() {
         if !is_within(form, line, place) && front_in(form, &line[place..]).is_some() {
             return true;
         }
     }
-    find(form, line, octets).is_some()
+    false
 }
 
-/// Returns whether the front of one of some forms is somewhere in a line.
+/// Returns whether the front of one of some forms is somewhere in a line. A front without a word is everywhere.
 pub(crate) fn has_fronts(forms: &[LineForm], line: &[u8], octets: &mut Octets) -> bool {
     for form in forms {
-        if has_front(form, line, octets) {
+        if has_front(form, line) || find(form, line, octets).is_some() {
             return true;
         }
     }

@@ -100,6 +100,40 @@ impl StreamRow {
     }
 }
 
+/// How many octets the rows of a stream have.
+#[derive(Clone, Copy, Debug, Default)]
+pub(crate) struct RowWidths {
+    /// The most that one has,
+    width: usize,
+    /// how many have as many,
+    full: u64,
+    /// and how many have fewer.
+    shorter: u64,
+}
+
+/// Rows are of one width if at most one in this many has fewer octets.
+const EVEN: u64 = 8;
+
+impl RowWidths {
+    /// Takes a row with this many octets; returns whether it is shorter than the others, which are of one width.
+    pub(crate) fn take(&mut self, octets: usize) -> bool {
+        if octets > self.width {
+            *self = RowWidths {
+                width: octets,
+                full: 1,
+                shorter: self.shorter.saturating_add(self.full),
+            };
+            return false;
+        }
+        if octets == self.width {
+            self.full = self.full.saturating_add(1);
+            return false;
+        }
+        self.shorter = self.shorter.saturating_add(1);
+        self.shorter <= self.full / EVEN
+    }
+}
+
 /// The rows of a stream, the topmost first.
 #[derive(Drop)]
 pub(crate) struct StreamRows {

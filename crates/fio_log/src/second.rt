@@ -2,7 +2,8 @@
 ghost use Rattle.std.specs.Prelude.{◌≡◌, ◌≤◌, None, true};
 ghost use Rattle.fio_log.specs.Heard.{HasNoLine};
 
-use crate::quiet::{Hidden, held_by_text};
+use crate::digits::is_letter;
+use crate::quiet::{Hidden, has_front, held_by_text};
 use fio_form::{
     Found, LineForm, LineRows, Octets, Piece, Whole, find, front_in, is_answer, whole_of,
 };
@@ -71,6 +72,30 @@ pub(crate) fn is_quiet_between(
     start >= end
         || end > line.len()
         || held_by_text(forms, &line[start..end], octets) == Hidden::Nothing
+            && !has_next_line(forms, &line[start..end])
+}
+
+/// A front of fewer pieces may be any text.
+const PIECES: usize = 4;
+
+/// Returns whether a form has a front that is in no other text: it has a word, and begins the line.
+fn is_long(form: &LineForm) -> bool {
+    let mut has_letter = false;
+    for piece in form.front() {
+        has_letter = has_letter
+            || matches!(*piece, Piece::Character(character) if is_letter(character));
+    }
+    has_letter && form.front().len() >= PIECES && !form.is_anywhere && is_told(form)
+}
+
+/// Returns whether a text has the front of a form: another line may begin there, of which the octets can't be read.
+fn has_next_line(forms: &[LineForm], text: &[u8]) -> bool {
+    for form in forms {
+        if is_long(form) && has_front(form, text) {
+            return true;
+        }
+    }
+    false
 }
 
 /// Returns whether a message may follow another one that its line has above it: an answer follows its command, and a command

@@ -396,17 +396,18 @@ fn line_at<'a>(
             number,
             text: learning.window.line((number - first) as usize),
             is_long: false,
+            is_last: at.is_ended && number == at.read,
         });
     }
     if number == at.read && maker.is_whole() {
-        Some(last_line(maker, number))
+        Some(last_line(maker, number, at.is_ended))
     } else {
         None
     }
 }
 
-/// Returns the line that is made, with its number.
-pub(crate) fn last_line(maker: &LineMaker, number: u64) -> NumberedLine<'_>
+/// Returns the line that is made, with its number; `is_last`: the log ends with it.
+pub(crate) fn last_line(maker: &LineMaker, number: u64, is_last: bool) -> NumberedLine<'_>
     ensures text { result.text.now ≡ maker.now.text.octets }
     ensures long { result.is_long ≡ maker.now.text.is_long }
 {
@@ -414,5 +415,6 @@ pub(crate) fn last_line(maker: &LineMaker, number: u64) -> NumberedLine<'_>
         number,
         text: maker.octets(),
         is_long: maker.is_long(),
+        is_last,
     }
 }

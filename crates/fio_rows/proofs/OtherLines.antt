@@ -1,6 +1,6 @@
 -- Lines that no form has, and what is open above a line.
 use Rattle.std.proofs.Common.{ℕ, ◌≡◌, ◌+◌, Bool, true, false, not, ◌&&◌, List, [], ◌∷◌, length, Option, Some, None, refl, sym, ◌∙◌, inl, inr, arith}
-use Rattle.std.specs.Prelude.{if◌then◌else◌, nat_lt, unwrap_or, ◌||◌}
+use Rattle.std.specs.Prelude.{if◌then◌else◌, ◌==◌, unwrap_or, ◌||◌}
 use Rattle.std.specs.List.{AllByRecursion}
 use Rattle.std.proofs.lemmas.Bool.Decides.{nat_tests}
 use Rattle.fio_form.specs.declared.form.LineForm.{LineForm}
@@ -134,25 +134,25 @@ pub row_kept : (forms : List LineForm) (line tail : List ℕ) (state : Rows) →
 unfolding read_in line_goes_on
 row_kept forms line tail state = grind (arith, nat_tests, open_kept, no)
 
-left_by : (b : Bool) (most count : ℕ) → nat_lt most count ≡ b → Left false b count most
-left_by true most count h = inr (inl refl)
-left_by false most count h = inr (inr (grind (arith, nat_tests)))
+left_by : (b : Bool) (count spare : ℕ) → not (count == spare) ≡ b → Left false b count spare
+left_by true count spare h = inr (inl refl)
+left_by false count spare h = inr (inr (grind (arith, nat_tests)))
 
 left_none : (pending : Open) (octets : List ℕ) → is_message_open pending ≡ true →
-    Left (is_message_whole pending) (is_message_begun pending && nat_lt 0 (length octets)) (length octets) 0
+    Left (is_message_whole pending) (is_message_begun pending && not (length octets == 0)) (length octets) 0
 left_none Nothing octets e = absurd (no false refl e)
-left_none Begun octets e = left_by (nat_lt 0 (length octets)) 0 (length octets) refl
+left_none Begun octets e = left_by (not (length octets == 0)) (length octets) 0 refl
 left_none opens.Whole octets e = inl refl
 
-left_some : (pending : Open) (most : ℕ) (octets : List ℕ) → is_message_open pending ≡ true →
-    Left (is_message_whole pending && true) (is_message_begun pending && nat_lt most (length octets)) (length octets) most
-left_some Nothing most octets e = absurd (no false refl e)
-left_some Begun most octets e = left_by (nat_lt most (length octets)) most (length octets) refl
-left_some opens.Whole most octets e = inl refl
+left_some : (pending : Open) (spare : ℕ) (octets : List ℕ) → is_message_open pending ≡ true →
+    Left (is_message_whole pending && true) (is_message_begun pending && not (length octets == spare)) (length octets) spare
+left_some Nothing spare octets e = absurd (no false refl e)
+left_some Begun spare octets e = left_by (not (length octets == spare)) (length octets) spare refl
+left_some opens.Whole spare octets e = inl refl
 
-left_row : (sure : Bool) (whole : Bool) (count most : ℕ) → sure ≡ false → Left (whole && false) (not sure) count most
-left_row true whole count most e = absurd (no true e refl)
-left_row false whole count most e = inr (inl refl)
+left_row : (sure : Bool) (whole : Bool) (count spare : ℕ) → sure ≡ false → Left (whole && false) (not sure) count spare
+left_row true whole count spare e = absurd (no true e refl)
+left_row false whole count spare e = inr (inl refl)
 
 open_left : (above : Option LineForm) (line : List ℕ) (state : Rows) → is_message_open state.pending ≡ true → goes_on_with above line state ≡ false →
     Left (ends_above above line state) (is_broken_by above line state) (length state.octets) (spare above)

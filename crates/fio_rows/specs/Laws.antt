@@ -32,10 +32,10 @@ row_by (Some form) line = next_row form line
 abbrev pub IsAdded : List ℕ → List ℕ → Rows → Type 0
 IsAdded octets row state = (state.octets ≡ octets ++ row) ⊎ (state.said ≡ Damaged)
 
--- What becomes of open octets that do not go on: their message ends, or is broken, or they are at most as many as are before
--- and after a message.
+-- What becomes of open octets that do not go on: their message ends, or is broken, or they are as many as are before and after a
+-- message.
 abbrev pub Left : Bool → Bool → ℕ → ℕ → Type 0
-Left ended broken count most = (ended ≡ true) ⊎ ((broken ≡ true) ⊎ (count ≤ most))
+Left ended broken count spare = (ended ≡ true) ⊎ ((broken ≡ true) ⊎ (count ≡ spare))
 
 -- Two lines say the same, and leave the same open, of the same octets; by the same form, before the same offset, unless it is
 -- another line; and the same message, if there is one.

@@ -238,14 +238,14 @@ abbrev pub ends_above : Option LineForm → List ℕ → Rows → Bool
 ends_above None line state = is_message_whole state.pending
 ends_above (Some form) line state = is_message_whole state.pending && not (is_row form state.next line)
 
--- whether an open message of a form is broken by a line: it is none as it is, though it has octets; or nothing says whether
--- it goes on in the line
+-- whether an open message of a form is broken by a line: it is none as it is, and its octets are not those before and after one; or
+-- nothing says whether it goes on in the line
 abbrev pub is_broken_by : Option LineForm → List ℕ → Rows → Bool
-is_broken_by None line state = is_message_begun state.pending && nat_lt 0 (length state.octets)
+is_broken_by None line state = is_message_begun state.pending && not (length state.octets == 0)
 is_broken_by (Some form) line state =
     if is_row form state.next line
     then not (is_sure form state.pending || has_bare_rows form.rows)
-    else is_message_begun state.pending && nat_lt (form.before + form.after) (length state.octets)
+    else is_message_begun state.pending && not (length state.octets == form.before + form.after)
 
 -- whether a line goes on with the open message
 unfoldable pub line_goes_on : List LineForm → List ℕ → Rows → Bool

@@ -1,5 +1,5 @@
 //! Reads lines by forms, with messages over several lines.
-ghost use Rattle.std.specs.Prelude.{◌≡◌, ◌≢◌, ◌≤◌, ◌<◌, ◌+◌, ◌&&◌, ◌||◌, not, true, false, Some, length, nat_lt, if◌then◌else◌};
+ghost use Rattle.std.specs.Prelude.{◌≡◌, ◌≢◌, ◌≤◌, ◌<◌, ◌+◌, ◌==◌, ◌&&◌, ◌||◌, not, true, false, Some, length, if◌then◌else◌};
 ghost use Rattle.fio_rows.specs.Lines.{ends_above, first, line_goes_on, goes_on_with, has_offset, has_bare_rows, is_message_begun, is_message_broken, is_broken_by, is_ended, is_message_open, is_sure, is_message_whole, next_line_in, next_row, open_in, read_in};
 ghost use Rattle.fio_rows.specs.Places.{AreAt, AreWithin, first_places, next_places, places_by, places_in};
 ghost use Rattle.fio_rows.specs.Rows.{rows_of, state_of};
@@ -158,14 +158,14 @@ impl Reading {
         ensures exact { rows_of result.said self.new ≡ first forms.now line.now (first_places forms.now line.now).end (state_of self.old) }
         ensures goes_on { result.goes_on ≡ false }
         ensures is_ended { result.is_ended ≡ is_message_whole (state_of self.old).pending }
-        ensures is_broken { result.is_broken ≡ is_message_begun (state_of self.old).pending && nat_lt spare (length self.old.octets.items) }
+        ensures is_broken { result.is_broken ≡ is_message_begun (state_of self.old).pending && not (length self.old.octets.items == spare) }
         ensures form { result.said ≢ Said.Other → result.form < length forms.now }
         ensures kept { result.said ≢ Said.Other → result.form ≡ (state_of self.new).form }
         ensures found { AreWithin result.found line.now }
         ensures at { AreAt result.found line.now (first_places forms.now line.now) }
         ensures ended { result.is_ended ≡ true → self.new.ended.items ≡ self.old.message.items }
     {
-        let is_broken = is_begun(self.pending) && self.octets.len() > spare;
+        let is_broken = is_begun(self.pending) && self.octets.len() != spare;
         let is_ended = self.keep_ended();
         let mut said = self.read_first(forms, line);
         said.is_broken = is_broken;

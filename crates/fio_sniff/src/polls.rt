@@ -14,8 +14,15 @@ pub(crate) struct Polls {
     steps: u32,
     /// Those whose number is one more.
     rises: u32,
+    /// Whether one goes from 09 to 10, as decimal numbers do.
+    is_decimal: bool,
     /// The number of the last one.
     last: u8,
+}
+
+/// Returns whether a number follows another one if both are decimal.
+fn is_next_ten(last: u8, number: u8) -> bool {
+    last % 16 == 9 && last < 0x99 && number == last + 7
 }
 
 impl Polls {
@@ -26,6 +33,7 @@ impl Polls {
             return;
         }
         let is_rise = number == self.last.wrapping_add(1);
+        self.is_decimal = self.is_decimal || self.count > 0 && is_next_ten(self.last, number);
         let is_step = self.count == 0 || is_rise || number == self.last;
         self.count = self.count.saturating_add(1);
         self.steps = self.steps.saturating_add(u32::from(is_step));
@@ -35,7 +43,8 @@ impl Polls {
 
     /// Returns whether they are those of a link: this many whose numbers stay or go up by one, and some go up.
     pub(crate) fn are_shown(&self) -> bool {
-        self.count as usize >= POLLS
+        !self.is_decimal
+            && self.count as usize >= POLLS
             && times(10, self.steps) >= times(POLL_TENTHS, self.count)
             && times(4, self.rises) >= u64::from(self.count)
     }

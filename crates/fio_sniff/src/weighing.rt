@@ -5,7 +5,7 @@ use crate::seconds::next_in;
 use crate::tally::{LineTold, Tally};
 use crate::written::Written;
 use arrayvec::ArrayVec;
-use fio_form::{LineForm, Octets, Size, find, is_begun, is_message, size_of};
+use fio_form::{LineForm, LineRows, Octets, Size, find, is_begun, is_message, size_of};
 use fio_guess::Window;
 use fio_rows::{Reading, Said};
 use std::slice;
@@ -38,6 +38,11 @@ pub(crate) struct Observed {
 fn begins_message(form: &LineForm, line: &[u8]) -> bool {
     let mut octets: Octets = ArrayVec::new();
     find(form, line, &mut octets).is_some() && (is_message(&octets) || is_begun(&octets))
+}
+
+/// Returns whether a message in one row may be what is left of another one: it is one octet of a type of any length.
+fn is_left_over(form: &LineForm, message: &[u8]) -> bool {
+    form.rows == LineRows::One && message.len() == 1 && size_of(message) == Size::Any
 }
 
 /// Reads the lines of a window by one form.
@@ -131,6 +136,9 @@ impl Weighing {
         heard.first = self.first;
         heard.end = said.found.end;
         heard.here = match said.said {
+            Said::Frame if is_left_over(form, &self.reading.message) => LineTold::Damage {
+                is_lacking: true,
+            },
             Said::Frame => LineTold::Message,
             Said::Damaged => self.damage(form),
             _ => LineTold::Nothing,

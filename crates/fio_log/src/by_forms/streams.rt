@@ -60,7 +60,9 @@ impl FormReader {
         };
         let is_all = self.is_quiet_from(line.text, found.end)
             && !self.has_odd_tail(line.text, heard.said);
-        let mut is_whole = self.stream_rows.push(StreamRow::of(place, count, said)) && is_all;
+        let is_short = self.widths.take(count) && !line.is_last;
+        let is_kept = self.stream_rows.push(StreamRow::of(place, count, said));
+        let mut is_whole = is_kept && is_all && !is_short;
         let is_flags = self.is_of_flags();
         for at in 0..count {
             if let Some(octet) = self.reading.octets.get(at).copied() {

@@ -48,7 +48,7 @@ pub(crate) fn read_line(
     match form.own() {
         Some(text) => {
             teller.forget();
-            *own = frames.tell_own(text, last_line(maker, at.read));
+            *own = frames.tell_own(text, last_line(maker, at.read, at.is_ended));
             true
         }
         None => teller.read_line(maker, at),
