@@ -17,3 +17,4 @@ pub mod Headers
 pub mod Following
 pub mod LineLogs
 pub mod Foreign
+pub mod Others

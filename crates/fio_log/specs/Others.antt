@@ -1,0 +1,126 @@
+-- Which messages that this protocol has not are no damage: what is counted of a log, line by line, and what shows it.
+use Rattle.std.specs.Prelude.{◌≡◌, ℕ, ◌+◌, ◌*◌, ◌%◌, ◌==◌, ◌&&◌, ◌||◌, Bool, false, true, not, nat_le, nat_lt, max, if◌then◌else◌, List, length, replicate, slice_index, slice_set}
+use Rattle.fio_message.specs.declared.types.TheConstants.{ANSWER, FILTERED_INPUTS_ANSWER, RAW_INPUTS_ANSWER, SET_OUTPUTS, SET_OUTPUTS_ANSWER}
+use Rattle.fio_log.specs.Frames.{code_of}
+use Rattle.fio_log.specs.declared.foreign.Foreign.{Foreign}
+use Rattle.fio_log.specs.declared.others.Others.{Others}
+use Rattle.fio_log.specs.declared.others.TheConstants.{FEW, SHARE, SIZES, TYPES}
+use Rattle.fio_log.specs.declared.verdict.Kind.{Kind}
+use Rattle.fio_log.specs.declared.verdict.Kind.TheVariants as kinds
+use Rattle.fio_log.specs.declared.verdict.LineVerdict.{LineVerdict}
+
+-- no such message
+abbrev pub no_message : Foreign
+no_message = record { code = 0; octets = 0 }
+
+-- the counts above the first line
+abbrev pub no_others : Others
+no_others = record {
+  above = no_message;
+  types = replicate TYPES 0;
+  sizes = replicate SIZES 0;
+  is_sized = false;
+  all = replicate TYPES 0;
+  sized = replicate (3 * SIZES) 0;
+  is_passed = false;
+}
+
+-- one more, at most as many as fit 32 bits
+abbrev pub one_more : ℕ → ℕ
+one_more count = if nat_lt count 4294967295 then count + 1 else 4294967295
+
+-- counts with one more at a place, if the table has it
+abbrev pub raised : List ℕ → ℕ → List ℕ
+raised counts place = if nat_lt place (length counts) then slice_set counts place (one_more (slice_index counts place)) else counts
+
+-- the place of a message among those of a size
+abbrev pub place_of : Foreign → ℕ
+place_of message =
+    if message.code == RAW_INPUTS_ANSWER then message.octets
+    else if message.code == FILTERED_INPUTS_ANSWER then SIZES + message.octets
+    else if message.code == SET_OUTPUTS then 2 * SIZES + message.octets
+    else 3 * SIZES
+
+-- whether a message answers the one above
+abbrev pub is_exchange : Foreign → Foreign → Bool
+is_exchange above message = nat_lt 0 above.code && message.code == above.code + ANSWER
+
+-- the message of a line: the one that this protocol has not, or that of its only frame, which has this type
+abbrev pub message_of : LineVerdict → ℕ → Foreign
+message_of verdict code =
+    if nat_lt 0 verdict.foreign then record { code = verdict.foreign; octets = verdict.header.control }
+    else if verdict.frames == 1 then record { code = code; octets = 0 }
+    else no_message
+
+-- the counts with an exchange: by its size, if one of its messages has another one, else by its type
+abbrev pub exchange_counted : Others → ℕ → Others
+exchange_counted others size = if nat_lt 0 size then record others { sizes = raised others.sizes size }
+    else record others { types = raised others.types others.above.code }
+
+-- the counts with a message of a type and a size
+abbrev pub size_counted : Others → Foreign → Others
+size_counted others message = record others {
+  all = raised others.all message.code;
+  sized = raised others.sized (place_of message);
+}
+
+-- the counts with a message, from the first one of another size on also by its size
+abbrev pub message_counted : Others → Foreign → Others
+message_counted others message = if others.is_sized || nat_lt 0 message.octets
+    then size_counted (record others { is_sized = true }) message
+    else others
+
+-- the counts below a message
+abbrev pub counted : Others → Foreign → Others
+counted others message = record (message_counted
+    (if is_exchange others.above message then exchange_counted others (max others.above.octets message.octets) else others) message) { above = message }
+
+-- whether a line is blank
+abbrev pub is_blank : Kind → Bool
+is_blank kinds.Blank = true
+is_blank _ = false
+
+-- the counts below a line
+abbrev pub taken_below : Others → LineVerdict → ℕ → Others
+taken_below others verdict code = if is_blank verdict.kind then others else counted others (message_of verdict code)
+
+-- whether a line has nothing but the answer to the outputs above it, which are those of a module of another size
+abbrev pub answers_others : Others → LineVerdict → ℕ → Bool
+answers_others others verdict code =
+    not (is_blank verdict.kind) && verdict.foreign == 0 && verdict.frames == 1 && code == SET_OUTPUTS_ANSWER
+    && others.above.code == SET_OUTPUTS && nat_lt 0 others.above.octets
+
+-- the verdict on a line, whose first frame has this type: if that is such an answer, it says so
+abbrev pub told_below : Others → LineVerdict → ℕ → LineVerdict
+told_below others verdict code =
+    record verdict { foreign = if answers_others others verdict code then SET_OUTPUTS_ANSWER else verdict.foreign }
+
+-- The verdict on a line, with these frames, is told by one that says nothing of such answers, and the line is counted.
+pub record HasTakenOthers (before : Others) (verdict : LineVerdict) (frames : List (List ℕ)) (after : Others) : Type 0 where
+  pub line : LineVerdict
+  pub tells : verdict ≡ told_below before line (code_of frames)
+  pub next : after ≡ taken_below before line (code_of frames)
+
+-- whether messages of a type, or of a size, are no damage: more than a few exchanges have it; and a share of the messages of a type
+-- that this protocol has too
+abbrev pub are_usual : Others → Foreign → Bool
+are_usual others message =
+    if message.octets == 0 then nat_lt FEW (slice_index others.types (message.code % ANSWER))
+    else nat_lt FEW (slice_index others.sizes message.octets)
+      && nat_le (slice_index others.all message.code) (SHARE * slice_index others.sized (place_of message))
+
+-- whether a line of a kind is passed over that has such a message
+abbrev pub passes_kind : Others → Kind → Foreign → Bool
+passes_kind others kinds.Blank message = false
+passes_kind others kinds.Frames message = others.is_passed
+passes_kind others kinds.PassedOver message = true
+passes_kind others _ message = are_usual others message
+
+-- whether a line of a kind is passed over: one with a message that this protocol has not, if that is no damage; and the answer to one
+-- that is
+abbrev pub passes : Others → Kind → Foreign → Bool
+passes others kind message = not (message.code == 0) && passes_kind others kind message
+
+-- the counts where it is known of a line whether it is passed over
+abbrev pub passed : Others → Kind → Foreign → Others
+passed others kind message = if is_blank kind then others else record others { is_passed = passes others kind message }
