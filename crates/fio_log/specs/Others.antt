@@ -107,7 +107,7 @@ abbrev pub are_usual : Others → Foreign → Bool
 are_usual others message =
     if message.octets == 0 then nat_lt FEW (slice_index others.types (message.code % ANSWER))
     else nat_lt FEW (slice_index others.sizes message.octets)
-      && nat_le (slice_index others.all message.code) (SHARE * slice_index others.sized (place_of message))
+    && nat_le (slice_index others.all message.code) (SHARE * slice_index others.sized (place_of message))
 
 -- whether a line of a kind is passed over that has such a message
 abbrev pub passes_kind : Others → Kind → Foreign → Bool
