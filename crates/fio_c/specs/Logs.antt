@@ -213,7 +213,7 @@ pub record IsReadFrom (before : Telling) (text : List ℕ) (from : Telling) : Ty
   pub empty : text ≡ [] → from ≡ before
 
 -- Lines of a batch that a reader has returned are passed over by all that it has counted. Their frames and places stay in the batch.
-pub record HasPassed (before : Telling) (told : LogBatch) (after : Telling) (batch : LogBatch) : Type 0 where
+pub record HasPassedOthers (before : Telling) (told : LogBatch) (after : Telling) (batch : LogBatch) : Type 0 where
   pub lines : (content : Content) → Holds told content
       → Holds batch (record content { verdicts = passed_lines before.others content.verdicts })
   pub count : batch.verdict_count ≡ told.verdict_count
@@ -226,4 +226,4 @@ pub record HasRead (before : Telling) (text : List ℕ) (taken : ℕ) (after : T
   pub reader : Telling
   pub told : LogBatch
   pub read : HasReadOn from text taken reader told
-  pub passed : HasPassed reader told after batch
+  pub passed : HasPassedOthers reader told after batch

@@ -50,7 +50,7 @@
 //! `fio2070_log_start` sets the octets of its reader, which may be fewer than the room. The verdicts that `fio2070_log_read`
 //! puts into a batch are those that `Reader` of `fio_log` returns of the next lines, each once, in order and no other, octet
 //! for octet, with all their frames and places (see `HasRead` and `HasVerdicts` in `specs/Logs.antt`), but that lines with messages that
-//! this protocol has not are passed over (`LogOthers`); what is proved of `Reader` is true of all others. A call makes progress: if its batch has no verdict, it took all octets, and after
+//! this protocol has not are passed over, as `specs/LogOthers.antt` says; what is proved of `Reader` is true of all others. A call makes progress: if its batch has no verdict, it took all octets, and after
 //! the end of the log each line has had its verdict. When a log has ended and all its verdicts are given, octets begin another
 //! log of the same form (see `IsReadFrom`). `fio2070_log_end` makes the octets after the last line end the last line, and keeps a
 //! verdict that is ready (see `HasEnded`).

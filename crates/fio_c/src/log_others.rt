@@ -1,7 +1,7 @@
 //! Lines of a batch with messages that this protocol has not, which are passed over once several show that they are no damage.
 ghost use Rattle.std.specs.Prelude.{◌≡◌};
 ghost use Rattle.fio_c.specs.LogOthers.{below_line, below_lines, kind_of, passed_line, passed_lines};
-ghost use Rattle.fio_c.specs.Logs.{HasPassed};
+ghost use Rattle.fio_c.specs.Logs.{HasPassedOthers};
 
 use crate::log_batch::{FRAMES, LOG_VERDICTS, LogBatch, LogVerdict};
 use fio_log::{Kind, Reader};
@@ -9,7 +9,7 @@ use fio_log::{Kind, Reader};
 /// Passes over lines of a batch, by all that the reader has counted. A frame that one of them has stays in the batch: it is of no line
 /// that has frames, and so no call takes it.
 pub(crate) fn pass_over(reader: &mut Reader, batch: &mut LogBatch)
-    ensures { HasPassed reader.old batch.old reader.new batch.new }
+    ensures { HasPassedOthers reader.old batch.old reader.new batch.new }
 {
     let count = (batch.verdict_count as usize).min(LOG_VERDICTS);
     pass_lines(reader, &mut batch.verdicts[..count]);

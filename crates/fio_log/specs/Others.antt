@@ -26,16 +26,16 @@ no_others = record {
 }
 
 -- one more, at most as many as fit 32 bits
-abbrev pub one_more : ℕ → ℕ
-one_more count = if nat_lt count 4294967295 then count + 1 else 4294967295
+abbrev pub next_count : ℕ → ℕ
+next_count count = if nat_lt count 4294967295 then count + 1 else 4294967295
 
 -- counts with one more at a place, if the table has it
-abbrev pub raised : List ℕ → ℕ → List ℕ
-raised counts place = if nat_lt place (length counts) then slice_set counts place (one_more (slice_index counts place)) else counts
+abbrev pub counted_at : List ℕ → ℕ → List ℕ
+counted_at counts place = if nat_lt place (length counts) then slice_set counts place (next_count (slice_index counts place)) else counts
 
 -- the place of a message among those of a size
-abbrev pub place_of : Foreign → ℕ
-place_of message =
+abbrev pub size_place : Foreign → ℕ
+size_place message =
     if message.code == RAW_INPUTS_ANSWER then message.octets
     else if message.code == FILTERED_INPUTS_ANSWER then SIZES + message.octets
     else if message.code == SET_OUTPUTS then 2 * SIZES + message.octets
@@ -54,14 +54,14 @@ message_of verdict code =
 
 -- the counts with an exchange: by its size, if one of its messages has another one, else by its type
 abbrev pub exchange_counted : Others → ℕ → Others
-exchange_counted others size = if nat_lt 0 size then record others { sizes = raised others.sizes size }
-    else record others { types = raised others.types others.above.code }
+exchange_counted others size = if nat_lt 0 size then record others { sizes = counted_at others.sizes size }
+    else record others { types = counted_at others.types others.above.code }
 
 -- the counts with a message of a type and a size
 abbrev pub size_counted : Others → Foreign → Others
 size_counted others message = record others {
-  all = raised others.all message.code;
-  sized = raised others.sized (place_of message);
+  all = counted_at others.all message.code;
+  sized = counted_at others.sized (size_place message);
 }
 
 -- the counts with a message, from the first one of another size on also by its size
@@ -76,18 +76,18 @@ counted others message = record (message_counted
     (if is_exchange others.above message then exchange_counted others (max others.above.octets message.octets) else others) message) { above = message }
 
 -- whether a line is blank
-abbrev pub is_blank : Kind → Bool
-is_blank kinds.Blank = true
-is_blank _ = false
+abbrev pub is_blank_kind : Kind → Bool
+is_blank_kind kinds.Blank = true
+is_blank_kind _ = false
 
 -- the counts below a line
 abbrev pub taken_below : Others → LineVerdict → ℕ → Others
-taken_below others verdict code = if is_blank verdict.kind then others else counted others (message_of verdict code)
+taken_below others verdict code = if is_blank_kind verdict.kind then others else counted others (message_of verdict code)
 
 -- whether a line has nothing but the answer to the outputs above it, which are those of a module of another size
 abbrev pub answers_others : Others → LineVerdict → ℕ → Bool
 answers_others others verdict code =
-    not (is_blank verdict.kind) && verdict.foreign == 0 && verdict.frames == 1 && code == SET_OUTPUTS_ANSWER
+    not (is_blank_kind verdict.kind) && verdict.foreign == 0 && verdict.frames == 1 && code == SET_OUTPUTS_ANSWER
     && others.above.code == SET_OUTPUTS && nat_lt 0 others.above.octets
 
 -- the verdict on a line, whose first frame has this type: if that is such an answer, it says so
@@ -107,7 +107,7 @@ abbrev pub are_usual : Others → Foreign → Bool
 are_usual others message =
     if message.octets == 0 then nat_lt FEW (slice_index others.types (message.code % ANSWER))
     else nat_lt FEW (slice_index others.sizes message.octets)
-    && nat_le (slice_index others.all message.code) (SHARE * slice_index others.sized (place_of message))
+    && nat_le (slice_index others.all message.code) (SHARE * slice_index others.sized (size_place message))
 
 -- whether a line of a kind is passed over that has such a message
 abbrev pub passes_kind : Others → Kind → Foreign → Bool
@@ -123,4 +123,4 @@ passes others kind message = not (message.code == 0) && passes_kind others kind 
 
 -- the counts where it is known of a line whether it is passed over
 abbrev pub passed : Others → Kind → Foreign → Others
-passed others kind message = if is_blank kind then others else record others { is_passed = passes others kind message }
+passed others kind message = if is_blank_kind kind then others else record others { is_passed = passes others kind message }

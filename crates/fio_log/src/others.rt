@@ -1,6 +1,6 @@
 //! Which messages that this protocol has not are no damage: those of which several exchanges show it.
 ghost use Rattle.std.specs.Prelude.{◌≡◌, slice_index};
-ghost use Rattle.fio_log.specs.Others.{answers_others, are_usual, counted, is_exchange, message_of, no_others, passed, passes, place_of, raised, taken_below, told_below};
+ghost use Rattle.fio_log.specs.Others.{answers_others, are_usual, counted, is_exchange, message_of, no_others, passed, passes, size_place, counted_at, taken_below, told_below};
 
 use crate::foreign::{Foreign, NONE};
 use crate::verdict::{Kind, LineVerdict};
@@ -41,7 +41,7 @@ pub(crate) struct Others {
 
 /// Adds one to the count at a place, if the table has it.
 fn raise(counts: &mut [u32], place: usize)
-    ensures { counts.new ≡ raised counts.old place }
+    ensures { counts.new ≡ counted_at counts.old place }
 {
     if place < counts.len() {
         counts[place] = counts[place].saturating_add(1);
@@ -56,8 +56,8 @@ fn count_at(counts: &[u32], place: usize) -> u32
 }
 
 /// Returns the place of a message among those of a size.
-fn place_of(message: Foreign) -> usize
-    ensures { result ≡ place_of message }
+fn size_place(message: Foreign) -> usize
+    ensures { result ≡ size_place message }
 {
     let size = usize::from(message.octets);
     match message.code {
@@ -150,7 +150,7 @@ impl Others {
         self.is_sized = self.is_sized || message.octets > 0;
         if self.is_sized {
             raise(&mut self.all, usize::from(message.code));
-            raise(&mut self.sized, place_of(message));
+            raise(&mut self.sized, size_place(message));
         }
         self.above = message;
     }
@@ -162,7 +162,7 @@ impl Others {
         if message.octets == 0 {
             return count_at(&self.types, usize::from(message.code % ANSWER)) > FEW;
         }
-        let same = count_at(&self.sized, place_of(message));
+        let same = count_at(&self.sized, size_place(message));
         let all = count_at(&self.all, usize::from(message.code));
         count_at(&self.sizes, usize::from(message.octets)) > FEW
             && SHARE * u64::from(same) >= u64::from(all)
