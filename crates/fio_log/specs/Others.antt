@@ -19,7 +19,6 @@ no_others = record {
   above = no_message;
   types = replicate TYPES 0;
   sizes = replicate SIZES 0;
-  is_sized = false;
   all = replicate TYPES 0;
   sized = replicate (3 * SIZES) 0;
   is_passed = false;
@@ -57,23 +56,18 @@ abbrev pub exchange_counted : Others → ℕ → Others
 exchange_counted others size = if nat_lt 0 size then record others { sizes = counted_at others.sizes size }
     else record others { types = counted_at others.types others.above.code }
 
--- the counts with a message of a type and a size
-abbrev pub size_counted : Others → Foreign → Others
-size_counted others message = record others {
-  all = counted_at others.all message.code;
-  sized = counted_at others.sized (size_place message);
-}
-
--- the counts with a message, from the first one of another size on also by its size
-abbrev pub message_counted : Others → Foreign → Others
-message_counted others message = if others.is_sized || nat_lt 0 message.octets
-    then size_counted (record others { is_sized = true }) message
-    else others
+-- the counts with the exchange that a message ends, if it answers the one above
+abbrev pub answer_counted : Others → Foreign → Others
+answer_counted others message =
+    if is_exchange others.above message then exchange_counted others (max others.above.octets message.octets) else others
 
 -- the counts below a message
 abbrev pub counted : Others → Foreign → Others
-counted others message = record (message_counted
-    (if is_exchange others.above message then exchange_counted others (max others.above.octets message.octets) else others) message) { above = message }
+counted others message = record (answer_counted others message) {
+  above = message;
+  all = counted_at others.all message.code;
+  sized = counted_at others.sized (size_place message);
+}
 
 -- whether a line is blank
 abbrev pub is_blank_kind : Kind → Bool

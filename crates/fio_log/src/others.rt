@@ -29,9 +29,7 @@ pub(crate) struct Others {
     types: [u32; TYPES],
     /// How many exchanges there are of each size.
     sizes: [u32; SIZES],
-    /// Whether there is a message of another size.
-    is_sized: bool,
-    /// How many messages there are of each type, from the first one of another size on.
+    /// How many messages there are of each type.
     all: [u32; TYPES],
     /// How many of 180, of 181 and of 55 have each size.
     sized: [u32; 3 * SIZES],
@@ -100,7 +98,6 @@ impl Others {
             above: NONE,
             types: [0; TYPES],
             sizes: [0; SIZES],
-            is_sized: false,
             all: [0; TYPES],
             sized: [0; 3 * SIZES],
             is_passed: false,
@@ -147,11 +144,8 @@ impl Others {
                 raise(&mut self.types, usize::from(self.above.code));
             }
         }
-        self.is_sized = self.is_sized || message.octets > 0;
-        if self.is_sized {
-            raise(&mut self.all, usize::from(message.code));
-            raise(&mut self.sized, size_place(message));
-        }
+        raise(&mut self.all, usize::from(message.code));
+        raise(&mut self.sized, size_place(message));
         self.above = message;
     }
 
