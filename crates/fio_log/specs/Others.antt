@@ -1,7 +1,6 @@
 -- Which messages that this protocol has not are no damage: what is counted of a log, line by line, and what shows it.
-use Rattle.std.specs.Prelude.{◌≡◌, ℕ, ◌+◌, ◌*◌, ◌%◌, ◌==◌, ◌&&◌, ◌||◌, Bool, false, true, not, nat_le, nat_lt, max, if◌then◌else◌, List, length, replicate, slice_index, slice_set}
+use Rattle.std.specs.Prelude.{ℕ, ◌+◌, ◌*◌, ◌%◌, ◌==◌, ◌&&◌, ◌||◌, Bool, false, true, not, nat_le, nat_lt, max, if◌then◌else◌, List, length, replicate, slice_index, slice_set}
 use Rattle.fio_message.specs.declared.types.TheConstants.{ANSWER, FILTERED_INPUTS_ANSWER, RAW_INPUTS_ANSWER, SET_OUTPUTS, SET_OUTPUTS_ANSWER}
-use Rattle.fio_log.specs.Frames.{code_of}
 use Rattle.fio_log.specs.declared.foreign.Foreign.{Foreign}
 use Rattle.fio_log.specs.declared.others.Others.{Others}
 use Rattle.fio_log.specs.declared.others.TheConstants.{FEW, SHARE, SIZES, TYPES}
@@ -44,11 +43,11 @@ size_place message =
 abbrev pub is_exchange : Foreign → Foreign → Bool
 is_exchange above message = nat_lt 0 above.code && message.code == above.code + ANSWER
 
--- the message of a line: the one that this protocol has not, or that of its only frame, which has this type
+-- the message of a line: that of its only frame, which has this type, or the one that this protocol has not
 abbrev pub message_of : LineVerdict → ℕ → Foreign
 message_of verdict code =
-    if nat_lt 0 verdict.foreign then record { code = verdict.foreign; octets = verdict.header.control }
-    else if verdict.frames == 1 then record { code = code; octets = 0 }
+    if verdict.frames == 1 then record { code = code; octets = 0 }
+    else if nat_lt 0 verdict.foreign then record { code = verdict.foreign; octets = verdict.header.control }
     else no_message
 
 -- the counts with an exchange: by its size, if one of its messages has another one, else by its type
@@ -78,22 +77,16 @@ is_blank_kind _ = false
 abbrev pub taken_below : Others → LineVerdict → ℕ → Others
 taken_below others verdict code = if is_blank_kind verdict.kind then others else counted others (message_of verdict code)
 
--- whether a line has nothing but the answer to the outputs above it, which are those of a module of another size
+-- whether a line has nothing but the answer to the outputs above it, which are those of a module of another size; its first frame has
+-- this type
 abbrev pub answers_others : Others → LineVerdict → ℕ → Bool
 answers_others others verdict code =
-    not (is_blank_kind verdict.kind) && verdict.foreign == 0 && verdict.frames == 1 && code == SET_OUTPUTS_ANSWER
+    not (is_blank_kind verdict.kind) && verdict.frames == 1 && code == SET_OUTPUTS_ANSWER
     && others.above.code == SET_OUTPUTS && nat_lt 0 others.above.octets
 
--- the verdict on a line, whose first frame has this type: if that is such an answer, it says so
-abbrev pub told_below : Others → LineVerdict → ℕ → LineVerdict
-told_below others verdict code =
-    record verdict { foreign = if answers_others others verdict code then SET_OUTPUTS_ANSWER else verdict.foreign }
-
--- The verdict on a line, with these frames, is told by one that says nothing of such answers, and the line is counted.
-pub record HasTakenOthers (before : Others) (verdict : LineVerdict) (frames : List (List ℕ)) (after : Others) : Type 0 where
-  pub line : LineVerdict
-  pub tells : verdict ≡ told_below before line (code_of frames)
-  pub next : after ≡ taken_below before line (code_of frames)
+-- the message of a line that this protocol has not, or such an answer
+abbrev pub foreign_below : Others → LineVerdict → ℕ → ℕ
+foreign_below others verdict code = if answers_others others verdict code then SET_OUTPUTS_ANSWER else verdict.foreign
 
 -- whether messages of a type, or of a size, are no damage: more than a few exchanges have it; and a share of the messages of a type
 -- that this protocol has too

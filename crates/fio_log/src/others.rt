@@ -1,6 +1,6 @@
 //! Which messages that this protocol has not are no damage: those of which several exchanges show it.
 ghost use Rattle.std.specs.Prelude.{◌≡◌, slice_index};
-ghost use Rattle.fio_log.specs.Others.{answers_others, are_usual, counted, is_exchange, message_of, no_others, passed, passes, size_place, counted_at, taken_below, told_below};
+ghost use Rattle.fio_log.specs.Others.{answers_others, are_usual, counted, counted_at, foreign_below, is_exchange, message_of, no_others, passed, passes, size_place, taken_below};
 
 use crate::foreign::{Foreign, NONE};
 use crate::verdict::{Kind, LineVerdict};
@@ -73,17 +73,17 @@ fn is_exchange(above: Foreign, message: Foreign) -> bool
     above.code > 0 && message.code > ANSWER && message.code - ANSWER == above.code
 }
 
-/// Returns the message of a line: the one that this protocol has not, or that of its only frame, which has this type.
+/// Returns the message of a line: that of its only frame, which has this type, or the one that this protocol has not.
 fn message_of(verdict: &LineVerdict, code: u8) -> Foreign
     ensures { result ≡ message_of verdict.now code }
 {
-    if verdict.foreign > 0 {
+    if verdict.frames == 1 {
+        Foreign { code, octets: 0 }
+    } else if verdict.foreign > 0 {
         Foreign {
             code: verdict.foreign,
             octets: verdict.header.control,
         }
-    } else if verdict.frames == 1 {
-        Foreign { code, octets: 0 }
     } else {
         NONE
     }
@@ -104,20 +104,24 @@ impl Others {
         }
     }
 
-    /// Takes a line, whose first frame has this type; returns the verdict on it, which says if that answers another module's outputs.
-    pub(crate) fn take(&mut self, verdict: LineVerdict, code: u8) -> LineVerdict
-        ensures next { self.new ≡ taken_below self.old verdict code }
-        ensures tells { result ≡ told_below self.old verdict code }
+    /// Returns what `LineVerdict::foreign` says of a line, whose first frame has this type: 183 if it answers another module's outputs.
+    pub(crate) fn foreign_of(&self, verdict: &LineVerdict, code: u8) -> u8
+        ensures { result ≡ foreign_below self.now verdict.now code }
     {
-        let foreign = if self.is_answered_by(&verdict, code) {
+        if self.is_answered_by(verdict, code) {
             SET_OUTPUTS_ANSWER
         } else {
             verdict.foreign
-        };
-        if verdict.kind != Kind::Blank {
-            self.count(message_of(&verdict, code));
         }
-        LineVerdict { foreign, ..verdict }
+    }
+
+    /// Takes a line, whose first frame has this type.
+    pub(crate) fn take(&mut self, verdict: &LineVerdict, code: u8)
+        ensures { self.new ≡ taken_below self.old verdict.now code }
+    {
+        if verdict.kind != Kind::Blank {
+            self.count(message_of(verdict, code));
+        }
     }
 
     /// Returns whether a line has nothing but the answer to the outputs above it, which are those of a module of another size.
@@ -125,7 +129,6 @@ impl Others {
         ensures { result ≡ answers_others self.now verdict.now code }
     {
         verdict.kind != Kind::Blank
-            && verdict.foreign == 0
             && verdict.frames == 1
             && code == SET_OUTPUTS_ANSWER
             && self.above.code == SET_OUTPUTS

@@ -1,10 +1,12 @@
 //! The reader of a log: it turns octets into lines, and lines into verdicts.
+ghost use Rattle.fio_message.specs.declared.types.TheConstants.{SET_OUTPUTS_ANSWER};
 ghost use Rattle.std.specs.Prelude.{◌≡◌, ◌+◌, ◌≤◌, ◌<◌, ◌↔◌, true, false, None, Some, IfSome, IsSome, MatchOption, [], get_or, length, slice_index_or, take};
 ghost use Rattle.fio_log.specs.Blanks.{Texts, is_blank_line};
+ghost use Rattle.fio_log.specs.Frames.{code_of};
 ghost use Rattle.fio_log.specs.Heard.{Above};
 ghost use Rattle.fio_log.specs.Lines.{finished, is_whole, no_line};
 ghost use Rattle.fio_log.specs.OwnTexts.{spells};
-ghost use Rattle.fio_log.specs.Others.{HasTakenOthers, no_others, passed, passes};
+ghost use Rattle.fio_log.specs.Others.{answers_others, no_others, passed, passes, taken_below};
 ghost use Rattle.fio_log.specs.OwnVerdicts.{IsOwnVerdict, own_form_of};
 ghost use Rattle.fio_log.specs.Telling.{BeginsLog, HasNoMore, HasReadAsBefore, HasTaken, HasTold, HasToldLine, IsTextOf, KeepsVerdict, Knows, Stands, frames_of, has_told_all, places_of, read_at_end};
 ghost use Rattle.fio_log.specs.Verdicts.{WaitingAgrees};
@@ -306,7 +308,9 @@ impl Reader {
             → IfSome result (λ verdict. SaysWords (texts verdict.line).octets verdict.reason) }
         ensures blank { (texts : Texts) → Knows texts self.old → self.old.form ≡ Auto
             → IfSome result (λ verdict. verdict.kind ≡ Blank → is_blank_line (texts verdict.line) ≡ true) }
-        ensures others { IfSome result (λ verdict. HasTakenOthers self.old.others verdict (frames_of self.new) self.new.others) }
+        ensures counted { IfSome result (λ verdict. self.new.others ≡ taken_below self.old.others verdict (code_of (frames_of self.new))) }
+        ensures answers { IfSome result (λ verdict. answers_others self.old.others verdict (code_of (frames_of self.new)) ≡ true
+            → verdict.foreign ≡ SET_OUTPUTS_ANSWER) }
     {
         if !self.is_ready {
             return None;
@@ -338,7 +342,11 @@ impl Reader {
             places: self.frames.places(),
             ..verdict
         };
-        Some(self.others.take(told, self.frames.code()))
+        let code = self.frames.code();
+        let foreign = self.others.foreign_of(&told, code);
+        let told = LineVerdict { foreign, ..told };
+        self.others.take(&told, code);
+        Some(told)
     }
 
     /// Takes a line that has its verdict, by its kind and what `foreign` and `header.control` say of it; returns whether it is passed
