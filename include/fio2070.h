@@ -1133,7 +1133,8 @@ struct fio2070_log_verdict {
     uint8_t header;
     /** The type of the message that the line has in place of frames, if this protocol has none of that
      *  type; or 55, 180 or 181, if it is of a module of another size, with 1 to 32 octets of inputs or of
-     *  outputs other than 8; else 0. */
+     *  outputs other than 8; or 183, if its only frame answers such a 55 in the line above; else 0. Such a
+     *  line is passed over if that is no damage, and then what frames it gives are none of the link. */
     uint8_t foreign;
 };
 
@@ -1181,15 +1182,17 @@ void fio2070_log_start(struct fio2070_log_reader *reader, uint8_t form);
  * verdicts wait until the log shows its forms, at most for 1,024 lines or 64 KiB; later ones for the line below, if that shows
  * whether a message has ended. A frame over several lines is in the verdict of its last line, or of the line that shows its
  * end, with places in the lines above. Each frame is a message. Call it again with the octets that were not taken. What the
- * batch held before is overwritten.
+ * batch held before is overwritten. Lines with a `foreign` message are passed over once more than three exchanges show that it
+ * is no damage: those above the batch, and those in it.
  *
  * After fio2070_log_end it takes no octets until it has given each verdict. Octets then begin a new log of the same form,
  * whose lines are counted from 1.
  *
  * Proved are: which lines the octets make that it takes; that the verdicts in a batch are those of the next lines, each once
  * and in order, with all their frames and places; that the octets of each frame are a message; that a line with the reason
- * FIO2070_LOG_LOSS or FIO2070_LOG_HEADING has such words; and that a new log begins as said. How many octets it takes, when a
- * verdict is due and what else it says are tested. */
+ * FIO2070_LOG_LOSS or FIO2070_LOG_HEADING has such words; which lines are passed over, by what `foreign` says of those above
+ * and in the batch; and that a new log begins as said. How many octets it takes, when a verdict is due and what else it says
+ * are tested. */
 FIO2070_MUST_USE
 size_t fio2070_log_read(struct fio2070_log_reader *reader, const uint8_t *octets, size_t length,
                         struct fio2070_log_batch *batch);

@@ -191,9 +191,8 @@ class LogBatches(unittest.TestCase):
         self.assertEqual(batch.times(), [one.time or 0 for one in verdicts])
         self.assertEqual((batch.frame_counts(), batch.place_count), ([len(one.frames) for one in verdicts], sum(len(one.places) for one in verdicts)))
         self.assertEqual([fio2070.LogJudge().batch(fio2070.LogBatch()), fio2070.LogBatch().types()], [[], b''])
-        batch.set_kind(0, fio2070.constants.LOG_DAMAGED)
         batch.set_side(0, fio2070.constants.LOG_FROM_CPU)
-        self.assertEqual((batch.told(0).kind, batch.told(0).said, batch.kinds[0], batch.sides[0]), ('damaged', '>', 4, 1))
+        self.assertEqual((batch.told(0).said, batch.sides[0]), ('>', 1))
         self.assertEqual(batch.reasons, bytes(fio2070.log_batches._REASONS.index(one.reason) for one in verdicts))
         self.assertRaises(ValueError, fio2070.LogBatch, verdicts * 100)
 
@@ -219,14 +218,28 @@ class LogBatches(unittest.TestCase):
                 self.assertEqual([one for _, one in fio2070.LogJudge().batch(part)], expected)
         self.assertEqual(batch.verdicts(), verdicts)
 
-    def test_pass_over(self):
-        verdicts = [fio2070.Verdict(1, 'damaged', 'no message', (), (), None, '', b'', 55, 15), fio2070.Verdict(2, 'frames', '', (b'\xb7\0',), (), 7, '<', b'\x14', time_kind='day'),
-                    fio2070.Verdict(3, 'frames', '', (b'\x36\1',), (), None, '>')]
+    # Polls with their answers, and below the later ones outputs of a module of 16, and the answer to these.
+    OF_SIZES = ['> 36%02x\n< b6%02x0000%08x\n' % (number, number, number) + '> 37f0f0ffff\n< b70000000001\n' * (number > 19) for number in range(29)]
+
+    def test_passed_over(self):
+        """Messages of a module of another size, and the answers to them, are passed over, if more than three exchanges show that they are no
+        damage, above and in their own batch; it gives no frames of those."""
+        def told(pieces):
+            reader = fio2070.LogReader()
+            found = [one for piece in pieces for one in reader.read(piece.encode())] + reader.end()
+            return [(one.kind, one.foreign, one.size, len(one.frames)) for one in found]
+        polled = [('frames', 0, 0, 1)] * 2
+        damaged = polled + [('damaged', 55, 2, 0), ('frames', 183, 0, 1)]
+        passed = polled + [('passed over', 55, 2, 0), ('passed over', 183, 0, 0)]
+        for count, expected in ((23, damaged * 3), (24, passed * 4), (29, passed * 9)):
+            self.assertEqual(told([''.join(self.OF_SIZES[:count])]), polled * 20 + expected)
+        self.assertEqual(told(''.join(self.OF_SIZES).splitlines(keepends=True)), polled * 20 + damaged * 4 + passed * 5)
+
+    def test_made_of_sizes(self):
+        verdicts = [fio2070.Verdict(1, 'damaged', 'no message', (), (), None, '', b'', 55, 15), fio2070.Verdict(2, 'frames', '', (b'\xb7\0', b'\x36\1'), (), 7, '<', b'\x14', time_kind='day')]
         batch = fio2070.LogBatch(verdicts)
-        self.assertEqual((batch.verdicts(), batch.foreign, batch.sizes[0], batch.told(0).size), (verdicts, bytes([55, 0, 0]), 15, 15))
-        self.assertEqual((batch.last_type(2), batch.last_frames(1), batch.last_frames(9)), (54, [b'\x36\1'], [b'\xb7\0', b'\x36\1']))
-        batch.pass_over([1])
-        self.assertEqual(batch.verdicts(), [verdicts[0], fio2070.Verdict(2, 'passed over', 'no message', (), (), 7, '<', b'', 183, time_kind='day'), verdicts[2]])
+        self.assertEqual((batch.verdicts(), batch.foreign, batch.sizes[0], batch.told(0).size), (verdicts, bytes([55, 0]), 15, 15))
+        self.assertEqual((batch.last_frames(1), batch.last_frames(9)), ([b'\x36\1'], [b'\xb7\0', b'\x36\1']))
 
     def test_never_loads(self):
         """No lost line is a load of the counter, down to a load in the log."""

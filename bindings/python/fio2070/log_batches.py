@@ -5,7 +5,7 @@ import itertools
 import operator
 import struct
 import sys
-from typing import Collection, Iterable, Iterator, List, NamedTuple, Optional, Sequence, Tuple, cast
+from typing import Iterable, Iterator, List, NamedTuple, Optional, Sequence, Tuple, cast
 
 from . import _library as c
 from . import constants
@@ -27,6 +27,7 @@ _KIND, _REASON = c.CLogVerdict.kind.offset, c.CLogVerdict.reason.offset
 _TIME_KIND, _SAID = c.CLogVerdict.time_kind.offset, c.CLogVerdict.said.offset
 _FRAMES, _LINE, _TIME = c.CLogVerdict.frames.offset // 4, c.CLogVerdict.line.offset // 8, c.CLogVerdict.time.offset // 8
 _HEADER = c.CLogVerdict.address.offset // 4
+_OTHERS_ANSWER = constants.TYPE_SET_OUTPUTS + constants.TYPE_ANSWER
 
 
 def _header_of(word: int) -> bytes:
@@ -50,8 +51,8 @@ class Verdict(NamedTuple):
     without a time. `said` is '>' if the line says that the CPU sent these octets, '<' if the module, else empty. `header`
     is the address that stands before the message, and the control octet if there is one; empty if there is none, or the frames of the
     line have not all the same. `foreign` is the type of the message that the line has in place of frames, if this protocol has none of that
-    type; or 55, 180 or 181, if that message has `size` octets of inputs or of outputs, other than 8: of a module of another size; else
-    0."""
+    type; or 55, 180 or 181, if that message has `size` octets of inputs or of outputs, other than 8: of a module of another size; or 183,
+    if the line has the answer to such a 55 in the line above; else 0."""
     line: int
     kind: str
     reason: str
@@ -161,7 +162,7 @@ class LogBatch:
     @property
     def foreign(self) -> bytes:
         """Of each line the type of the message that it has in place of frames, if this protocol has none of that type, or none of that
-        size; else 0."""
+        size; 183 of the answer to such a 55; else 0."""
         return self._each(c.CLogVerdict.foreign.offset)
 
     @property
@@ -204,11 +205,6 @@ class LogBatch:
             end -= length
         return found[::-1]
 
-    def last_type(self, line: int) -> int:
-        """The type of the frame of a line, below which no line has frames; 0 if it has none, or several."""
-        end, count = self._batch.octet_count, self.frame_count
-        return int(self._octets[end - self._batch.lengths[count - 1]]) if self._batch.verdicts[line].frames == 1 else 0
-
     def types(self) -> bytes:
         """The type of each frame, 0 of one without octets."""
         lengths = self._lengths.cast('H')[:self.frame_count].tolist()
@@ -216,25 +212,22 @@ class LogBatch:
         types = bytes(operator.itemgetter(*begins, 0)(bytes(self._octets[:self._batch.octet_count]) + b'\0'))[:len(lengths)]
         return types if 0 not in lengths else bytes(length and code for length, code in zip(lengths, types))
 
-    def set_kind(self, index: int, kind: int) -> None:
-        """Changes the kind of a line, one of `constants.LOG_BLANK` and those after it."""
-        self._batch.verdicts[index].kind = kind
-
     def set_side(self, index: int, side: int) -> None:
         """Changes who sent the frames of a line, as it says, one of `constants.LOG_NO_SIDE` and those after it."""
         self._batch.verdicts[index].said = side
 
-    def pass_over(self, lines: Collection[int]) -> None:
-        """Takes the frames of lines out, each of which gives some: it is passed over then, as with a message of the type of its first frame
-        that this protocol has not. The batch has no places afterwards."""
-        frames, begins = self.frames(), list(itertools.accumulate(self.frame_counts(), initial=0))
-        for line in lines:
-            one = self._batch.verdicts[line]
-            one.kind, one.reason, one.foreign = constants.LOG_PASSED_OVER, constants.LOG_NO_MESSAGE, frames[begins[line]][0]
-            one.frames = one.address = one.control = one.header = 0
-        gone = {frame for line in lines for frame in range(begins[line], begins[line + 1])}
-        left = [octets for frame, octets in enumerate(frames) if frame not in gone]
+    def _drop_passed(self) -> 'LogBatch':
+        """Takes the frames of lines out that are passed over: the answers to messages of modules of another size. The batch has no places
+        afterwards if there are any."""
+        if _OTHERS_ANSWER not in self.foreign:
+            return self
+        kinds, frames, begins = self.kinds, self.frames(), list(itertools.accumulate(self.frame_counts(), initial=0))
+        gone = {line for line in range(len(self)) if kinds[line] == constants.LOG_PASSED_OVER and begins[line] < begins[line + 1]}
+        left = [frame for line in range(len(self)) if line not in gone for frame in frames[begins[line]:begins[line + 1]]]
+        for line in gone:
+            self._batch.verdicts[line].frames = 0
         self._fill(bytes(self._verdicts[:_VERDICT.size * len(self)]), array.array('H', map(len, left)).tobytes(), b''.join(left))
+        return self
 
     def parts(self, masks: Iterable[bytes]) -> Iterator['LogBatch']:
         """For each mask this batch with blank lines in place of some, and without places, until the next one: the mask has 1 for each line

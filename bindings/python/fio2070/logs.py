@@ -63,7 +63,7 @@ class LogReader:
             while piece:
                 piece = piece[c.library.fio2070_log_read(self._reader, piece, len(piece), batch._batch):]
                 if batch:
-                    yield batch
+                    yield batch._drop_passed()
 
     def last_batches(self) -> Iterator[LogBatch]:
         """Ends the log, and yields the verdicts on all lines that had none."""
@@ -72,7 +72,7 @@ class LogReader:
             c.library.fio2070_log_read(self._reader, b'', 0, self._batch._batch)
             if not self._batch:
                 return
-            yield self._batch
+            yield self._batch._drop_passed()
 
     def read(self, octets: Octets) -> List[Verdict]:
         """Takes the next octets of the log, and returns the verdicts that are due, in the order of the lines. The first ones wait until

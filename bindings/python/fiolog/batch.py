@@ -12,8 +12,8 @@ from fio2070.constants import LOG_BLANK, LOG_BROKEN, LOG_DAMAGED, LOG_FROM_CPU, 
 from fio2070.constants import LOG_POSSIBLE, LOG_SAYS, TYPE_ANSWER, TYPE_POLL
 
 from .event import BAD, BELOW, BLANK, DAMAGED, DROPPED, FRAME, PART, PASSED, POSSIBLE, REMARKS, Line, seconds_of
-from .foreign import note_of
 from .log_words import REASONS
+from .sizes import note_of
 
 # The most lines of a batch that is made of events, and the most octets of its frames.
 MOST_LINES, MOST_OCTETS = 4096, 1 << 16

@@ -4,6 +4,3 @@ page."""
 # The most addresses that are those of stations: more are counts or the like. One answer in so many may have another address than the
 # command above. A silent station has so many frames, at least one in so many: fewer may have a digit that is wrong.
 STATIONS = {'most': 32, 'odd': 8, 'silent': 4, 'share': 64}
-# More exchanges of one type that this protocol has not, or of one size, are no damage; and of the messages of a type that this protocol
-# has too, at least one in so many has that size.
-FOREIGN = {'usual': 3, 'share': 4}

@@ -7,11 +7,11 @@ import fio2070
 
 from .batch import Batch, made_of
 from .event import DAMAGED, LONGEST_TEXT, OTHER, PASSED, frame_of
-from .foreign import Foreign
 from .line import OWN, ROWS, Beginning, Raw, addressed
 from .log_words import REASONS
 from .options import FORMS
 from .output import Refused
+from .sizes import Sizes
 
 
 class Texts:
@@ -63,7 +63,7 @@ class Found(Texts):
         super().__init__()
         self.library, self.form, self.addresses = fio2070.LogReader(form), form, addresses
         self.told = 0   # the last line with a verdict
-        self.foreign = Foreign()
+        self.sizes = Sizes()
         if like and not self.library.like(b'\n'.join(like) + b'\n'):
             raise Refused('--like: these lines show no message and how it is written, such as `TX 36 05`')
 
@@ -89,7 +89,7 @@ class Found(Texts):
     def _batches(self, batches):
         for said in batches:
             self.told = said.line(len(said) - 1)
-            self.foreign.take(said)
+            self.sizes.count(said)
             batch = Batch(said, self.form == 'transcript', raw_of=self.of)
             if self.form == 'auto' and self.addresses:
                 yield from made_of([addressed(event, self.addresses) for event in batch.events()])
@@ -215,7 +215,7 @@ class Reader:
 
     def sizes(self):
         """What is said of modules of another size."""
-        return self.way.foreign.words() if isinstance(self.way, Found) else ()
+        return self.way.sizes.words() if isinstance(self.way, Found) else ()
 
     def _counted(self, batch):
         """A batch, of which is counted what its lines are."""

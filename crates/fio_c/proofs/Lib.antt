@@ -17,5 +17,6 @@ pub mod LogParts
 pub mod TakenLines
 pub mod PartLaws
 pub mod Returned
+pub mod OtherLines
 pub mod Lent
 pub mod TakenOctets

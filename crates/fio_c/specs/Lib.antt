@@ -2,6 +2,7 @@ pub mod Checkers
 pub mod Judges
 pub mod Flat
 pub mod Given
+pub mod LogOthers
 pub mod Logs
 pub mod Told
 pub mod BatchItems

@@ -22,6 +22,7 @@ use Rattle.fio_log.specs.declared.verdict.Kind.TheVariants as kinds
 use Rattle.fio_log.specs.declared.verdict.Reason.{Reason}
 use Rattle.fio_log.specs.declared.verdict.Reason.TheVariants as reasons
 use Rattle.fio_log.specs.declared.verdict.LineVerdict.{LineVerdict}
+use Rattle.fio_c.specs.LogOthers.{below_lines, passed_lines}
 use Rattle.fio_c.specs.Told.{AreLinesAfter, HasReadOf, IsVerdictOf, ReturnsAll, Told}
 use Rattle.fio_c.specs.declared.log_forms.LogReadAs.{LogReadAs}
 use Rattle.fio_c.specs.declared.log_batch.TheConstants.{LOG_OCTETS, LOG_VERDICTS, VERDICT_OCTETS}
@@ -235,8 +236,18 @@ pub record IsReadFrom (before : Telling) (text : List ℕ) (from : Telling) : Ty
   pub untold : has_told_all before ≡ false → from ≡ before
   pub empty : text ≡ [] → from ≡ before
 
--- A reader has taken octets of a text, and has returned all verdicts that are in a batch.
+-- Lines of a batch that a reader has returned are passed over by all that it has counted. Their frames and places stay in the batch.
+pub record HasPassedOthers (before : Telling) (told : LogBatch) (after : Telling) (batch : LogBatch) : Type 0 where
+  pub lines : (content : Content) → Holds told content
+      → Holds batch (record content { verdicts = passed_lines before.others content.verdicts })
+  pub count : batch.verdict_count ≡ told.verdict_count
+  pub reader : after ≡ record before { others = below_lines before.others (take told.verdict_count told.verdicts) }
+
+-- A reader has taken octets of a text, and has returned all verdicts that are in a batch, of which some are passed over.
 pub record HasRead (before : Telling) (text : List ℕ) (taken : ℕ) (after : Telling) (batch : LogBatch) : Type 0 where
   pub from : Telling
   pub begun : IsReadFrom before text from
-  pub read : HasReadOn from text taken after batch
+  pub reader : Telling
+  pub told : LogBatch
+  pub read : HasReadOn from text taken reader told
+  pub passed : HasPassedOthers reader told after batch

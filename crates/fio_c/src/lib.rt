@@ -26,7 +26,7 @@
 //!
 //! The definitions are in `specs/`: flat forms of commands, answers and blocks (`Flat`), what C gives to write a message
 //! (`Given`, whose laws are the contracts of the module `laws`), checkers (`Checkers`), the judge of a
-//! link (`Judges`), the judge of a log (`LogJudges`), logs (`Logs`, `Told`), batches of the reader (`BatchItems`), parts of these (`LogParts`,
+//! link (`Judges`), the judge of a log (`LogJudges`), logs (`Logs`, `Told`, `LogOthers`), batches of the reader (`BatchItems`), parts of these (`LogParts`,
 //! `TakenLines`, `PartLaws`), counts
 //! (`LogCounts`), texts (`Texts`), versions (`Version`), lines (`Wires`), paces (`Plans`). `fio_flat` has the other structs, and what calls do to
 //! them and to the caller's arrays.
@@ -49,8 +49,8 @@
 //!
 //! `fio2070_log_start` sets the octets of its reader, which may be fewer than the room. The verdicts that `fio2070_log_read`
 //! puts into a batch are those that `Reader` of `fio_log` returns of the next lines, each once, in order and no other, octet
-//! for octet, with all their frames and places (see `HasRead` and `HasVerdicts` in `specs/Logs.antt`); what is proved of `Reader` is
-//! true of the batch. A call makes progress: if its batch has no verdict, it took all octets, and after
+//! for octet, with all their frames and places (see `HasRead` and `HasVerdicts` in `specs/Logs.antt`), but that lines with messages that
+//! this protocol has not are passed over, as `specs/LogOthers.antt` says; what is proved of `Reader` is true of all others. A call makes progress: if its batch has no verdict, it took all octets, and after
 //! the end of the log each line has had its verdict. When a log has ended and all its verdicts are given, octets begin another
 //! log of the same form (see `IsReadFrom`). `fio2070_log_end` makes the octets after the last line end the last line, and keeps a
 //! verdict that is ready (see `HasEnded`).
@@ -76,6 +76,7 @@ mod log_counts;
 mod log_forms;
 mod log_judge;
 mod log_judge_batch;
+mod log_others;
 mod log_parts;
 mod log_signs;
 mod log_stretches;

@@ -11,6 +11,7 @@ ghost use Rattle.fio_log.specs.contracts.reader.Reader.{the_row as ReaderRow};
 ghost use Rattle.fio_c.specs.Logs.{HasBegun, HasEnded, HasRead, HasReadOn, IsReadFrom, form_of};
 
 use crate::log_batch::LogBatch;
+use crate::log_others::pass_over;
 use crate::log_verdicts::fill;
 use fio_log::{Form, Reader};
 
@@ -39,7 +40,7 @@ pub unsafe extern "C" fn fio2070_log_start(reader: *mut LogReader, form: u8)
 }
 
 /// Takes octets of the log until all are taken or the batch has no more room, and returns how many it took. The batch then has
-/// the verdicts that were due. Pass octets that were not taken again. After the end of a log, once each of its verdicts was
+/// the verdicts that were due, and passes over messages that this protocol has not by all of them. Pass octets that were not taken again. After the end of a log, once each of its verdicts was
 /// returned, octets begin a new log of the same form.
 #[unsafe(no_mangle)]
 pub unsafe extern "C" fn fio2070_log_read(
@@ -90,7 +91,9 @@ fn read_log(reader: &mut Reader, octets: &[u8], batch: &mut LogBatch) -> usize
     ensures { HasRead reader.old octets.now result reader.new batch.new }
 {
     begin_next(reader, octets);
-    read_on(reader, octets, batch)
+    let taken = read_on(reader, octets, batch);
+    pass_over(reader, batch);
+    taken
 }
 
 /// Begins the next log, if octets come after the end of a log whose verdicts are all returned.

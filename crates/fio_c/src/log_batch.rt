@@ -49,7 +49,8 @@ pub struct LogVerdict {
     /// How many of these there are: 0, 1 for the address alone, or 2.
     pub header: u8,
     /// The type of the message that the line has in place of frames, if this protocol has none of that type; or 55, 180 or 181, if it is of
-    /// a module of another size, with 1 to 32 octets of inputs or of outputs other than 8; else 0.
+    /// a module of another size, with 1 to 32 octets of inputs or of outputs other than 8; or 183, if its only frame answers such a 55 in
+    /// the line above; else 0. Such a line is passed over if that is no damage, and then what frames it gives are none of the link.
     pub foreign: u8,
 }
 

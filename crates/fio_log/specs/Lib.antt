@@ -18,3 +18,4 @@ pub mod Following
 pub mod LineLogs
 pub mod Foreign
 pub mod Addresses
+pub mod Others

@@ -10,6 +10,7 @@ use Rattle.fio_log.specs.Knowing.{IsLineAt, KnowsLines}
 use Rattle.fio_log.specs.Verdicts.{Agrees}
 use Rattle.fio_log.specs.Lines.{Making, finished, is_whole, lines_after, only, with_making}
 use Rattle.fio_guess.specs.declared.table.TheConstants.{LINES}
+use Rattle.fio_log.specs.declared.others.Others.{Others}
 use Rattle.fio_log.specs.declared.places.Place.{Place}
 use Rattle.fio_log.specs.declared.teller.Teller.{Teller}
 use Rattle.fio_log.specs.declared.verdict.Form.{Form}
@@ -17,8 +18,8 @@ use Rattle.fio_log.specs.declared.verdict.Form.TheVariants.{Auto}
 use Rattle.fio_log.specs.declared.verdict.LineVerdict.{LineVerdict}
 
 -- A reader: how it reads, the line that is being made, how many lines are read, how many verdicts are returned, whether the
--- next one can be returned, and whether the log has ended; the frames of the last verdict; and what is kept of the lines without
--- a verdict.
+-- next one can be returned, and whether the log has ended; the frames of the last verdict; what is kept of the lines without
+-- a verdict; and what is counted of messages that this protocol has not.
 pub record Telling : Type 0 where
   pub form : Form
   pub making : Making
@@ -28,6 +29,7 @@ pub record Telling : Type 0 where
   pub is_ended : Bool
   pub last : Frames
   pub teller : Teller
+  pub others : Others
 
 -- the frames of the last verdict
 abbrev pub frames_of : Telling → List (List ℕ)

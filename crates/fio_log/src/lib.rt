@@ -31,8 +31,8 @@
 //! what a verdict says (`Verdicts`, `OwnVerdicts`), what a reader has read and returned (`Telling`), how many lines wait
 //! (`Waiting`), what is known of them (`Knowing`), what is heard of a line by the forms and said of that (`Heard`), from one line to the
 //! next (`Following`), in a log of lines by themselves (`LineLogs`), by the forms that are known (`KnownForms`), digits that
-//! go on after octets (`Spoilt`), the sizes that messages of other modules have (`Foreign`), and whether octets before messages are
-//! addresses (`Addresses`).
+//! go on after octets (`Spoilt`), the sizes that messages of other modules have (`Foreign`), which of those that this protocol has not
+//! are no damage (`Others`), and whether octets before messages are addresses (`Addresses`).
 //!
 //! # What is proved
 //!
@@ -55,7 +55,8 @@
 //! nothing beside them, and lines whose octets are damaged are damaged (`lines_by_themselves_are_told`). Octets that may go on are a
 //! part, and octets without a message are passed over. Such a line is damaged only if it is too long, has NULs, or
 //! digits that go on after its octets, or would be the 513th row of a message. A message of any length that ends with a line, since the
-//! next one does not go on with it or the log ends, is its only frame.
+//! next one does not go on with it or the log ends, is its only frame. What is counted of messages that this protocol has not is counted
+//! line by line (`others`), and `Reader::passes` says by that whether a line with one is passed over.
 //!
 //! Not proved: which forms a reader has; whether an echo is one of the frame above; which messages a stream has, the further messages
 //! of a line, where frames are; what a line is that no form has, and what the last line of a log has that ends within a stream. All
@@ -82,6 +83,7 @@ pub mod laws;
 mod learning;
 mod lines;
 mod middle;
+mod others;
 mod own_texts;
 mod own_verdicts;
 mod parts;

@@ -1,9 +1,12 @@
 //! The reader of a log: it turns octets into lines, and lines into verdicts.
+ghost use Rattle.fio_message.specs.declared.types.TheConstants.{SET_OUTPUTS_ANSWER};
 ghost use Rattle.std.specs.Prelude.{◌≡◌, ◌+◌, ◌≤◌, ◌<◌, ◌↔◌, true, false, None, Some, IfSome, IsSome, MatchOption, [], get_or, length, slice_index_or, take};
 ghost use Rattle.fio_log.specs.Blanks.{Texts, is_blank_line};
+ghost use Rattle.fio_log.specs.Frames.{code_of};
 ghost use Rattle.fio_log.specs.Heard.{Above};
 ghost use Rattle.fio_log.specs.Lines.{finished, is_whole, no_line};
 ghost use Rattle.fio_log.specs.OwnTexts.{spells};
+ghost use Rattle.fio_log.specs.Others.{answers_others, no_others, passed, passes, taken_below};
 ghost use Rattle.fio_log.specs.OwnVerdicts.{IsOwnVerdict, own_form_of};
 ghost use Rattle.fio_log.specs.Telling.{BeginsLog, HasNoMore, HasReadAsBefore, HasTaken, HasTold, HasToldLine, IsTextOf, KeepsVerdict, Knows, Stands, frames_of, has_told_all, places_of, read_at_end};
 ghost use Rattle.fio_log.specs.Verdicts.{WaitingAgrees};
@@ -14,7 +17,9 @@ ghost use Rattle.fio_log.specs.declared.verdict.Form.TheVariants.{Auto};
 ghost use Rattle.fio_log.specs.declared.own_texts.OwnForm.{OwnForm};
 
 use crate::counts::ReadAs;
+use crate::foreign::Foreign;
 use crate::lines::LineMaker;
+use crate::others::Others;
 use crate::places::Place;
 use crate::teller::{At, Teller};
 use crate::told::Told;
@@ -38,6 +43,8 @@ pub struct Reader {
     form: Form,
     /// The verdict on the last line, if `form` names one of the program's own texts.
     own: LineVerdict,
+    /// What is counted of messages that this protocol has not.
+    others: Others,
     /// How many lines are read, and of how many the verdict was returned.
     read: u64,
     told: u64,
@@ -66,6 +73,7 @@ impl Model for Reader {
       is_ended = r.is_ended;
       last = r.frames;
       teller = r.teller;
+      others = r.others;
     } };
 
     ghost invariant = { λ r. (r.told ≤ r.read)
@@ -89,6 +97,7 @@ impl Reader {
         ensures form { result.form ≡ form }
         ensures knows { (texts : Texts) → Knows texts result }
         ensures begins { BeginsLog result }
+        ensures others { result.others ≡ no_others }
     {
         Reader {
             maker: LineMaker::new(),
@@ -96,6 +105,7 @@ impl Reader {
             frames: Told::new(),
             form,
             own: LineVerdict::of(0, Kind::Blank, Reason::None, None),
+            others: Others::new(),
             read: 0,
             told: 0,
             is_ready: false,
@@ -112,11 +122,13 @@ impl Reader {
         ensures form { self.new.form ≡ self.old.form }
         ensures knows { (texts : Texts) → Knows texts self.new }
         ensures begins { BeginsLog self.new }
+        ensures others { self.new.others ≡ no_others }
     {
         self.maker.restart();
         self.teller.start_again();
         self.frames.clear();
         self.own = LineVerdict::of(0, Kind::Blank, Reason::None, None);
+        self.others = Others::new();
         self.read = 0;
         self.told = 0;
         self.is_ready = false;
@@ -167,6 +179,7 @@ impl Reader {
         ensures knows { (texts : Texts) → Knows texts self.old → IsTextOf texts self.new → Knows texts self.new }
         ensures stands { (texts : Texts) (above : Above) → Knows texts self.old → Stands texts above self.old → IsTextOf texts self.new
             → Stands texts above self.new }
+        ensures others { self.new.others ≡ self.old.others }
     {
         if self.is_ready || self.is_ended || self.read == u64::MAX || octets.is_empty() {
             return 0;
@@ -210,6 +223,7 @@ impl Reader {
         ensures knows { (texts : Texts) → Knows texts self.old → IsTextOf texts self.new → Knows texts self.new }
         ensures stands { (texts : Texts) (above : Above) → Knows texts self.old → Stands texts above self.old → IsTextOf texts self.new
             → Stands texts above self.new }
+        ensures others { self.new.others ≡ self.old.others }
     {
         if self.is_ended {
             return;
@@ -247,6 +261,7 @@ impl Reader {
         ensures knows { (texts : Texts) → Knows texts self.old → IsTextOf texts self.new → Knows texts self.new }
         ensures stands { (texts : Texts) (above : Above) → Knows texts self.old → Stands texts above self.old → IsTextOf texts self.new
             → Stands texts above self.new }
+        ensures others { self.new.others ≡ self.old.others }
     {
         if self.read == u64::MAX || self.maker.is_whole() {
             return;
@@ -293,6 +308,9 @@ impl Reader {
             → IfSome result (λ verdict. SaysWords (texts verdict.line).octets verdict.reason) }
         ensures blank { (texts : Texts) → Knows texts self.old → self.old.form ≡ Auto
             → IfSome result (λ verdict. verdict.kind ≡ Blank → is_blank_line (texts verdict.line) ≡ true) }
+        ensures counted { IfSome result (λ verdict. self.new.others ≡ taken_below self.old.others verdict (code_of (frames_of self.new))) }
+        ensures answers { IfSome result (λ verdict. answers_others self.old.others verdict (code_of (frames_of self.new)) ≡ true
+            → verdict.foreign ≡ SET_OUTPUTS_ANSWER) }
     {
         if !self.is_ready {
             return None;
@@ -318,12 +336,32 @@ impl Reader {
         };
         let is_heard = next_is_heard(self.form, &self.maker, here, &mut self.teller);
         self.is_ready = can_tell(here, is_heard);
-        Some(LineVerdict {
+        let told = LineVerdict {
             line: self.told,
             frames: self.frames.frames(),
             places: self.frames.places(),
             ..verdict
-        })
+        };
+        let code = self.frames.code();
+        let foreign = self.others.foreign_of(&told, code);
+        let told = LineVerdict { foreign, ..told };
+        self.others.take(&told, code);
+        Some(told)
+    }
+
+    /// Takes a line that has its verdict, by its kind and what `foreign` and `header.control` say of it; returns whether it is passed
+    /// over as it has a message that this protocol has not. All lines that have their verdicts show whether that is no damage.
+    pub fn passes(&mut self, kind: Kind, foreign: u8, size: u8) -> bool
+        ensures tells { result ≡ passes self.old.others kind (record { code = foreign; octets = size }) }
+        ensures next { self.new ≡ record self.old { others = passed self.old.others kind (record { code = foreign; octets = size }) } }
+    {
+        self.others.pass(
+            kind,
+            Foreign {
+                code: foreign,
+                octets: size,
+            },
+        )
     }
 
     /// Returns a frame of the last verdict, until the next call that changes the reader.

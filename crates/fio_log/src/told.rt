@@ -2,7 +2,7 @@
 ghost use Rattle.std.specs.Prelude.{◌≡◌, ◌+◌, ◌<◌, ◌≤◌, ◌↔◌, ◌++◌, ◌∷◌, [], IsSome, IfSome, IsTrue, IsFalse, length, slice_index_or, true};
 ghost use Rattle.std.specs.List.{All};
 ghost use Rattle.fio_guess.specs.Lines.{GoUp, parts_of};
-ghost use Rattle.fio_log.specs.Frames.{AreFew};
+ghost use Rattle.fio_log.specs.Frames.{AreFew, code_of};
 ghost use Rattle.fio_log.specs.OwnTexts.{spells};
 ghost use Rattle.fio_log.specs.declared.told.TheConstants.{TOLD_FRAMES, TOLD_OCTETS, TOLD_PLACES};
 
@@ -123,6 +123,16 @@ impl Told {
             return None;
         }
         Some(frame_in(&self.octets, &self.ends, index))
+    }
+
+    /// Returns the type of the first frame; 0 if there is none.
+    pub(crate) fn code(&self) -> u8
+        ensures { result ≡ code_of self.now.frames }
+    {
+        match self.frame(0) {
+            Some(octets) => octets.first().copied().unwrap_or(0),
+            None => 0,
+        }
     }
 
     /// Returns a place, from 0 on.

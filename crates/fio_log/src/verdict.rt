@@ -84,7 +84,8 @@ pub struct LineVerdict {
     /// The header of its frames, if all have one and the same.
     pub header: FrameHeader,
     /// The type of the message that the line has in place of frames, if this protocol has none of that type; or 55, 180 or 181, if it
-    /// has another number of octets of inputs or outputs, which `header.control` says: of a module of another size; else 0.
+    /// has another number of octets of inputs or outputs, which `header.control` says: of a module of another size; or 183, if its only
+    /// frame answers such a 55 in the line above; else 0.
     pub foreign: u8,
 }
 

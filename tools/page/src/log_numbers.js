@@ -2,4 +2,3 @@
 // tools/generate-messages.
 
 export const STATIONS = { most: 32, odd: 8, silent: 4, share: 64 };
-export const FOREIGN = { usual: 3, share: 4 };

@@ -3,13 +3,13 @@
 
 import { isCapture, linesOfCapture } from './captures.js';
 import { LOG_FORMS, LOG_KINDS, LOG_REASONS, LOG_SIDES } from './constants.js';
-import { Foreign, foreignText } from './foreign.js';
 import { fromHex } from './hex.js';
 import { FIRST_ANSWER } from './library.js';
 import { UNSEEN } from './log_reader.js';
 import { REASONS } from './log_words.js';
 import { counted, withCommas } from './dom.js';
 import { MARKS, MessageList } from './messagelist.js';
+import { Sizes, noteOf } from './sizes.js';
 import { part } from './slices.js';
 
 // The year 10000, which no time of a log has.
@@ -61,7 +61,6 @@ const DROPPED = [LOG_REASONS.more, LOG_REASONS.broken];
 export function* readLog(library, logReader, octets, form) {
   const lines = yield* part(0, 0.1, linesOf(octets, form)), found = new Found(lines, form, octets.length);
   for (const [verdicts, share] of logReader.read(octets, form)) {
-    found.foreign.take(verdicts);
     for (const verdict of verdicts) {
       found.add(verdict);
     }
@@ -78,7 +77,7 @@ export class Found extends MessageList {
   constructor(texts, form, octets) {
     super(texts.length, octets);
     // How many lines have a verdict, and how many are blank.
-    Object.assign(this, { texts, form, forms: [], passed: new Map(), told: 0, blanks: 0, foreign: new Foreign() });
+    Object.assign(this, { texts, form, forms: [], passed: new Map(), told: 0, blanks: 0, sizes: new Sizes() });
     // How many frames there are; how many have the direction of their type in the log's words, and how many the other one.
     Object.assign(this, { sure: 0, agreeing: 0, reversed: 0 });
   }
@@ -92,7 +91,7 @@ export class Found extends MessageList {
     const said = ({ front, lines, damaged, isEcho }) => `read as “${front}” and octets: ${counted(lines, 'line')}`
       + (damaged > 0 ? `, ${withCommas(damaged)} damaged` : '') + (isEcho ? ', which repeat the messages above' : '');
     const read = this.forms.reduce((sum, { lines }) => sum + lines, 0), others = this.told - this.blanks - read;
-    return [...this.forms.map(said), ...read > 0 && others > 0 ? [`no form: ${counted(others, 'line')}`] : [], ...this.foreign.remarks];
+    return [...this.forms.map(said), ...read > 0 && others > 0 ? [`no form: ${counted(others, 'line')}`] : [], ...this.sizes.remarks];
   }
 
   textOf(line) {
@@ -102,6 +101,7 @@ export class Found extends MessageList {
   add(verdict) {
     const { line, kind, reason, foreign } = verdict, isDropped = DROPPED.includes(reason);
     this.told += 1;
+    this.sizes.count(verdict);
     if (kind === LOG_KINDS.blank) this.blanks += 1;
     if (isDropped) this.addDamaged(line, REASONS[reason], { isBeside: kind === LOG_KINDS.says });
     if (kind === LOG_KINDS.says) {
@@ -113,7 +113,7 @@ export class Found extends MessageList {
     else if (kind === LOG_KINDS.damaged) this.addDamaged(line, `damaged: ${REASONS[reason]}`);
     else if (kind === LOG_KINDS.passedOver && this.form !== LOG_FORMS.auto) this.addBad(line);
     else if (kind === LOG_KINDS.passedOver) {
-      const why = foreign > 0 ? foreignText(foreign) : REASONS[reason];
+      const why = foreign > 0 ? noteOf(foreign) : REASONS[reason];
       this.passed.set(why, (this.passed.get(why) || 0) + 1);
       this.mark(MARK_OF[reason] || 0);
     }

@@ -177,7 +177,8 @@ pub struct Verdict<'a> {
     pub address: Option<u8>,
     /// The control octet behind the address.
     pub control: Option<u8>,
-    /// The type of the message that the line has in place of frames, if this protocol has none of that type, or none of that size.
+    /// The type of the message that the line has in place of frames, if this protocol has none of that type, or none of that size; or
+    /// 183, if its only frame answers such a 55 in the line above. If such a line is passed over, no frame of it is one of the link.
     pub foreign: Option<u8>,
     /// How many octets of inputs or of outputs that message has, if it is a 55, 180 or 181 of a module of another size.
     pub size: Option<u8>,
