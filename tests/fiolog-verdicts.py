@@ -8,7 +8,9 @@ import tempfile
 from support.check import Check
 from support.fiolog import fiolog, use_library, written
 from support.kinds import KINDS, LIKE, LITTLE, LOST, blocks, polls
+from support.loggers import LOGGERS
 from support.pages import text_of
+from support.talking import session
 
 
 def check_beginning(check):
@@ -246,11 +248,31 @@ def check_hints(check):
                         'try --at module' in fiolog('check', '--at', place, text=text).err)
 
 
+# The word by which a form says that a command was sent.
+SENT = {'TX and RX': 'TX', 'CPU and FIO': 'CPU', 'WRITE and READ': 'WRITE', 'counts': 'TX', 'ISO times': 'tx', 'German times': 'gesendet',
+        'US times': 'Sent', 'JSON lines': 'tx', 'Python bytes': 'sent', 'syslog': 'TX', 'Python logging': 'tx'}
+
+
+def check_sent_again(check):
+    """A poll that was sent again is no copy, though a word of its own says so, however many there are: one that is written below each command is."""
+    for form, word in SENT.items():
+        for name, losses in (('one in five', 5), ('each one', 2)):
+            frames = session(60, 0.05, losses)
+            again = [place > 0 and one[2] == frames[place - 1][2] for place, one in enumerate(frames)]
+            lines = [LOGGERS[form]([one]) for one in frames]
+            done = fiolog('check', text=''.join(line.replace(word, 'RETRY', 1) if is_again else line for line, is_again in zip(lines, again)))
+            check.equal('sent again, %s, %s' % (name, form), (0, [str(len(frames))], [str(sum(again))], []),
+                        (done.status, done.found(r'^frames (\d+)'), done.found(r'answers lost (\d+)'), done.found('^not judged: (.*)')))
+        copies = [line.replace(word, 'ECHO', 1) * (one[1] == '>') for line, one in zip(lines, frames)]
+        done = fiolog('check', text=''.join(line + copy for line, copy in zip(lines, copies)))
+        check.equal('written again, ' + form, ([str(len(frames))], []), (done.found(r'^frames (\d+)'), done.found(r'^line \d+: (\w+)')))
+
+
 def main():
     check = Check()
     use_library(check, 'what fiolog judges')
     for part in (check_beginning, check_except, check_explained, check_places, check_messages, check_unseen, check_said, check_hints, check_cures,
-                 check_few):
+                 check_few, check_sent_again):
         part(check)
     with tempfile.TemporaryDirectory() as folder:
         check_statuses(check, folder)

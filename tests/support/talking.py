@@ -4,8 +4,8 @@ ALL_ONES = 2 ** 64 - 1
 LOSSES = 5      # one answer in this many is lost
 
 
-def rounds(count):
-    """What is sent and heard in this many rounds, after a configuration of input 0."""
+def rounds(count, losses=LOSSES):
+    """What is sent and heard in this many rounds, after a configuration of input 0; one answer in `losses` is lost."""
     from fio2070 import ConfigurationItem, Module, Poller, encode
     module, poller = Module(), Poller(255)
     configuration = encode.configure_inputs([ConfigurationItem(0, False, 1, 1)])
@@ -16,14 +16,14 @@ def rounds(count):
         poll = poller.poll()
         answer = module.receive(poll)
         yield '>', poll
-        if number % LOSSES:
+        if number % losses:
             poller.hear(answer)
             yield '<', answer
 
 
-def session(count, apart=0.01):
+def session(count, apart=0.01, losses=LOSSES):
     """The same with times, `apart` seconds after each other."""
-    return [(round(apart * place, 3), direction, octets) for place, (direction, octets) in enumerate(rounds(count))]
+    return [(round(apart * place, 3), direction, octets) for place, (direction, octets) in enumerate(rounds(count, losses))]
 
 
 def main():

@@ -1,5 +1,5 @@
 //! Forms whose messages repeat those of others.
-use crate::evidence::{is_copy, is_echo};
+use crate::evidence::{are_sent_again, is_copy, is_echo};
 use crate::known::Known;
 use crate::sniffing::Forms;
 use crate::weighing::Weighing;
@@ -53,7 +53,9 @@ fn kind_of(
         }
     }
     let evidence = weighing.weigh(own, lines, known);
-    if is_echo(&evidence) {
+    if are_sent_again(&evidence, weighing.others(known)) {
+        Relation::Own
+    } else if is_echo(&evidence) {
         Relation::Echo
     } else if is_copy(&evidence) {
         Relation::Copy

@@ -30,6 +30,8 @@ pub(crate) struct Evidence {
     pub(crate) pairs: u32,
     /// Messages that are the nearest one of another form again.
     pub(crate) same: u32,
+    /// Those of them above a block with E, which the polls of other forms do not explain.
+    pub(crate) asked: u32,
     /// Messages that are the nearest one of another form above them again.
     pub(crate) echoes: u32,
     /// Commands.
@@ -147,6 +149,14 @@ pub(crate) fn is_paired(form: &LineForm, evidence: &Evidence, log: Log) -> bool 
         && evidence.distinct as usize >= least
         && evidence.pairs as usize >= least
         && times(10, evidence.pairs) >= times(PAIR_TENTHS, evidence.frames)
+}
+
+/// Returns whether commands that are those of other forms again were sent again: they repeat less than half of the others of their
+/// types, or blocks below them say so.
+pub(crate) fn are_sent_again(evidence: &Evidence, others: u32) -> bool {
+    evidence.commands == evidence.frames
+        && (times(2, evidence.same) < u64::from(others)
+            || times(5, evidence.asked) >= times(5 - COPY_FIFTHS, evidence.frames))
 }
 
 /// Returns whether the messages of a form are those of other forms again.

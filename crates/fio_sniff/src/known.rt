@@ -1,5 +1,5 @@
 //! The lines of a window that are read, and the messages in them.
-use crate::polls::Polls;
+use crate::polls::{POLL, Polls};
 use fio_form::is_answer;
 use fio_guess::table::LINES;
 
@@ -12,6 +12,21 @@ pub(crate) struct Mark {
     pub(crate) first: [u8; 2],
     /// How many of these two it has.
     pub(crate) count: u8,
+    /// Whether it is a block of which E says that it was asked for again.
+    pub(crate) is_again: bool,
+}
+
+/// The type of a block, and E of its status, which is the fifth octet from its end.
+const BLOCK: u8 = 182;
+
+const AGAIN: u8 = 2;
+
+/// Returns whether a message is a block that has E.
+fn is_again(message: &[u8]) -> bool {
+    match message {
+        [BLOCK, .., status, _, _, _, _] => *status & AGAIN != 0,
+        _ => false,
+    }
 }
 
 /// Returns what is kept of a message.
@@ -29,6 +44,7 @@ pub(crate) fn mark_of(message: &[u8]) -> Mark {
         hash: ((hash ^ hash >> 32) & 0xffff_ffff) as u32,
         first,
         count,
+        is_again: is_again(message),
     }
 }
 
@@ -149,6 +165,42 @@ impl Known {
             }
         }
         None
+    }
+
+    /// Returns how many messages have one of some types.
+    pub(crate) fn count(&self, types: &[bool; 256]) -> u32 {
+        let mut count: u32 = 0;
+        for mark in &self.marks {
+            if let Some(mark) = mark {
+                count = count.saturating_add(u32::from(types[usize::from(mark.first[0])]));
+            }
+        }
+        count
+    }
+
+    /// Returns whether the next answer from a line on has E, and the two polls above it have different numbers.
+    pub(crate) fn lacks_poll(&self, at: usize) -> bool {
+        for below in at..LINES {
+            if let Some(mark) = self.marks[below] {
+                if !mark.is_command() {
+                    return mark.is_again && self.has_new_poll(below);
+                }
+            }
+        }
+        false
+    }
+
+    /// Returns whether the last two polls above a line have different numbers.
+    fn has_new_poll(&self, at: usize) -> bool {
+        let mut last = None;
+        for mark in self.marks[..at.min(LINES)].iter().rev() {
+            match (mark, last) {
+                (Some(mark), None) if mark.first[0] == POLL => last = Some(*mark),
+                (Some(mark), Some(_)) if mark.first[0] == POLL => return !mark.is_same(last),
+                _ => {}
+            }
+        }
+        false
     }
 
     /// Takes the lines from the first one up to the end.

@@ -4,7 +4,7 @@ use crate::known::Mark;
 use fio_guess::table::{POLL_TENTHS, POLLS, POLLS_UP};
 
 /// The type of a poll.
-const POLL: u8 = 54;
+pub(crate) const POLL: u8 = 54;
 
 /// Polls that are counted, from the first one on.
 #[derive(Clone, Copy, Default)]

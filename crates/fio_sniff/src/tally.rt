@@ -96,6 +96,7 @@ impl Tally {
         let is_paired = mark.is_paired(above) || mark.is_paired(below);
         let is_echo = mark.is_same(above);
         let is_same = is_echo || mark.is_same(below);
+        let is_asked = is_same && known.lacks_poll(line);
         let evidence = &mut self.evidence;
         evidence.frames = evidence.frames.saturating_add(1);
         evidence.commands = evidence
@@ -104,6 +105,7 @@ impl Tally {
         evidence.pairs = evidence.pairs.saturating_add(u32::from(is_paired));
         evidence.same = evidence.same.saturating_add(u32::from(is_same));
         evidence.echoes = evidence.echoes.saturating_add(u32::from(is_echo));
+        evidence.asked = evidence.asked.saturating_add(u32::from(is_asked));
     }
 
     /// Counts how the octets of a message are written.
@@ -131,6 +133,11 @@ impl Tally {
         if told == LineTold::Message && needs_rows {
             self.evidence.pieces = self.evidence.pieces.saturating_add(1);
         }
+    }
+
+    /// Returns how many messages of other forms have a type of those that were counted.
+    pub(crate) fn others(&self, known: &Known) -> u32 {
+        known.count(&self.types)
     }
 
     /// Returns what was counted.

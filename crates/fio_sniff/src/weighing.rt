@@ -195,6 +195,11 @@ impl Weighing {
         self.tally.evidence()
     }
 
+    /// Returns how many messages of other forms have a type of those of the form that was weighed.
+    pub(crate) fn others(&self, known: &Known) -> u32 {
+        self.tally.others(known)
+    }
+
     /// Counts the messages of a line after its first one.
     fn weigh_seconds(
         &mut self,
