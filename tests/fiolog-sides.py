@@ -2,6 +2,8 @@
 """`fiolog` on logs of one direction: what is missing is said, and no rule is judged; and on the two files of a line, which `--merge`
 reads as one log in the order of time. Last line: `N passed, M failed`."""
 
+import itertools
+import json
 import os
 import re
 import tempfile
@@ -235,6 +237,47 @@ def check_times(check, folder):
     check.equal('files of which one ends when the other begins', False, 'one file ends before another begins' in done.err)
 
 
+CLOCKS = 'fiolog: the clocks of these files differ, and not by one time, so no rule is judged: take both directions with one clock'
+# By how many milliseconds the clock of the answers is ahead; these come 50 ms after their commands, which are 100 ms apart.
+AHEAD = -950, -320, -60, 55, 70, 450, 940
+
+
+def two_files(form, frames, delays):
+    """The files of commands and of answers; the times of these are later by so many milliseconds, in turn."""
+    late = [(time + next(delays) / 1000, side, octets) for time, side, octets in frames if side == '<']
+    return [LOGGERS[form](part) for part in ([one for one in frames if one[1] == '>'], late)]
+
+
+def check_clocks(check, folder):
+    """Two files whose clocks differ are the log that they would be with one clock; what is not explained so accuses nobody, and one fault is one."""
+    frames = [(1 + time, *one) for time, *one in session(60, 0.05)]
+    for form in TIMED[:6]:
+        for ahead in AHEAD:
+            parts = two_files(form, frames, itertools.repeat(ahead))
+            for order, texts in (('commands', parts), ('answers', parts[::-1])):
+                name = 'clocks that differ by %d ms, %s, %s first' % (ahead, form, order)
+                done, stats = merged(folder, TO_TRANSCRIPT, *texts), merged(folder, ('stats', '--json'), *texts)
+                check.equal(name, (LOGGERS['transcript'](frames), 0), (done.out, done.status))
+                said = re.findall(r'the times of \S+/part(\d) are taken as (\S+) ms (later|earlier)', done.err)
+                check.equal(name + ', said', [(str(int(order == 'commands')), 'earlier' if ahead > 0 else 'later', True)],
+                            [(part, way, 0 < float(much) <= abs(ahead)) for part, much, way in said])
+                check.equal(name + ': nobody is accused, and no response is timed', (0, 0, 0), (
+                    merged(folder, ('check', '-q'), *texts).status, stats.status, json.loads(stats.out)['response_ms']['count']))
+    # Commands of two types in turn, of which those at both ends are not answered.
+    two_types = [(1 + 0.05 * place, '<' if place % 2 else '>', bytes.fromhex(('3180', 'b1000000000000%02x' % place, '3a32', 'ba00')[place % 4]))
+                 for place in range(60) if place % 2 == 0 or 15 < place < 45]
+    for name, texts, expected in (
+            ('answers that come late by turns', two_files('ISO times', frames, itertools.cycle((0, 60, 130, 20))), (LITTLE, False, True)),
+            ('a clock that goes slower', two_files('ISO times', frames, itertools.count(0, -3)), (LITTLE, False, True)),
+            ('more than one time explains it', two_files('ISO times', two_types, itertools.repeat(-60)), (LITTLE, False, True)),
+            ('two answers that come late', two_files('ISO times', frames, itertools.chain([0, 0, 120, 0, 120], itertools.repeat(0))), (1, True, False)),
+            ('an answer with another number', two_files('ISO times', [(*one[:2], b'\xb6\x09' + one[2][2:]) if place == 40 else one for place, one in enumerate(frames)],
+                                                        itertools.repeat(0)), (1, True, False))):
+        done, stats = merged(folder, ('check',), *texts), merged(folder, ('stats',), *texts)
+        check.equal('clocks: ' + name, expected, (done.status, done.found(r'^\S+ line \d+: ') != [], CLOCKS in done.err))
+        check.equal('clocks, stats: ' + name, (LITTLE * expected[2], expected[2]), (stats.status, CLOCKS in stats.err))
+
+
 def check_places(check, folder):
     """A line is named with its file."""
     sent, heard = '1.000 TX 36 05\nidle\n1.200 TX 36 09\n', '1.100 RX B6 05 01 0C 00 01 00 00 00 00 01\n1.300 RX B6 09 00 00 00 00 00 02\n'
@@ -261,7 +304,7 @@ def main():
     check_late(check)
     with tempfile.TemporaryDirectory() as folder:
         check_many(check, folder)
-        for part in (check_merge, check_times, check_places):
+        for part in (check_merge, check_times, check_clocks, check_places):
             part(check, folder)
     check.end()
 

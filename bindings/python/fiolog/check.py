@@ -48,8 +48,8 @@ def judged(read, option, counts=None, **settings):
         for batch in batches:
             if not (batch.count or any(event.is_loss for _, event in batch.others)):
                 continue
-            judge = judge or Stations(lambda: judgement.Judgement(rules_for(option), read.name if read.has_several else '', not option.start_at_poll),
-                                      counts, **settings)
+            judge = judge or Stations(lambda: judgement.Judgement(rules_for(option), read.name if read.has_several else '', not option.start_at_poll,
+                                                                  read.sign), counts, **settings)
             if option.at in ('cpu', 'bus'):
                 read.balance += batch.balance
             batch = judge.opened(batch)

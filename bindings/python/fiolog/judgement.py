@@ -13,6 +13,7 @@ from .late import ABOVE, is_owed
 from .log_words import REASONS, SIDES, SIGNS
 from .message import POLL
 from .rules import LOST_LINES
+from .shift import CLOCKS
 from .terminal import say as _say, shown
 
 # Fewer frames do not show that a direction is missing.
@@ -24,7 +25,7 @@ ONE_SIDED = COMMANDS, ANSWERS, NOT_WHOLE, UNREAD
 # The sign that answers came late, and the rules that such an answer breaks; and that of a log of which rules are judged.
 LATE, LATE_RULES, EMPTY = 'late answers', ('pair', 'number'), 'empty blocks left out'
 # The verdicts on a log of which no rule is judged.
-UNFIT = (*(sign for sign in SIGNS if sign != EMPTY), *ONE_SIDED)
+UNFIT = (*(sign for sign in SIGNS if sign != EMPTY), CLOCKS, *ONE_SIDED)
 # The note of a line of no form that has a frame.
 UNREAD_FRAME = REASONS['unread frame']
 _MERGE = ' (two files of one line: see --merge)'
@@ -33,11 +34,12 @@ WORDS = {
     **SIDES,
     COMMANDS: SIDES[COMMANDS] + _MERGE,
     ANSWERS: SIDES[ANSWERS] + _MERGE,
+    CLOCKS: 'the clocks of these files differ, and not by one time, so no rule is judged: take both directions with one clock',
     FEW: 'fewer than half of the messages that this log may have were judged: {judged} of {said}',
 }
 # As a row of a table says it.
 IN_SHORT = {**{sign: sign for sign in SIGNS}, COMMANDS: 'the commands alone', ANSWERS: 'the answers alone', NOT_WHOLE: 'no whole answer',
-            UNREAD: 'frames of no form', SILENT: 'no answer came',
+            CLOCKS: 'clocks that differ', UNREAD: 'frames of no form', SILENT: 'no answer came',
             FEW: 'fewer than half judged', NONE: 'no frame'}
 
 
@@ -114,8 +116,9 @@ class Held:
 class Judgement:
     """What rules find in a log: nothing, if it has one direction alone."""
 
-    def __init__(self, rules, name='', is_open=True):
+    def __init__(self, rules, name='', is_open=True, sign=''):
         self.rules, self.name = rules, name     # the name of the log's file, if there are several logs
+        self._sign = sign       # what kind of log it is, if that is known above its frames
         self.is_open = is_open      # whether frames are judged from here on
         self.sides, self.held, self._signs = Sides(), Held(), fio2070.LogSigns()
         self.answer, self._stretches = Answer(rules.limits), fio2070.LogStretches()
@@ -198,7 +201,7 @@ class Judgement:
     @property
     def sign(self):
         """What kind of log it looks like by now, a key of SIGNS; empty if it looks like the log of one link in order."""
-        return self._signs.sign * (not self.leaves_out) or LATE * (self._is_late is True and not self.rules.late_answers)
+        return self._sign or self._signs.sign * (not self.leaves_out) or LATE * (self._is_late is True and not self.rules.late_answers)
 
     @property
     def leaves_out(self):

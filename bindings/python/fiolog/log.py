@@ -114,6 +114,7 @@ class Log:
         self.judgements, self.unjudged = [], Counter()  # of each file that is judged, and what of them is not, by its reason
         self.others = Counter()     # of frames that are judged for no station, by what is said of them
         self.goes_on, self.faults = goes_on, {}     # why files cannot be read, by their names
+        self.sign, self.is_shifted = '', False      # of files that are merged: what kind of log they are, and whether the times of one are shifted
         self._first = None      # the octets with which the first file begins
         self._unnamed = []      # lines of the present batch that are to be named, each with its index
 
@@ -192,7 +193,7 @@ class Log:
 
     def _merged(self):
         """The lines of all files as of one log."""
-        from . import merge
+        from . import merge, shift
         streams = [self._octets_of(name) for name in self.option.files]
         firsts = [next(stream, b'') for stream in streams]
         if self.option.format == 'auto' and not (self.option.like or self.option.pattern or self.option.line):
@@ -200,6 +201,10 @@ class Log:
                 reader.learn(samples)
         both = merge.Merge([merge.File(name, (event for batch in reader.read(itertools.chain([first], stream)) for event in batch.events()))
                             for name, reader, first, stream in zip(self.option.files, self.readers, firsts, streams)])
+        self.sign, self.is_shifted = both.sign, both.shifted is not None
+        if self.is_shifted:
+            say('the clocks of the files differ: the times of %s are taken as %s, so that each answer is below its command' % (
+                shown(both.shifted.name), shift.in_words(both.shifted.shift)))
         yield from made_of(both, self.readers[0].as_said)
         if both.is_apart:
             say('one file ends before another begins: are they of the same link and the same time?')

@@ -2,12 +2,14 @@
 files of one line)."""
 
 import itertools
+from collections import deque
 
 import fio2070
 
 from .event import DATE, FRAME, LOSSES, OF_DAY, PART, SINCE_START
 from .message import AGAIN, BLOCK, POLL, TYPE_ANSWER
 from .output import Refused
+from .shift import CLOCKS, FRAMES, MICRO, are_apart, shift_of
 from .terminal import shown
 
 DAY = 86_400
@@ -42,9 +44,9 @@ class File:
     that of the line above; a time of day that is earlier by more than half a day is of the next day."""
 
     def __init__(self, name, events):
-        self.name, self.events, self.held = name, events, []
+        self.name, self.events, self.held = name, events, deque()
         self.kind = self.head = self.first = self.last = None
-        self.days, self.direction, self.is_of_day = 0, '', False
+        self.days, self.direction, self.is_of_day, self.shift = 0, '', False, 0    # the shift is in seconds
         for event in events:
             self.held.append(event)
             if event.kind == FRAME:
@@ -53,6 +55,16 @@ class File:
                 self.kind, self.last = event.time_kind, event.time
                 break
 
+    def beginning(self):
+        """The same file up to its first frames, so many."""
+        count = sum(event.kind == FRAME for event in self.held)
+        for event in self.events if count < FRAMES else ():
+            self.held.append(event)
+            count += event.kind == FRAME
+            if count == FRAMES:
+                break
+        return File(self.name, iter(tuple(self.held)))
+
     def begin(self, is_of_day):
         """Goes to the first event; `is_of_day` says that dates do not count."""
         self.is_of_day = is_of_day
@@ -60,11 +72,12 @@ class File:
         self.next()
 
     def _time(self, time):
+        time = round(time + self.shift, 6) if self.shift else time
         return time % DAY if self.is_of_day else time
 
     def next(self):
         """Goes to the next event; `head` is None at the end."""
-        self.head = self.held.pop(0) if self.held else next(self.events, None)
+        self.head = self.held.popleft() if self.held else next(self.events, None)
         if self.head is None:
             return
         self.direction = self.head.direction or self.direction
@@ -76,17 +89,45 @@ class File:
 
 
 class Merge:
-    """Files as one log. Of events with equal times, an answer to the command above comes first, else a command."""
+    """Files as one log. Of events with equal times, an answer to the command above comes first, else a command. If the clocks of two
+    files differ, the times of the `shifted` one, of answers, are taken as later or earlier; or the log has a `sign`."""
 
-    def __init__(self, files):
+    def __init__(self, files, may_shift=True):
         self.files, self.command = files, None     # the latest command, until it is answered
+        self.sign, self.shifted = '', None
         kinds = {one.kind for one in files if one.kind}
         if SINCE_START in kinds and len(kinds) > 1:
             raise Refused('the files have different times: ' + ', '.join('%s %s' % (shown(one.name), WORDS[one.kind]) for one in files if one.kind))
+        if may_shift and len(files) == 2:
+            self._shift()
         for one in files:
             one.begin(OF_DAY in kinds)
 
+    def _shift(self):
+        """Shifts the file of answers, if the other one is of commands, and the clocks differ."""
+        beginnings = [one.beginning() for one in self.files]
+        of_answers = [{event.octets[0] >= TYPE_ANSWER for event in one.held if event.kind == FRAME} for one in self.files]
+        if of_answers not in ([{False}, {True}], [{True}, {False}]):
+            return
+        order = list(Merge(beginnings, False).frames())
+        if not are_apart(order):
+            return
+        shift = shift_of(order)
+        if shift is None:
+            self.sign = CLOCKS
+            return
+        self.shifted = self.files[of_answers.index({True})]
+        self.shifted.shift = shift / MICRO
+
     def __iter__(self):
+        return (event for _, event in self._in_order())
+
+    def frames(self):
+        """The time of each frame, in microseconds, and its octets, in order."""
+        return ((round(time * MICRO), event.octets) for time, event in self._in_order() if event.kind == FRAME)
+
+    def _in_order(self):
+        """The time of each event, and the event."""
         left = [one for one in self.files if one.head]
         while left:
             first = min(one.last for one in left)
@@ -94,7 +135,7 @@ class Merge:
             event = one.head._replace(file=one.name)
             if event.kind == FRAME:
                 self.command = None if event.direction == '<' else event.octets
-            yield event
+            yield one.last, event
             one.next()
             if one.head is None:
                 left.remove(one)

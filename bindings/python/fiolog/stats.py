@@ -4,7 +4,7 @@ from collections import Counter
 
 from . import judgement, log, options, statuses, terminal
 from .event import DROPPED, OTHER, PASSED, POSSIBLE
-from .counts import OF_LINES, Counts, in_words, unjudged_numbers, unjudged_words, placed
+from .counts import OF_LINES, Counts, Sample, in_words, unjudged_numbers, unjudged_words, placed
 from .stations import Stations, Unjudged
 
 MILLI = 1000    # microseconds
@@ -51,7 +51,11 @@ def run(option):
     for batch in read.batches():
         stations.take(batch)
         counts.take(batch)
-    counts, read.others, signs = stations.total(counts), stations.others, [one.sign for one in stations.judgements if one.sign]
+    counts, read.others = stations.total(counts), stations.others
+    signs = [read.sign] if read.sign else [one.sign for one in stations.judgements if one.sign]
+    if read.is_shifted or read.sign:
+        for one in counts, *stations.counts.values():
+            one.responses = Sample()
     if not read.summary():
         return statuses.LITTLE
     missing = counts.unjudged() + Counter(
