@@ -13,7 +13,7 @@ pub(crate) fn addresses_in(
 ) -> Addresses {
     let mut addresses = Addresses::new();
     'lines: for at in 0..window.len() {
-        if let Some(frame) = frame_in(forms, window.line(at), octets, held) {
+        if let Some(frame) = addressed_in(forms, window.line(at), octets, held) {
             addresses.add(frame);
         }
     }
@@ -21,7 +21,7 @@ pub(crate) fn addresses_in(
 }
 
 /// Returns the first frame of a line, if it has an octet before its message and no frame check.
-fn frame_in(
+fn addressed_in(
     forms: &[LineForm],
     line: &[u8],
     octets: &mut Octets,
