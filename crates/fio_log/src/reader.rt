@@ -1,6 +1,6 @@
 //! The reader of a log: it turns octets into lines, and lines into verdicts.
-ghost use Rattle.fio_message.specs.declared.types.TheConstants.{SET_OUTPUTS_ANSWER};
 ghost use Rattle.std.specs.Prelude.{◌≡◌, ◌+◌, ◌≤◌, ◌<◌, ◌↔◌, true, false, None, Some, IfSome, IsSome, MatchOption, [], get_or, length, slice_index_or, take};
+ghost use Rattle.fio_message.specs.declared.types.TheConstants.{SET_OUTPUTS_ANSWER};
 ghost use Rattle.fio_log.specs.Blanks.{Texts, is_blank_line};
 ghost use Rattle.fio_log.specs.Frames.{code_of};
 ghost use Rattle.fio_log.specs.Heard.{Above};
