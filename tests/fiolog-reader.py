@@ -209,6 +209,7 @@ ABOVE = {
     'a ruler between borders': lambda *one: boxed(*one, head='{side} port 3\n', above=BORDER + '|  0  1  2  3  4  5  6  7  8  9  a  b  c  d  e  f |\n' + BORDER),
     'a rule that says who sent it': lambda side, octets: '****** %s %d bytes ******\n%s\n' % (WORDS[side], len(octets), octets.hex(' ')),
     'rules alone': lambda side, octets: '----------\n%s %s\n' % (WORDS[side], octets.hex(' ')),
+    'rules between exchanges': lambda side, octets: '%s%s %s\n' % ('----------\n' * (side == '>'), WORDS[side], octets.hex(' ')),
     'the beginning of a list': listed,
     'the last offset of a dump': lambda side, octets: '%s:\n%s%07d\n' % (WORDS[side], ''.join('%07d%s\n' % (16 * place, ''.join(' %3d' % one for one in row))
                                                                                  for place, row in enumerate(rows_of(octets))), len(octets)),

@@ -25,7 +25,7 @@ struct Head {
     inner: u16,
     /// and how many lines have something else below them.
     others: u16,
-    /// How many of its lines have one message between them and the next line of this kind,
+    /// How many of its lines have one message, or two, between them and the next line of this kind,
     whole: u16,
     /// and how many have more.
     more: u16,
@@ -46,16 +46,18 @@ pub(crate) struct Heads {
     below: Below,
 }
 
-/// What is below the last line that may be a heading of one message.
+/// What is below the last line that may be a heading of a message or an exchange.
 #[derive(Clone, Copy, Debug, PartialEq, Eq)]
 enum Below {
     /// Nothing.
     Nothing,
     /// A message in one row.
     Message,
+    /// Two, which may be a command and its answer.
+    Exchange,
     /// A message in several rows, or octets that are none.
     Rows,
-    /// More than a message.
+    /// More messages.
     More,
 }
 
@@ -180,7 +182,8 @@ impl Heads {
         self.above = None;
         self.below = match (self.below, is_message) {
             (Below::Nothing, true) => Below::Message,
-            (Below::Message | Below::More, _) => Below::More,
+            (Below::Message, true) => Below::Exchange,
+            (Below::Message | Below::Exchange | Below::More, _) => Below::More,
             _ => Below::Rows,
         };
     }
@@ -235,7 +238,7 @@ impl Heads {
         {
             let head = &mut self.heads[place];
             match below {
-                Below::Message => head.whole = head.whole.saturating_add(1),
+                Below::Message | Below::Exchange => head.whole = head.whole.saturating_add(1),
                 Below::More => head.more = head.more.saturating_add(1),
                 _ => {}
             }
@@ -265,13 +268,13 @@ impl Heads {
         }
     }
 
-    /// Returns whether a line that begins with a rule is the heading of one message, as all of its shape are.
+    /// Returns whether a line that begins with a rule is the heading of one message or one exchange, as most of its shape are.
     pub(crate) fn is_of_message(&self, line: &[u8]) -> bool {
         match self.get(sum_of(line)) {
             Some(head) => begins_rule(line)
                 && (is_border(line) || said_at(line, line.len()).is_some())
                 && head.whole >= SHOWN
-                && head.more == 0,
+                && head.more <= head.whole / REGULAR,
             None => false,
         }
     }
