@@ -60,7 +60,12 @@ impl FormReader {
         };
         let is_all = self.is_quiet_from(line.text, found.end)
             && !self.has_odd_tail(line.text, heard.said);
-        let is_short = self.widths.take(count) && !line.is_last;
+        // an offset may be below the last row of a dump
+        let is_bare = match self.forms.get(heard.said.form) {
+            Some(form) => form.front().is_empty(),
+            None => false,
+        };
+        let is_short = self.widths.take(count) && is_bare && !line.is_last;
         let is_kept = self.stream_rows.push(StreamRow::of(place, count, said));
         let mut is_whole = is_kept && is_all && !is_short;
         let is_flags = self.is_of_flags();
