@@ -176,6 +176,8 @@ def check_phone(check, browser, folder):
     check.equal('no sheet is over the list at first', [False, False], browser.run(SHEET)[:2])
     browser.run('document.querySelector("#row-5").scrollIntoView({ block: "center" })')
     browser.click('#row-5')
+    # A browser may lay the sheet out a moment later.
+    browser.wait('return (() => { %s })().every(Boolean)' % SHEET)
     check.equal('a tap shows the detail over the list', [True] * 3, browser.run(SHEET))
     says = words_in(browser, '.detail')
     check.holds('which says the rule', 'Breaks apart: input 12' in says, says)
