@@ -13,8 +13,8 @@ returns-then-not-is_kept-clause-knows c = λ texts above next whole line knows.
 pub returns-in-Some-clause-knows : goal.returns-in-Some-clause-knows
 returns-in-Some-clause-knows c = λ texts above next whole line knows.
     let kept : c.take-is_kept.result ≡ true = search rules in
-    let window : c.look.new.self.window ≡ c.args.self.now.learning.window ++ c.args.maker.now.text.octets ∷ [] = c.look.ensures ∙ c.take-is_kept.ensures.lines kept in
-    drained_line texts c.args.self.now c.drain.new.self c.look.new.self.window above c.args.at.read c.args.at.told _
+    let window : c.look_first.new.self.window ≡ c.args.self.now.learning.window ++ c.args.maker.now.text.octets ∷ [] = c.look_first.ensures ∙ c.take-is_kept.ensures.lines kept in
+    drained_line texts c.args.self.now c.drain.new.self c.look_first.new.self.window above c.args.at.read c.args.at.told _
     c.args.maker.now.text.octets c.requires next window (omega arith)
     (short_line c.args.maker.now.text (texts c.args.at.read) c.args.maker.now.text.octets (c.take-is_kept.ensures.short kept) refl (line whole))
     (c.drain.ensures.window texts) c.drain.ensures.known c.drain.ensures.waiting knows
@@ -30,10 +30,10 @@ returns-then-not-is_kept-clause-follows c = λ texts above frames last next whol
 pub returns-in-Some-clause-follows : goal.returns-in-Some-clause-follows
 returns-in-Some-clause-follows c = λ texts above frames last next whole knows follows.
     let kept : c.take-is_kept.result ≡ true = search rules in
-    let window : c.look.new.self.window ≡ c.args.self.now.learning.window ++ c.args.maker.now.text.octets ∷ [] = c.look.ensures ∙ c.take-is_kept.ensures.lines kept in
+    let window : c.look_first.new.self.window ≡ c.args.self.now.learning.window ++ c.args.maker.now.text.octets ∷ [] = c.look_first.ensures ∙ c.take-is_kept.ensures.lines kept in
     let all = (knows.filling c.requires).all in
-    let more : length c.look.new.self.window ≡ length c.args.self.now.learning.window + 1 = ap length window ∙ length-append c.args.self.now.learning.window (c.args.maker.now.text.octets ∷ []) in
-    drained_follows texts above c.args.self.now c.drain.new.self c.args.maker.now frames c.args.at.read c.args.at.told (length c.look.new.self.window) _
+    let more : length c.look_first.new.self.window ≡ length c.args.self.now.learning.window + 1 = ap length window ∙ length-append c.args.self.now.learning.window (c.args.maker.now.text.octets ∷ []) in
+    drained_follows texts above c.args.self.now c.drain.new.self c.args.maker.now frames c.args.at.read c.args.at.told (length c.look_first.new.self.window) _
     c.requires c.drain.ensures.known (ap (λ t. t.heard) c.drain.ensures.kept) c.drain.ensures.waiting
     (ap (λ t. t.by_forms.reading) c.drain.ensures.kept ∙ (c.look_ahead.ensures.reading ∙ c.add.ensures.reading)) (ap (λ t. t.by_forms.rows) c.drain.ensures.kept ∙ (c.look_ahead.ensures.rows ∙ c.add.ensures.rows)) (omega arith) c.drain.ensures.first c.drain.ensures.lines
     (λ number below within. absurd (omega (arith, below, within, all, more, next))) follows
