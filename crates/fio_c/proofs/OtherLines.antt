@@ -8,7 +8,7 @@ use Rattle.fio_c.specs.declared.log_batch.LogVerdict.{LogVerdict}
 -- those above the next line and those from it on, where that is told
 pub lines_more : (others : Others) (lines : List LogVerdict) (index : ℕ) (none : LogVerdict) → index < length lines
     → take (index + 1) (set lines index (passed_line others (get_or lines index none)))
-      ++ passed_lines (below_line others (get_or lines index none)) (drop (index + 1) (set lines index (passed_line others (get_or lines index none))))
+    ++ passed_lines (below_line others (get_or lines index none)) (drop (index + 1) (set lines index (passed_line others (get_or lines index none))))
     ≡ take index lines ++ passed_lines others (drop index lines)
 lines_more others lines index none less =
     let line = get_or lines index none in
