@@ -24,7 +24,7 @@ from support.waits import slowness
 
 PICTURES = os.path.join(TOP, 'tools', 'page')
 PLAYED_PICTURE = os.path.join(TOP, 'docs', 'pictures', 'play.png')
-MOST_OCTETS = 512_000
+MOST_OCTETS = 1 << 19
 MANY = 100_000
 # Seconds of a processor of all processes of the browser; more where a processor does less in a second.
 MOST_SECONDS = 3

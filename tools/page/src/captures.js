@@ -19,7 +19,7 @@ const LOOPBACK_FAMILIES = [2, 10, 24, 28, 30];
 const LETTERS = 'ghijklmnopqrstuvwxyz', MOST_PAIRS = LETTERS.length ** 2;
 const RECORDS_AT_ONCE = 256;
 // No line of usbmon's text is longer.
-const LONGEST_TEXT = 1024;
+const LONGEST_USB_LINE = 1024;
 // With more octets the file is broken.
 const MOST_OF_PACKET = 1 << 24;
 const NOT_UDP = 'not UDP', NO_DATA = 'no data', CUT = 'octets lost: cut off', FRAGMENTED = 'octets lost: part of a packet', WRONG = 'octets lost: wrong length';
@@ -251,7 +251,7 @@ class TextLines extends PacketLines {
 }
 
 // Whether a file is a capture of packets.
-export const isCapture = (file) => FILES.capture.begins.test(asLatin(file.subarray(0, 4))) || USB_TEXT.test(asLatin(file.subarray(0, LONGEST_TEXT)).split('\n', 1)[0]);
+export const isCapture = (file) => FILES.capture.begins.test(asLatin(file.subarray(0, 4))) || USB_TEXT.test(asLatin(file.subarray(0, LONGEST_USB_LINE)).split('\n', 1)[0]);
 
 // The lines of a capture file, in UTF-8. A text of usbmon begins with a hexadecimal digit, and no other one does.
 export const linesOfCapture = (file) => new (/^[0-9a-f]/.test(asLatin(file.subarray(0, 1))) ? TextLines : PacketLines)(file).read();

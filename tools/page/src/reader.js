@@ -9,7 +9,7 @@ import { UNSEEN } from './log_reader.js';
 import { REASONS } from './log_words.js';
 import { counted, withCommas } from './dom.js';
 import { MARKS, MessageList } from './messagelist.js';
-import { Sizes, noteOf } from './sizes.js';
+import { foreignText, Sizes } from './sizes.js';
 import { part } from './slices.js';
 
 // The year 10000, which no time of a log has.
@@ -113,7 +113,7 @@ export class Found extends MessageList {
     else if (kind === LOG_KINDS.damaged) this.addDamaged(line, `damaged: ${REASONS[reason]}`);
     else if (kind === LOG_KINDS.passedOver && this.form !== LOG_FORMS.auto) this.addBad(line);
     else if (kind === LOG_KINDS.passedOver) {
-      const why = foreign > 0 ? noteOf(foreign) : REASONS[reason];
+      const why = foreign > 0 ? foreignText(foreign) : REASONS[reason];
       this.passed.set(why, (this.passed.get(why) || 0) + 1);
       this.mark(MARK_OF[reason] || 0);
     }

@@ -8,7 +8,7 @@ import { LINE } from './log_words.js';
 const LEVELS = [180, 181], OUTPUTS = 55, OUTPUTS_ANSWER = 183;
 
 // What is said of a line that is passed over, with a message of this type.
-export const noteOf = (code) => LINE[[...LEVELS, OUTPUTS, OUTPUTS_ANSWER].includes(code) ? 'size' : 'type'].replace('{type}', code);
+export const foreignText = (code) => LINE[[...LEVELS, OUTPUTS, OUTPUTS_ANSWER].includes(code) ? 'size' : 'type'].replace('{type}', code);
 
 // The messages of modules of another size that are passed over.
 export class Sizes {
