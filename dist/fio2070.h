@@ -3,9 +3,9 @@
  *
  * The field I/O transition link of the Model 2070: the header of fio2070.c.
  *
- * Sources: 15d31dcd59fb6358794c2a537efbee809430ca4cb311e59bc1edd1dcc09c4a23 (SHA-256; packaging/release-files --sources)
- * Kit: rattle-kit-13b logic dac8208d650f15bf
- * Proof: logic=proved functions=240 target=wasm64-unknown-unknown sum=dac8208d650f15bf native=nat,char,string
+ * Sources: 4bfd467a63eb1e83f3e11035d21c5cb7a7de897f05064cc03ffff4fd2eb80026 (SHA-256; packaging/release-files --sources)
+ * Kit: rattle-kit-13f logic dac8208d650f15bf
+ * Proof: logic=proved functions=246 target=wasm64-unknown-unknown sum=dac8208d650f15bf native=nat,char,string
  * Made by `make release-files`: do not edit.
  *
  * Proved is the module of which fio2070.c was made, for wasm64: each call does what fio2070.h says for all octets,
@@ -1133,7 +1133,8 @@ struct fio2070_log_verdict {
     uint8_t header;
     /** The type of the message that the line has in place of frames, if this protocol has none of that
      *  type; or 55, 180 or 181, if it is of a module of another size, with 1 to 32 octets of inputs or of
-     *  outputs other than 8; else 0. */
+     *  outputs other than 8; or 183, if its only frame answers such a 55 in the line above; else 0. Such a
+     *  line is passed over if that is no damage, and then what frames it gives are none of the link. */
     uint8_t foreign;
 };
 
@@ -1181,15 +1182,17 @@ void fio2070_log_start(struct fio2070_log_reader *reader, uint8_t form);
  * verdicts wait until the log shows its forms, at most for 1,024 lines or 64 KiB; later ones for the line below, if that shows
  * whether a message has ended. A frame over several lines is in the verdict of its last line, or of the line that shows its
  * end, with places in the lines above. Each frame is a message. Call it again with the octets that were not taken. What the
- * batch held before is overwritten.
+ * batch held before is overwritten. Lines with a `foreign` message are passed over once more than three exchanges show that it
+ * is no damage: those above the batch, and those in it.
  *
  * After fio2070_log_end it takes no octets until it has given each verdict. Octets then begin a new log of the same form,
  * whose lines are counted from 1.
  *
  * Proved are: which lines the octets make that it takes; that the verdicts in a batch are those of the next lines, each once
  * and in order, with all their frames and places; that the octets of each frame are a message; that a line with the reason
- * FIO2070_LOG_LOSS or FIO2070_LOG_HEADING has such words; and that a new log begins as said. How many octets it takes, when a
- * verdict is due and what else it says are tested. */
+ * FIO2070_LOG_LOSS or FIO2070_LOG_HEADING has such words; which lines are passed over, by what `foreign` says of those above
+ * and in the batch; and that a new log begins as said. How many octets it takes, when a verdict is due and what else it says
+ * are tested. */
 FIO2070_MUST_USE
 size_t fio2070_log_read(struct fio2070_log_reader *reader, const uint8_t *octets, size_t length,
                         struct fio2070_log_batch *batch);
@@ -1343,11 +1346,12 @@ uint32_t fio2070_log_judge_batch(struct fio2070_log_judge *judge, uint8_t as_sai
 
 /** What kind of log a log looks like (docs/CAPTURES.md, A log that is not what it seems). */
 enum fio2070_log_sign {
-    FIO2070_LOG_SIGN_NONE = 0,      /**< the log of one link in order, or too few frames to say */
-    FIO2070_LOG_SIGN_TWICE = 1,     /**< each frame is there twice */
-    FIO2070_LOG_SIGN_BOTH_ENDS = 2, /**< the logs of both ends are merged */
-    FIO2070_LOG_SIGN_REVERSED = 3,  /**< the last line is first */
-    FIO2070_LOG_SIGN_TWO_LINKS = 4  /**< it has two links */
+    FIO2070_LOG_SIGN_NONE = 0,          /**< the log of one link in order, or too few frames to say */
+    FIO2070_LOG_SIGN_TWICE = 1,         /**< each frame is there twice */
+    FIO2070_LOG_SIGN_BOTH_ENDS = 2,     /**< the logs of both ends are merged */
+    FIO2070_LOG_SIGN_REVERSED = 3,      /**< the last line is first */
+    FIO2070_LOG_SIGN_TWO_LINKS = 4,     /**< it has two links */
+    FIO2070_LOG_SIGN_EMPTY_LEFT_OUT = 5 /**< the log of one link in order, without the block answers that have no entries */
 };
 
 /** Counts of the frames of a log. Its fields are the library's own. */
@@ -1360,6 +1364,10 @@ struct fio2070_log_signs {
     uint32_t changes;
     uint32_t jumps;
     uint32_t stamp;
+    uint32_t polls;
+    uint32_t passed;
+    uint32_t others;
+    uint32_t empty;
     uint16_t length;
     uint8_t said;
     uint8_t again;
@@ -1370,7 +1378,9 @@ struct fio2070_log_signs {
     uint8_t has_second;
     uint8_t second;
     uint8_t above[773];
-    uint8_t reserved;
+    uint8_t waits;
+    uint8_t polled;
+    uint8_t reserved[3];
 };
 
 /** Starts above the first frame of a log. */
@@ -1390,7 +1400,9 @@ void fio2070_log_signs_batch(struct fio2070_log_signs *signs, uint8_t as_said, c
  * the block answer above less one, and a stamp that is not later. FIO2070_LOG_SIGN_TWO_LINKS holds if of 8 or more block
  * answers at least a quarter go on with the other of two rows of numbers than the block answer above, and at most one in ten
  * starts a row in place of another one. A block answer goes on with a row by its latest number, by the next one, or late by the
- * one above it. */
+ * one above it. FIO2070_LOG_SIGN_EMPTY_LEFT_OUT holds if there are block answers, each with entries, and of 8 or more polls a
+ * quarter or more ask for the next number below a poll that has no block answer, and none asks there for another number than
+ * this and that poll's own. In such a log the rule `advance` accuses nobody of a step by one below a poll without an answer. */
 uint8_t fio2070_log_signs_sign(const struct fio2070_log_signs *signs);
 #endif
 
@@ -2048,7 +2060,7 @@ FIO2070_SAME(log_form_list, sizeof(struct fio2070_log_form_list) == 2440 &&
 
 FIO2070_SAME(log_judge, sizeof(struct fio2070_log_judge) == 752);
 
-FIO2070_SAME(log_signs, sizeof(struct fio2070_log_signs) == 816);
+FIO2070_SAME(log_signs, sizeof(struct fio2070_log_signs) == 836);
 
 FIO2070_SAME(log_seam, sizeof(struct fio2070_log_seam) == 16 &&
              offsetof(struct fio2070_log_seam, frame) == 8 &&

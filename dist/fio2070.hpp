@@ -3,9 +3,9 @@
  *
  * The field I/O transition link of the Model 2070: the header for C++17, above fio2070.h.
  *
- * Sources: 15d31dcd59fb6358794c2a537efbee809430ca4cb311e59bc1edd1dcc09c4a23 (SHA-256; packaging/release-files --sources)
- * Kit: rattle-kit-13b logic dac8208d650f15bf
- * Proof: logic=proved functions=240 target=wasm64-unknown-unknown sum=dac8208d650f15bf native=nat,char,string
+ * Sources: 4bfd467a63eb1e83f3e11035d21c5cb7a7de897f05064cc03ffff4fd2eb80026 (SHA-256; packaging/release-files --sources)
+ * Kit: rattle-kit-13f logic dac8208d650f15bf
+ * Proof: logic=proved functions=246 target=wasm64-unknown-unknown sum=dac8208d650f15bf native=nat,char,string
  * Made by `make release-files`: do not edit.
  *
  * Proved is the module of which fio2070.c was made, for wasm64: each call does what fio2070.h says for all octets,
