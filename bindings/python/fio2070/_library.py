@@ -192,7 +192,7 @@ CContentChecker = _words('CContentChecker', 87)
 CJudge = _words('CJudge', 91)
 CLogReader = _words('CLogReader', 65536)
 CLogJudge = _words('CLogJudge', 94)
-CLogSigns = _words('CLogSigns', 104)
+CLogSigns = _words('CLogSigns', 105)
 CFilters = _words('CFilters', 27)
 CSizedModule = _words('CSizedModule', 132)
 

@@ -445,7 +445,7 @@ opaque! {
     RawJudge: 91,
     RawLogJudge: 94,
     RawLogReader: 65536,
-    RawLogSigns: 104,
+    RawLogSigns: 105,
     RawSizedModule: 132,
 }
 
