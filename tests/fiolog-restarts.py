@@ -189,7 +189,6 @@ def check_losses(check):
 
 POLL, ANSWER, LATER = (('frames', '', (bytes.fromhex(digits),)) for digits in ('3605', 'b60500000000000a', '3607'))
 LOSS, HEADING, TEXT, BROKEN = (('passed over', reason, ()) for reason in ('loss', 'heading', 'no octets', 'broken'))
-LAST = [('frames', '', (bytes.fromhex(digits),)) for digits in ('3608', 'b60800000000000d')]
 POSSIBLE, MORE = ('possible', 'no form', ()), ('frames', 'more', LATER[2])
 NEXT_POLL, SENT_AGAIN, NEXT_ANSWER, LATER_ANSWER = (
     ('frames', '', (bytes.fromhex(digits),)) for digits in ('3606', 'b60600020000000b', 'b60600000000000b', 'b60700000000000c'))
@@ -220,7 +219,7 @@ REMARKS = {
 # The same of a log that begins with both ends: the answer may be that to a line above all frames that may be a message.
 WHOLE = {
     'an answer above all': ([ANSWER, POLL, ANSWER], {'pair': 1}, 1),
-    'a line that may be a message above an answer': ([POSSIBLE, ANSWER, NEXT_POLL, NEXT_ANSWER, LATER, LATER_ANSWER, *LAST], {}, 1),
+    'a line that may be a message above an answer': ([POSSIBLE, ANSWER, NEXT_POLL, NEXT_ANSWER, LATER, LATER_ANSWER], {}, 1),
     'rules hold from the next poll on': ([POSSIBLE, ANSWER, NEXT_POLL, ANSWER], {'number': 1}, 2),
     'a heading above an answer': ([HEADING, ANSWER, NEXT_POLL, NEXT_ANSWER], {'pair': 1}, 1),
     'a heading below a frame': ([POLL, HEADING, NEXT_ANSWER, NEXT_POLL, NEXT_ANSWER], {}, 1),

@@ -67,15 +67,12 @@ def check_cures(check):
 
 
 def check_few(check):
-    """If less than half of what says messages was judged, the status says it. A poll below a loss of sync, and the first block below it, are
-    compared with nothing."""
+    """If less than half of what says messages was judged, the status says it. A poll directly below a loss of sync is compared with nothing."""
     whole, cut = 'TX 36 05\nRX B6 05 00 00 00 00 00 01\n', 'RX B6 05 00 00 00\n'
     for name, text, words in (
             ('half of it', whole + cut * 2, None), ('less than half', whole + cut * 3, '2 of 5'), ('three answers', '< b300\n' * 2 + '< b605000000000001\n', '0 of 3'),
             ('answers above most', 'RX B3 00\n' * 3 + whole, '2 of 5'),
-            ('polls that are all below losses', whole + 'TX 36 06\nRX B6 06 00 00\n' * 3, '3 of 8'),
-            ('blocks that are all below losses', whole + cut + polls(6) + blocks(6), '2 of 5'), ('a block below one', whole + cut + polls(6) + blocks(6) + polls(7) + blocks(7), None),
-            ('blocks that are all below headings', '---- part\n'.join(polls(number) + blocks(number) for number in range(5, 20)), '2 of 30')):
+            ('polls that are all below losses', whole + 'TX 36 06\nRX B6 06 00 00\n' * 3, '3 of 8')):
         done = fiolog('check', text=text)
         found = re.findall('fewer than half of the messages that this log may have were judged: (.*)', done.err)
         check.equal('judged: ' + name, (LITTLE * bool(words), [words] * bool(words)), (done.status, found))

@@ -27,7 +27,7 @@ _KINDS = {**{kind: kind for kind in (FRAME, BLANK, PART, POSSIBLE, DAMAGED)}, BA
 _OTHERS = re.compile(b'[%c%c%c]' % (LOG_POSSIBLE, LOG_DAMAGED, LOG_PASSED_OVER))
 _DROPPED = re.compile(b'[%c%c]' % (LOG_MORE, LOG_BROKEN))
 _DROPPED_WORDS = 'more', 'broken'
-_POLL, _BLOCK = bytes([TYPE_POLL]), bytes([TYPE_POLL + TYPE_ANSWER])
+_POLL = bytes([TYPE_POLL])
 
 
 class Batch:
@@ -92,10 +92,6 @@ class Batch:
         """Whether one of these frames is a poll that was sent."""
         return any(octets[:1] == _POLL and len(octets) == 2 and sender == LOG_FROM_CPU
                    for octets, sender in zip(self.octets[first:last], self.senders[first:last]))
-
-    def has_block(self, first, last):
-        """Whether one of these frames is a block."""
-        return any(octets[:1] == _BLOCK for octets in self.octets[first:last])
 
     def above(self, line, event):
         """How many frames there are above an event of a line that is no frame."""

@@ -86,11 +86,10 @@ class Rules:
         self.limits = tuple(limits) or (BLOCK_ENTRIES, STANDARD_WAITING)
         self._begins_anywhere = late_answers or not whole
         self.unjudged = Counter()   # what is not judged, by its reason
-        self.begun_again = 0    # the polls below losses of sync, from which judging begins anew, and the first block below each
+        self.begun_again = 0    # the polls below losses of sync, from which judging begins anew
         self.is_above_polls = False     # whether a breach is above the first poll
-        # Whether a poll is above, and a frame; whether the place is lost, up to the next poll; whether it was lost below the last frame;
-        # whether no block is below the poll from which judging began anew.
-        self._has_polls = self._has_frames = self._is_lost = self._is_lost_below = self._is_anew = False
+        # Whether a poll is above, and a frame; whether the place is lost, up to the next poll; whether it was lost below the last frame.
+        self._has_polls = self._has_frames = self._is_lost = self._is_lost_below = False
 
     def take(self, batch):
         """Takes lines; returns what is said of a frame, a breach or that the module restarted above it, with the index of the frame."""
@@ -122,11 +121,7 @@ class Rules:
             self._is_lost_below = False
         if (self._is_lost or not self._has_polls) and batch.has_poll(first, last):
             self.begun_again += self._is_lost
-            self._is_anew |= self._is_lost
             self._is_lost, self._has_polls = False, True
-        if self._is_anew and not self._is_lost and batch.has_block(first, last):
-            self.begun_again += 1
-            self._is_anew = False
 
     def _note(self, event, is_judged):
         """Takes a line that may have held a frame, or says that frames may be missing or that another part of the log begins: the place is

@@ -2,7 +2,7 @@
 // direction no rule can judge: commands whose answers were not logged, or answers without their commands.
 
 import { LOG_REASONS, LOG_TAKEN, OUTCOMES, WHY } from './constants.js';
-import { BLOCK, POLL } from './library.js';
+import { POLL } from './library.js';
 import { REASONS } from './log_words.js';
 import { MARKS } from './messagelist.js';
 import { each } from './slices.js';
@@ -17,12 +17,12 @@ export const CAUSES = { breach: 'a breach', restart: 'a restart', heading: 'a he
 export class Judging {
   constructor(log, judge) {
     // The breaches and the restarts, by the places of their messages.
-    Object.assign(this, { log, judge, isLost: false, isBegun: false, isAnew: false, breaches: new Map(), restarts: new Set() });
+    Object.assign(this, { log, judge, isLost: false, isBegun: false, breaches: new Map(), restarts: new Set() });
     // How many messages are not judged, by the number of WHY; how often sync was lost, up to the next poll, and by which of CAUSES.
     Object.assign(this, { unjudged: new Uint32Array(Object.keys(WHY).length), losses: 0, causes: new Set() });
     // What lost sync below the last message, of CAUSES: it counts if a message is below.
     this.waiting = '';
-    // The polls below losses, from which judging begins anew, and the first block below each.
+    // The polls below losses, from which judging begins anew.
     this.begunAgain = 0;
   }
 
@@ -70,11 +70,7 @@ export class Judging {
     this.waiting = '';
     if (log.codes[place] === POLL) {
       this.begunAgain += this.isLost ? 1 : 0;
-      this.isAnew ||= this.isLost;
       this.isLost = false;
-    } else if (this.isAnew && !this.isLost && log.codes[place] === BLOCK) {
-      this.begunAgain += 1;
-      this.isAnew = false;
     }
     const outcome = this.judge.frame(...log.frame(place)), seam = log.arena.stretches.frame(log.address(place), log.lengths[place], log.times[place]);
     if (outcome) this.note(place, outcome);
