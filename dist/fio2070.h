@@ -3,7 +3,7 @@
  *
  * The field I/O transition link of the Model 2070: the header of fio2070.c.
  *
- * Sources: 4bfd467a63eb1e83f3e11035d21c5cb7a7de897f05064cc03ffff4fd2eb80026 (SHA-256; packaging/release-files --sources)
+ * Sources: 378eb2b44eae8196b7242a65df4339f4883aab14b573c8ca7bb38e7955d9593f (SHA-256; packaging/release-files --sources)
  * Kit: rattle-kit-13f logic dac8208d650f15bf
  * Proof: logic=proved functions=246 target=wasm64-unknown-unknown sum=dac8208d650f15bf native=nat,char,string
  * Made by `make release-files`: do not edit.
